@@ -4,14 +4,13 @@
 usage: build.py PROGRAM
 
 A crate is proved as soon as those that it needs are, many side by side on all processors. The one
-with the longest chain of crates above it goes first: it has as many jobs as there are processors,
-and the others run beside it by `nice`, on what it leaves idle, with two jobs if their chain is
-nearly as long, and else with one: each job loads what the crate stands on anew. A run of rt keeps
-other runs out of the folders of its crate and of those that this one needs. So each crate is proved
-in a workspace of its own, out/crates/NAME: copies of the sources, links to the libraries that are
-built, and the crate's own out/, which is moved there and back. rt knows one crates.txt in a
-repository, so no workspace is left behind, and `rt ci` and `rt all` are refused while crates are
-proved here.
+with the longest chain of crates above it goes first: it has up to as many jobs as there are
+processors, and the others run beside it by `nice`, on what it leaves idle, with two jobs if their
+chain is nearly as long, and else with one. A run of rt keeps other runs out of the folders of its
+crate and of those that this one needs. So each crate is proved in a workspace of its own,
+out/crates/NAME: copies of the sources, links to the libraries that are built, and the crate's own
+out/, which is moved there and back. rt knows one crates.txt in a repository, so no workspace is
+left behind, and `rt ci` and `rt all` are refused while crates are proved here.
 
 The program is copied to PROGRAM in one step, so that no launch finds a part of it. The status is 1
 where a crate isn't proved or something can't be written.
@@ -35,6 +34,8 @@ OUT = ROOT / "out"
 TOP = "capkit_main"
 # What a job of a check takes of memory, in bytes.
 MEMORY = 2_000_000_000
+# How many bytes of sources are worth one more job.
+SIZE = 40_000
 PROCESSORS = len(os.sched_getaffinity(0))
 
 
@@ -171,7 +172,7 @@ class Build:
             self.stop()
 
     def begin_ready(self):
-        """Begins crates that wait for no other: an urgent one with a job for each processor, and
+        """Begins crates that wait for no other: an urgent one with all jobs that serve it, and
         others with the jobs that are free."""
         is_ready = lambda crate: all(self.crates[it] in self.proved for it in crate.needs)
         longest = max((it.chain for it in self.crates.values() if it not in self.proved), default=0)
@@ -272,10 +273,12 @@ class Build:
 
 
 def jobs_of(crate, longest):
-    """Returns how many jobs the check of a crate has, given the longest chain that is left."""
+    """Returns how many jobs the check of a crate has, given the longest chain that is left. A small
+    crate has one, since each job loads what the crate stands on anew."""
+    most = 1 + crate.size // SIZE
     if crate.is_urgent:
-        return PROCESSORS
-    return 2 if 4 * crate.chain >= 3 * longest else 1
+        return min(most, PROCESSORS)
+    return min(most, 2) if 4 * crate.chain >= 3 * longest else 1
 
 
 def stand_back(process):
