@@ -54,7 +54,7 @@ class Crate:
     # The bytes of its sources, and of the longest chain from it to the program.
     size: int = 0
     chain: int = 0
-    # While it is proved: whether all wait for it, how far it is, and the process that works on it.
+    # While it is proved: whether all wait for it, what it waits for, and the process at work on it.
     is_urgent: bool = False
     state: str = ""
     process: subprocess.Popen = None
@@ -192,12 +192,13 @@ class Build:
     def work(self, crate, jobs):
         """Proves a crate and builds what comes of it; what it says and its end are events."""
         status, jobs = 1, ["--jobs", str(jobs)]
-        last = ["run", *jobs, "--", "--help"] if crate.name == TOP else ["lib", *jobs]
+        # Both prove the crate first.
+        words = ["run", *jobs, "--", "--help"] if crate.name == TOP else ["lib", *jobs]
         try:
             with self.alone_in(crate), crate.log.open("w") as log:
                 try:
                     prepare(crate, self.crates)
-                    status = self.run(crate, log, ["check", *jobs]) or self.run(crate, log, last)
+                    status = self.run(crate, log, words)
                 finally:
                     dissolve(crate.workspace)
         except OSError as error:
@@ -220,9 +221,9 @@ class Build:
             os.close(held)
 
     def run(self, crate, log, words):
-        """Runs rt in the crate, follows its output, and returns its status."""
-        how = {"stdin": subprocess.DEVNULL, "stdout": subprocess.PIPE, "stderr": subprocess.STDOUT}
-        how.update(cwd=crate.place, text=True, errors="replace", start_new_session=True)
+        """Runs rt in the crate, with its output in the log, and returns its status."""
+        how = {"stdin": subprocess.DEVNULL, "stdout": log, "stderr": subprocess.STDOUT}
+        how.update(cwd=crate.place, start_new_session=True)
         # rt keeps the lock: after a build that was killed, the next one waits until rt ends too.
         how.update(pass_fds=[self.lock.fileno()])
         with self.turn:
@@ -232,15 +233,7 @@ class Build:
             crate.process = subprocess.Popen([*nice, "rt", *words], **how)
             if nice:
                 stand_back(crate.process)
-        with crate.process:
-            for line in crate.process.stdout:
-                log.write(line)
-                log.flush()
-                counted = re.fullmatch(r"checked .*, (\d+ of \d+)\n", line)
-                if counted:
-                    crate.state = counted[1]
-                    self.events.put((crate.name, None))
-        return crate.process.returncode
+        return crate.process.wait()
 
     def end(self, crate, status):
         """Notes that the work on a crate has ended."""

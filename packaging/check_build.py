@@ -26,14 +26,12 @@ other_tests: low_a
 RT = """#!/bin/sh
 name=${PWD##*/}
 printf 'begin %s %s\\n' "$1" "$name" >>"$NOTES"
+for below in ../*/; do
+    [ "$below" = "../$name/" ] || [ -f "$below/out/rlib/stamp" ] || exit 9
+done
+sleep "${SLEEP-0.3}"
+[ "$name" != "${FAILS-}" ] || { echo 'not proved: f'; exit 1; }
 case $1 in
-check)
-    for below in ../*/; do
-        [ "$below" = "../$name/" ] || [ -f "$below/out/rlib/stamp" ] || exit 9
-    done
-    printf 'so far: 0 of 2 functions checked\\nchecked %s::f, 1 of 2\\n' "$name"
-    sleep "${SLEEP-0.3}"
-    [ "$name" != "${FAILS-}" ] || { echo 'not proved: f'; exit 1; } ;;
 lib) mkdir -p out/rlib && : >out/rlib/stamp ;;
 run) mkdir -p out && printf '#!/bin/sh\\necho "runs $*"\\n' >out/capkit_main; chmod +x out/capkit_main ;;
 esac
@@ -94,14 +92,13 @@ def try_first(checkout):
     status, out, messages = checkout.call()
     yield "the program runs", (status, out) == (0, "runs infos\n")
     noted = checkout.noted()
-    checks = [it for it in noted if " check " in it]
-    yield "each crate that it needs is proved once", len(checks) == 8
+    yield "each crate that it needs is proved once", len(noted) == 8
     yield "no crate begins before those that it needs", (
-        checks.index("end check low_a") < checks.index("begin check middle")
-        and checks[-2:] == ["begin check capkit_main", "end check capkit_main"]
+        noted.index("end lib low_a") < noted.index("begin lib middle")
+        and noted[-2:] == ["begin run capkit_main", "end run capkit_main"]
     )
     is_single = len(os.sched_getaffinity(0)) == 1
-    yield "crates are proved side by side", is_single or checks[1].startswith("begin")
+    yield "crates are proved side by side", is_single or noted[1].startswith("begin")
     yield "it says how far it is", "proved capkit_main in 0 s, 4 of 4 crates" in messages
     yield "nothing is left of the build", checkout.logs() == [] and checkout.has_one_list()
     yield "but what is kept for the next one", (checkout.at / "crates/low_a/out/rlib").is_dir()
@@ -144,7 +141,7 @@ def try_interrupted(checkout):
     yield "a crate that isn't proved ends the build", (status, out) == (1, "")
     yield "and is named", "middle wasn't built" in messages
     yield "with the end of its output", "not proved: f\n" in messages
-    yield "and what is above it isn't tried", "begin check capkit_main" not in checkout.noted()
+    yield "and what is above it isn't tried", "begin run capkit_main" not in checkout.noted()
     yield "logs of earlier builds are gone", "build-12345.log" not in checkout.logs()
     yield "what a killed one kept is the crate's again", (kept / "kept").exists()
     status, out, _ = checkout.call()
