@@ -5,10 +5,10 @@ use Rattle.flt_words.proofs.OneAnswer.{same_answer}
 use Rattle.flt_bpf.specs.declared.insn.Insn.{Insn}
 use Rattle.flt_tree.specs.Counts.{bound_of}
 use Rattle.flt_tree.specs.Filled.{fill_expression}
-use Rattle.flt_tree.specs.Grammar.{IsReadAs, kinds_of}
+use Rattle.flt_reader.specs.Grammar.{IsReadAs, kinds_of}
 use Rattle.flt_tree.specs.Tree.{Expression}
 use Rattle.flt_lang.proofs.Complete.{complete}
-use Rattle.flt_lang.proofs.NodesBack.{same_nodes}
+use Rattle.flt_tree.proofs.NodesBack.{same_nodes}
 use Rattle.cap_filter.specs.Expressions.{IsExpression, HasTree}
 use Rattle.cap_library.specs.Bounding.{IsBound}
 use Rattle.cap_library.specs.Compiling.{IsFor}

@@ -6,8 +6,8 @@ use Rattle.std.proofs.lemmas.List.{reverse-reverse, reverse-append}
 use Rattle.flt_tree.specs.declared.node.Node.{Node}
 use Rattle.flt_tree.specs.Tree.{Expression}
 use Rattle.flt_tree.specs.Nodes.{expr_nodes}
-use Rattle.flt_tree.specs.Machine.{expr_onto}
-use Rattle.flt_lang.proofs.NodesBack.{expr_turned}
+use Rattle.flt_tree.specs.Nodes.{expr_onto}
+use Rattle.flt_tree.proofs.NodesBack.{expr_turned}
 use Rattle.cap_octet.specs.declared.link.Link.{Link}
 use Rattle.flt_gen.specs.ProgramCode.{expression_code, program_code}
 use Rattle.flt_gen.specs.Walk.{Walk, emit_node, emit_both_nodes, emit_nodes, start_walk, insns_of}

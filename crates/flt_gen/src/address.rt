@@ -15,7 +15,7 @@ use flt_code::{
     Code, Context, Elementary, FieldTest, FrameKind, Offset, Sides, emit_any_sides,
     emit_elementary, emit_sides, kind_test, network,
 };
-use flt_lang::Direction;
+use flt_tree::Direction;
 use flt_words::{Comparison, Protocol};
 use std::alloc::{AllocError, Allocator};
 

@@ -17,7 +17,7 @@ use flt_code::{
     Code, Context, Elementary, FieldTest, FrameKind, Offset, compares_at, emit_all,
     emit_elementary, emit_sides, has_ip_proto, has_ip6_proto, is_at, kind_test, network,
 };
-use flt_lang::Direction;
+use flt_tree::Direction;
 use flt_words::{Cast, Comparison, Protocol, Side};
 use std::alloc::{AllocError, Allocator};
 

@@ -10,7 +10,7 @@ use crate::walk::Walk;
 use cap_octet::Link;
 use flt_bpf::insn::Insn;
 use flt_bpf::program::{Program, check};
-use flt_lang::{Checked, Node};
+use flt_tree::{Checked, Node};
 use flt_short::{pass_loads, shortened};
 use std::alloc::{AllocError, Allocator};
 

@@ -13,7 +13,7 @@ use crate::primitive::{emit_ether_host, emit_proto};
 use crate::wanted::{Hosts, NetTest, PortTest, Ports};
 use flt_bpf::operation::{Operand, Operation, Register, Source};
 use flt_code::{Code, Context, emit_comparison};
-use flt_lang::{Direction, FullQuals, Value};
+use flt_tree::{Direction, FullQuals, Value};
 use flt_words::{Comparison, Protocol, Size, ValueType};
 use std::alloc::{AllocError, Allocator};
 

@@ -22,7 +22,7 @@ use cap_octet::Link;
 use flt_bpf::insn::Insn;
 use flt_bpf::operation::{Operand, Operation, Register, Source};
 use flt_code::{Code, Context, Targets, emit_comparison};
-use flt_lang::{FullQuals, Node, Value};
+use flt_tree::{FullQuals, Node, Value};
 use flt_words::{Comparison, Join, Operator, Protocol};
 use std::alloc::{AllocError, Allocator};
 use std::marker::Model;

@@ -4,7 +4,7 @@ ghost use Rattle.std.specs.Prelude.{◌≡◌};
 ghost use Rattle.flt_gen.specs.Primitives.{net_test, port_test};
 
 use flt_code::{Elementary, Offset};
-use flt_lang::Direction;
+use flt_tree::Direction;
 use flt_words::Protocol;
 
 /// The ports that are looked for.

@@ -1,4 +1,3 @@
-pub mod NodesBack
 pub mod Bare
 pub mod Complete
 pub mod Stacked

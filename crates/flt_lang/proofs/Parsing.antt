@@ -4,11 +4,11 @@ use Rattle.flt_words.specs.declared.token.TokenKind.{TokenKind}
 use Rattle.flt_tree.specs.declared.node.Node.{Node}
 use Rattle.flt_tree.specs.Tree.{Expression}
 use Rattle.flt_tree.specs.Nodes.{expr_nodes, tree_of, tree_back, IsTree}
-use Rattle.flt_tree.specs.Grammar.{IsReadAs}
-use Rattle.flt_tree.specs.Machine.{all_run}
+use Rattle.flt_reader.specs.Grammar.{IsReadAs}
+use Rattle.flt_reader.specs.Machine.{all_run}
 use Rattle.flt_lang.proofs.Complete.{complete}
 use Rattle.flt_lang.proofs.Sound.{sound}
-use Rattle.flt_lang.proofs.NodesBack.{expr_turned}
+use Rattle.flt_tree.proofs.NodesBack.{expr_turned}
 
 -- where the machine fails there is no tree
 pub no_tree : (tokens : List TokenKind) → all_run tokens ≡ None → (tree : Expression) → IsReadAs tokens tree → ⊥

@@ -3,8 +3,8 @@
 ghost use Rattle.std.specs.Prelude.{◌≡◌};
 ghost use Rattle.flt_tree.specs.Counts.{tests_of, nodes_of, words_of, bound_of};
 
-use crate::checked::Checked;
 use crate::sums;
+use flt_tree::Checked;
 use std::alloc::Allocator;
 
 /// How many elementary tests the formulas of its primitives have.

@@ -1,12 +1,9 @@
 pub mod Tree
-pub mod Values
-pub mod Grammar
 pub mod Nodes
-pub mod Machine
-pub mod Nesting
 pub mod Nets
 pub mod Fits
 pub mod Filled
 pub mod Resolved
 pub mod Counts
 pub mod Heights
+pub mod Checks

@@ -31,6 +31,30 @@ abbrev pub expr_nodes : Expression → List Node
 expr_nodes empty = []
 expr_nodes (truth a) = truth_nodes a []
 
+-- the nodes of a tree, latest first, before those that were written earlier
+abbrev pub number_onto : NumberTree → List Node → List Node
+number_onto (literal n) d = node.Literal n ∷ d
+number_onto len d = node.Len ∷ d
+number_onto (named n) d = node.Named n ∷ d
+number_onto (load p s a) d = node.Load p s ∷ number_onto a d
+number_onto (negated a) d = node.Negate ∷ number_onto a d
+number_onto (applied o a b) d = node.Apply o ∷ number_onto b (number_onto a d)
+
+abbrev pub truth_onto : TruthTree → List Node → List Node
+truth_onto (check p) d = node.Check p ∷ d
+truth_onto (cast p c) d = node.Cast p c ∷ d
+truth_onto (sized s n) d = node.Sized s n ∷ d
+truth_onto (bare v) d = node.Bare v ∷ d
+truth_onto (valued q v) d = node.Valued q v ∷ d
+truth_onto (qualified q v) d = node.Qualified q v ∷ d
+truth_onto (compared c a b) d = node.Compare c ∷ number_onto b (number_onto a d)
+truth_onto (denied a) d = node.Not ∷ truth_onto a d
+truth_onto (joined j a b) d = node.Join j ∷ truth_onto b (truth_onto a d)
+
+abbrev pub expr_onto : Expression → List Node
+expr_onto empty = []
+expr_onto (truth a) = truth_onto a []
+
 -- the trees that no later node has taken yet, latest first
 pub record Trees : Type 0 where
   pub truths : List TruthTree

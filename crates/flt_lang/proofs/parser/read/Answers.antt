@@ -1,6 +1,6 @@
 -- The machine's nodes are those of the tree.
 use Rattle.std.proofs.Common.{sym, subst}
-use Rattle.flt_tree.specs.Grammar.{IsReadAs, kinds_of}
+use Rattle.flt_reader.specs.Grammar.{IsReadAs, kinds_of}
 use Rattle.flt_lang.proofs.Parsing.{found_is_tree, found_reads}
 use Rattle.flt_lang.proofs.parser.read.Goals as goal
 

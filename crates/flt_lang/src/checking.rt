@@ -1,0 +1,33 @@
+//! Which expressions code can be made of.
+
+ghost use Rattle.std.specs.Prelude.{◌≡◌, IfOk, IfErr, Some, None};
+ghost use Rattle.flt_tree.specs.Resolved.{IsResolved};
+ghost use Rattle.flt_tree.specs.Checks.{check_fault};
+
+use crate::sums;
+use flt_tree::{Checked, Expr};
+use flt_words::ExprFault;
+use std::alloc::Allocator;
+
+/// Checks a tree as `resolve` returns it. It takes no memory.
+///
+/// `DivisionByZero` is reported where some divisor is the number 0 as it is written, else
+/// `TooManyWords` where the arithmetic needs more than 16 words, else `ProgramTooLong` where its
+/// bound is over 32,768 instructions.
+pub fn check<A: Allocator>(expr: Expr<A>) -> Result<Checked<A>, ExprFault>
+    requires { IsResolved expr }
+    ensures ok { IfOk result (λ checked. checked.expr ≡ expr) }
+    ensures fits { IfOk result (λ _. check_fault expr ≡ None) }
+    ensures err { IfErr result (λ fault. check_fault expr ≡ Some fault) }
+{
+    if sums::divides_by_zero(&expr) {
+        return Err(ExprFault::DivisionByZero);
+    }
+    if sums::words_in(&expr) > 16 {
+        return Err(ExprFault::TooManyWords);
+    }
+    if 2 + 6 * (sums::tests_in(&expr) + sums::nodes_in(&expr)) > 32768 {
+        return Err(ExprFault::ProgramTooLong);
+    }
+    Ok(Checked { expr })
+}

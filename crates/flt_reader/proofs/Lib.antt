@@ -1,0 +1,6 @@
+pub mod Fronts
+pub mod Reducing
+pub mod ValuesBack
+pub mod Valued
+pub mod Prefixes
+pub mod Stepping
