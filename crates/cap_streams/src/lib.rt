@@ -10,6 +10,7 @@ pub mod opening;
 pub mod overwrites;
 pub mod progress;
 pub mod refusal;
+pub mod runner;
 pub mod stop;
 pub mod streams;
 pub mod words;

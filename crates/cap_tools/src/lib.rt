@@ -2,8 +2,10 @@
 #![tactic(auto)]
 
 mod job;
+mod jobs;
 mod messages;
 mod start;
 mod step;
 
 pub use job::{Job, Turn, run};
+pub use jobs::Jobs;

@@ -6,11 +6,12 @@ ghost use Rattle.std.specs.Result.{ForOk};
 ghost use Rattle.capkit.specs.Line.{is_ready};
 ghost use Rattle.cap_streams.specs.Status.{status_of};
 
-use cap_host::runner::run;
 use cap_streams::USAGE;
 use cap_streams::message::tell;
 use cap_streams::refusal::refuse;
+use cap_streams::runner::run;
 use cap_streams::words::line_of;
+use cap_tools::Jobs;
 use capkit::{Line, Usage};
 use std::alloc::AllocError;
 use std::env;
@@ -43,7 +44,7 @@ fn status(rt: &HostRuntime) -> u8
         |line: Line| -> u8
             requires { is_ready line ≡ true }
             ensures { result ≤ 2 }
-        { run(rt, line) },
+        { run::<Jobs>(rt, line) },
     )
 }
 

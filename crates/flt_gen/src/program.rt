@@ -27,18 +27,7 @@ fn program_insns<A: Allocator + Clone>(
         (λ insns. insns.items ≡ insns_of (emit_nodes link start_walk (reverse nodes.now))) }
 {
     let mut walk = Walk::new(alloc)?;
-    let mut left = nodes.len();
-    // The label names the loop in its proof.
-    'nodes: while left > 0 {
-        left -= 1;
-        if left == 0 {
-            walk.emit_node(link, &nodes[left])?;
-        } else if walk.emit_both_nodes(link, &nodes[left], &nodes[left - 1])? {
-            left -= 1;
-        } else {
-            walk.emit_node(link, &nodes[left])?;
-        }
-    }
+    walk.emit_nodes(link, nodes)?;
     Ok(walk.into_insns())
 }
 

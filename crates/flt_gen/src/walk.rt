@@ -2,7 +2,7 @@
 //! code. What comes later waits in lists, so that a long chain of operands needs no more of the
 //! processor's stack than a short one.
 
-ghost use Rattle.std.specs.Prelude.{◌≡◌, ◌+◌, ◌^◌, ◌<◌, ◌≤◌, true, length, OnOk, IfOk};
+ghost use Rattle.std.specs.Prelude.{◌≡◌, ◌+◌, ◌^◌, ◌<◌, ◌≤◌, true, length, OnOk, IfOk, reverse};
 ghost use Rattle.std.specs.Prelude.{if◌then◌else◌};
 ghost use Rattle.flt_gen.specs.Group.{larger_group};
 ghost use Rattle.flt_code.specs.Code.{block};
@@ -11,7 +11,7 @@ ghost use Rattle.flt_gen.specs.Walk.{start_walk, finish_truth, finish_relation, 
 ghost use Rattle.flt_gen.specs.Walk.{is_number_node, is_truth_node, begin_operands, flush_group};
 ghost use Rattle.flt_gen.specs.Walk.{finish_group, emit_value, emit_join, emit_truth_node};
 ghost use Rattle.flt_gen.specs.Walk.{emit_node, insns_of, emit_applied, emit_compared};
-ghost use Rattle.flt_gen.specs.Walk.{emit_both_nodes};
+ghost use Rattle.flt_gen.specs.Walk.{emit_both_nodes, emit_nodes};
 
 use crate::group::Group;
 use crate::number::{computation, emit_accessor, emit_accessors, emit_operands, takes, width_of};
@@ -335,6 +335,27 @@ impl<A: Allocator> Walk<A> {
                 self.emit_truth_node(link, node)
             }
         }
+    }
+
+    /// All nodes of a tree, from the last to the first.
+    pub fn emit_nodes(&mut self, link: Link, nodes: &[Node]) -> Result<(), AllocError>
+        requires start { self.old ≡ start_walk }
+        requires room { length (emit_nodes link start_walk (reverse nodes.now)).code ≤ 32768 }
+        ensures { OnOk result (self.new ≡ emit_nodes link start_walk (reverse nodes.now)) }
+    {
+        let mut left = nodes.len();
+        // The label names the loop in its proof.
+        'nodes: while left > 0 {
+            left -= 1;
+            if left == 0 {
+                self.emit_node(link, &nodes[left])?;
+            } else if self.emit_both_nodes(link, &nodes[left], &nodes[left - 1])? {
+                left -= 1;
+            } else {
+                self.emit_node(link, &nodes[left])?;
+            }
+        }
+        Ok(())
     }
 
     /// The instructions from where the program begins, once no node is left.

@@ -2,9 +2,10 @@
 
 use super::folder::{CAPTURE, LISTING, enter, leave, line_of, words_of};
 use super::streams::Streams;
-use cap_host::runner::run_command;
 use cap_streams::held::{Held, Outlet};
 use cap_streams::progress::{Progress, can_write_over, start_of, total_size};
+use cap_streams::runner::run_command;
+use cap_tools::Jobs;
 use capkit::Line;
 use std::alloc::{AllocError, Global};
 use std::io::{IsTerminal, Write};
@@ -112,7 +113,7 @@ fn counts_and_holds_back(rt: &HostRuntime) -> bool {
     let streams = Streams::new(rt.alloc(), None);
     progress.count_at(&streams, 0, 2);
     let is_begun = streams.have("", "\r\x1b[K0% read, 0 MiB/s");
-    let is_fault = run_command(rt, command, inputs, "/dev/full", &progress, &held) == 1;
+    let is_fault = run_command::<Jobs>(rt, command, inputs, "/dev/full", &progress, &held) == 1;
     let streams = Streams::new(rt.alloc(), None);
     progress.erase(&streams);
     let is_erased = streams.have("", "");

@@ -1,11 +1,12 @@
 //! Runs over files: what is opened, read, created and left alone.
 
 use super::folder::{CAPTURE, enter, leave, line_of, words_of};
-use cap_host::runner::run;
 use cap_streams::held::Held;
 use cap_streams::opening::{create, open, read_listing};
 use cap_streams::progress::Progress;
+use cap_streams::runner::run;
 use cap_streams::stop::Stop;
+use cap_tools::Jobs;
 use std::alloc::{AllocError, Global};
 use std::{fs, io};
 
@@ -71,7 +72,7 @@ fn is_run(rt: &HostRuntime, row: Run) -> bool {
     let is_prepared = prepare(rt, is_there).is_ok();
     match line_of(rt.alloc(), words) {
         Some(line) => {
-            let ended = run(rt, line);
+            let ended = run::<Jobs>(rt, line);
             is_prepared && ended == status && matches!(has_output(rt, written), Ok(true))
         }
         None => false,

@@ -3,13 +3,13 @@ use Rattle.std.proofs.Common.{◌≡◌, ◌≤◌, length, take}
 use Rattle.std.specs.Prelude.{reverse}
 use Rattle.flt_gen.specs.Walk.{emit_nodes, start_walk}
 use Rattle.flt_gen.proofs.Room.{IsLow}
-use Rattle.flt_gen.proofs.program.program_insns.Given as goal
+use Rattle.flt_gen.proofs.walk.Walk.emit_nodes.Given as goal
 
 abbrev pub invariant-nodes : goal.invariant-nodes
 invariant-nodes g l = record {
   within : l.left ≤ length l.nodes;
-  same : emit_nodes l.link l.walk (reverse (take l.left l.nodes)) ≡ emit_nodes l.link start_walk (reverse l.nodes);
-  low : IsLow l.walk;
+  same : emit_nodes l.link l.self (reverse (take l.left l.nodes)) ≡ emit_nodes l.link start_walk (reverse l.nodes);
+  low : IsLow l.self;
 }
 
 abbrev pub decreases-nodes : goal.decreases-nodes

@@ -1,4 +1,0 @@
-//! A command over files and standard streams.
-#![tactic(auto)]
-
-pub mod runner;

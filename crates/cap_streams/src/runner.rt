@@ -1,0 +1,140 @@
+//! A command over files and standard streams.
+ghost use Rattle.std.specs.Prelude.{◌≡◌, ◌+◌, ◌≤◌, IfOk, codes, length, option_map, string_bytes};
+ghost use Rattle.std.specs.Prelude.{true, unwrap_or, vec_len};
+ghost use Rattle.cap_command.specs.Command.{is_proper};
+ghost use Rattle.capkit.specs.Line.{is_ready};
+
+use crate::ending::finish;
+use crate::held::{Held, Outlet, is_waited_for};
+use crate::opening::{Source, buffered, create, open, target, with_listing};
+use crate::progress::Progress;
+use crate::stop::{Stop, stopped};
+use cap_command::{Command, Engine};
+use cap_octet::StdOutput;
+use capkit::{Line, STANDARD};
+use std::alloc::AllocError;
+use std::io::{BufWriter, Stderr};
+
+/// What a command is run over: its inputs, its output, and the messages' device.
+struct Devices<'p> {
+    inputs: Vec<Source<'p>>,
+    output: StdOutput<Outlet<'p>>,
+    messages: StdOutput<Stderr>,
+}
+
+/// Opens the inputs in order, and creates the output.
+fn open_devices<'a, 'p>(
+    rt: &HostRuntime,
+    names: &'a [String],
+    output: &'a str,
+    progress: &'p Progress<'p>,
+    held: &'p Held,
+) -> Result<Devices<'p>, Stop<'a>>
+    ensures { IfOk result (λ devices. vec_len devices.inputs ≡ length names.entry.now) }
+{
+    let inputs = open(rt, names, progress, held)?;
+    let created = create(rt, output)?;
+    let is_waited_for = is_waited_for(rt, names, output);
+    let target = target(rt, created, is_waited_for, held)?;
+    let messages = buffered(BufWriter::new(rt.alloc(), rt.stderr()))?;
+    Ok(Devices {
+        inputs,
+        output: StdOutput::new(target),
+        messages: StdOutput::new(messages),
+    })
+}
+
+/// Runs the command over its devices, and returns its status. What the command told of the output
+/// is not told again.
+fn run_over<J: Engine>(
+    rt: &HostRuntime,
+    command: Command,
+    names: Vec<String>,
+    devices: Devices<'_>,
+    output: &str,
+    progress: &Progress<'_>,
+) -> u8
+    requires { is_proper command (vec_len devices.inputs) ≡ true }
+    ensures { result ≤ 2 }
+{
+    let Devices {
+        inputs,
+        output: out,
+        messages,
+    } = devices;
+    let (status, target, messages) = J::run(rt.alloc(), command, names, inputs, out, messages);
+    progress.erase(rt);
+    match finish(status, target, messages, output) {
+        Ok(status) => status,
+        Err(stop) => stopped(rt, stop),
+    }
+}
+
+/// The names of the inputs, then that of the output.
+fn with_output(
+    rt: &HostRuntime,
+    mut names: Vec<String>,
+    output: &str,
+) -> Result<Vec<String>, AllocError>
+    ensures { IfOk result (λ all. vec_len all ≡ vec_len names + 1) }
+{
+    names.push(String::from_str(rt.alloc(), output)?)?;
+    Ok(names)
+}
+
+/// Opens the inputs in order, creates the output, runs the command, and returns its status.
+pub fn run_command<J: Engine>(
+    rt: &HostRuntime,
+    command: Command,
+    names: Vec<String>,
+    output: &str,
+    progress: &Progress<'_>,
+    held: &Held,
+) -> u8
+    requires { is_proper command (vec_len names) ≡ true }
+    ensures { result ≤ 2 }
+{
+    let Ok(names) = with_output(rt, names, output) else {
+        return stopped(rt, Stop::NoMemory);
+    };
+    let inputs = &names[..names.len() - 1];
+    match open_devices(rt, inputs, output, progress, held) {
+        Ok(devices) => run_over::<J>(rt, command, names, devices, output, progress),
+        Err(stop) => stopped(rt, stop),
+    }
+}
+
+/// The name of the output. Without one the output is standard output.
+fn output_name(output: &Option<String>) -> &str
+    ensures { result.now ≡ unwrap_or (option_map string_bytes output.now) (codes "-") }
+{
+    match output {
+        Some(name) => name,
+        None => STANDARD,
+    }
+}
+
+/// Runs the command of the line over the files and streams that its names mean, and returns
+/// its status.
+///
+/// The listing is read, then the inputs are opened in order, then the output is created, then the
+/// command runs.
+pub fn run<J: Engine>(rt: &HostRuntime, line: Line) -> u8
+    requires { is_ready line ≡ true }
+    ensures { result ≤ 2 }
+{
+    let Line {
+        command,
+        inputs: names,
+        output,
+        code,
+    } = line;
+    let output = output_name(&output);
+    let listing = code.as_ref().map(|name| name.as_str());
+    let command = match with_listing(rt, command, listing) {
+        Ok(command) => command,
+        Err(stop) => return stopped(rt, stop),
+    };
+    let progress = Progress::new(rt, names.as_slice(), output);
+    run_command::<J>(rt, command, names, output, &progress, &Held::new())
+}
