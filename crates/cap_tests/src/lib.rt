@@ -6,6 +6,8 @@ mod devices;
 #[cfg(test)]
 mod heaps;
 #[cfg(test)]
+mod host;
+#[cfg(test)]
 mod printing;
 #[cfg(test)]
 mod streams;

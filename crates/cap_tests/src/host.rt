@@ -1,0 +1,9 @@
+//! What no clause speaks of: files, standard streams and messages.
+
+mod folder;
+mod identities;
+mod outputs;
+mod progress;
+mod runs;
+mod streams;
+mod told;
