@@ -15,6 +15,8 @@ use Rattle.flt_bpf.specs.declared.operation.Operand.TheVariants.{Constant, Index
 use Rattle.flt_tree.specs.declared.node.Node.{Node}
 use Rattle.flt_tree.specs.declared.node.Node.TheVariants as node
 use Rattle.cap_octet.specs.declared.link.Link.{Link}
+use Rattle.flt_gen.specs.declared.waiting.Pending.{Pending}
+use Rattle.flt_gen.specs.declared.waiting.Pending.TheVariants as next
 use Rattle.flt_gen.specs.declared.waiting.Waiting.{Waiting}
 use Rattle.flt_gen.specs.declared.waiting.Waiting.TheVariants.{Index, Left}
 use Rattle.flt_code.specs.Numbers.{width_of}
@@ -23,7 +25,7 @@ use Rattle.flt_code.specs.Follow.{nothing}
 use Rattle.flt_words.specs.declared.token.Operator.{Operator}
 use Rattle.flt_words.specs.declared.token.Comparison.{Comparison}
 use Rattle.flt_code.specs.Code.{plain, computation, takes, emit_comparison}
-use Rattle.flt_gen.specs.Walk.{Walk, finish_relation, finish_number, with_insns, begin_operands, finish_formula, flush_members, flush_group, finish_group, emit_value, emit_join, emit_truth_node, is_truth_node, emit_node, emit_applied, emit_compared, emit_both_nodes, or_walk, emit_nodes}
+use Rattle.flt_gen.specs.Walk.{Walk, finish_relation, finish_number, with_insns, begin_operands, finish_formula, begin_right, flush_members, flush_group, finish_group, emit_value, emit_join, emit_truth_node, is_truth_node, emit_node, emit_applied, emit_compared, emit_both_nodes, or_walk, emit_nodes}
 use Rattle.flt_gen.proofs.Tails.{extends_none, comparison_extends, accessor_extends, emitted_extends, accessors_extend}
 use Rattle.flt_bpf.specs.declared.operation.Operation.TheVariants.{Load, Store}
 use Rattle.flt_bpf.specs.declared.operation.Register.TheVariants.{Accumulator}
@@ -106,6 +108,16 @@ settled_grown link w [] h = grown_on w (flush_members link w []) h (omega arith)
 settled_grown link w (b ∷ bs) h =
     grown_on w (flush_members link w (b ∷ bs)) h (emitted_extends link nothing (group_formula link w.group) w.to.yes w.to.no w.code).longer refl refl (omega arith)
 
+begun_grown : (w : Walk) (k : Pending) → IsLow w → Grown w (begin_right k w)
+begun_grown w next.Nothing h = grown_on w w h (omega arith) refl refl h.upper_bound
+begun_grown w next.Or h = grown_on w (begin_right next.Or w) h (omega arith) refl refl h.upper_bound
+
+flushed_grown : (link : Link) (w : Walk) → IsLow w → Grown w (flush_group link w)
+flushed_grown link w h =
+    let v = begin_right w.pending w in
+    let g = begun_grown w w.pending h in
+    grown_after w v (flush_group link w) g (settled_grown link v w.group.numbers g.low)
+
 -- with one more they are no more than the most
 pub more_few : (q : FullQuals) (v : Value) (group more : Group) → larger_group q v group ≡ Some more → length more.numbers ≤ MOST_TOGETHER
 more_few q v group more e = by_address (member_number q.value_type v) e
@@ -135,13 +147,13 @@ more_few q v group more e = by_address (member_number q.value_type v) e
 
 value_grown : (link : Link) (q : FullQuals) (v : Value) (w : Walk) → IsLow w → (o : Option Group) → larger_group q v w.group ≡ o → Grown w (emit_value link q v w o)
 value_grown link q v w h None e =
-    let g = settled_grown link w w.group.numbers h in
+    let g = flushed_grown link w h in
     grown_after w (flush_group link w) (emit_value link q v w None) g (formula_grown link (qualified_formula link q v) (flush_group link w) g.low)
-value_grown link q v w h (Some more) e = by_chain w.chained
+value_grown link q v w h (Some more) e = by_pending w.pending
   where
-    by_chain : (k : Bool) → Grown w (finish_group link w more k)
-    by_chain true = grown_on w (finish_group link w more true) h (omega arith) refl refl (more_few q v w.group more e)
-    by_chain false = grown_on w (finish_group link w more false) h (emitted_extends link nothing (group_formula link more) w.to.yes w.to.no w.code).longer refl refl (omega arith)
+    by_pending : (k : Pending) → Grown w (finish_group link w more k)
+    by_pending next.Or = grown_on w (finish_group link w more next.Or) h (omega arith) refl refl (more_few q v w.group more e)
+    by_pending next.Nothing = grown_on w (finish_group link w more next.Nothing) h (emitted_extends link nothing (group_formula link more) w.to.yes w.to.no w.code).longer refl refl (omega arith)
 
 truth_grown : (link : Link) (w : Walk) (n : Node) → is_truth_node n ≡ true → IsLow w → Grown w (emit_truth_node link w n)
 truth_grown link w (node.Check p) t h = formula_grown link (check_formula link p) w h
@@ -163,13 +175,17 @@ truth_grown link w (node.Apply o) t h = cc
 -- the group that waits comes first
 settled_truth_grown : (link : Link) (w : Walk) (n : Node) → is_truth_node n ≡ true → IsLow w → Grown w (emit_truth_node link (flush_group link w) n)
 settled_truth_grown link w n t h =
-    let g = settled_grown link w w.group.numbers h in
+    let g = flushed_grown link w h in
     grown_after w (flush_group link w) (emit_truth_node link (flush_group link w) n) g (truth_grown link (flush_group link w) n t g.low)
 
 join_grown : (link : Link) (j : Join) (w : Walk) → IsLow w → Grown w (emit_join link j w)
-join_grown link Or w h = grown_on w (emit_join link Or w) h (omega arith) refl refl h.upper_bound
+join_grown link Or w h =
+    let v = begin_right w.pending w in
+    let g = begun_grown w w.pending h in
+    let l = g.low in
+    grown_after w v (emit_join link Or w) g (grown_on v (emit_join link Or w) l (omega arith) refl refl l.upper_bound)
 join_grown link And w h =
-    let g = settled_grown link w w.group.numbers h in
+    let g = flushed_grown link w h in
     let l = g.low in
     grown_after w (flush_group link w) (emit_join link And w) g (grown_on (flush_group link w) (emit_join link And w) l (omega arith) refl refl l.upper_bound)
 
@@ -219,7 +235,7 @@ applied_grown o k w v h e = by_taken (takes o k) e
 compared_grown : (link : Link) (c : Comparison) (k : ℕ) (w v : Walk) → IsLow w → emit_compared c k (flush_group link w) ≡ Some v → Grown w v
 compared_grown link c k w v h e =
     let u = flush_group link w in
-    let g = settled_grown link w w.group.numbers h in
+    let g = flushed_grown link w h in
     let d = emit_comparison c Constant k u.to.yes u.to.no u.code in
     subst (λ x. Grown w x) (is_some (with_insns d u) v e) (grown_after w u (with_insns d u) g (only_code u d (comparison_extends c Constant k u.to.yes u.to.no u.code).longer g.low))
 

@@ -1,6 +1,6 @@
 -- The walk over the nodes of a tree, the last first, puts the code of the tree's formula in front.
 use Rattle.std.specs.Prelude.{◌+◌, if◌then◌else◌}
-use Rattle.std.proofs.Common.{◌≡◌, ℕ, List, [], ◌∷◌, Bool, true, false, Option, Some, None, refl, sym, ap, ◌∙◌, ◌⊎◌, inl, inr}
+use Rattle.std.proofs.Common.{◌≡◌, ℕ, List, [], ◌∷◌, Bool, true, false, Option, Some, None, refl, sym, ap, ◌∙◌}
 use Rattle.flt_bpf.specs.declared.insn.Insn.{Insn}
 use Rattle.flt_words.specs.declared.token.Join.TheVariants.{And, Or}
 use Rattle.flt_words.specs.declared.token.Comparison.{Comparison}
@@ -18,6 +18,7 @@ use Rattle.flt_tree.specs.Nodes.{number_onto, truth_onto, expr_onto}
 use Rattle.cap_octet.specs.declared.link.Link.{Link}
 use Rattle.flt_code.specs.declared.code.Targets.{Targets}
 use Rattle.flt_gen.specs.declared.waiting.LeftTruth.{LeftTruth}
+use Rattle.flt_gen.specs.declared.waiting.Pending.TheVariants as next
 use Rattle.flt_code.specs.Numbers.{accessors}
 use Rattle.flt_code.specs.Formula.{Formula, Single, Both, Either, Except, Compare as compare}
 use Rattle.flt_gen.specs.Reading.{formula}
@@ -49,26 +50,27 @@ number_walked link (applied o a (load p s i)) w d = number_walked link (load p s
 number_walked link (applied o a (negated i)) w d = number_walked link (negated i) _ (number_onto a d) ∙ number_walked link a _ d
 number_walked link (applied o a (applied q x y)) w d = number_walked link (applied q x y) _ (number_onto a d) ∙ number_walked link a _ d
 
--- a walk between two truths, with hosts that wait
-abbrev pub waiting : List Insn → Targets → List LeftTruth → Group → Bool → Walk
-waiting c to ts group k = record { code = c; to = to; slot = 0; truths = ts; numbers = []; accessors = []; group = group; chained = k }
+-- a walk between two truths, with hosts that wait; and one behind an or
+abbrev pub waiting : List Insn → Targets → List LeftTruth → Group → Walk
+waiting c to ts group = record { code = c; to = to; slot = 0; truths = ts; numbers = []; accessors = []; group = group; pending = next.Nothing }
+
+abbrev behind_or : List Insn → Targets → List LeftTruth → Group → Walk
+behind_or c to ts group = record (waiting c to ts group) { pending = next.Or }
 
 abbrev pub between : List Insn → Targets → List LeftTruth → Walk
-between c to ts = waiting c to ts no_group false
+between c to ts = waiting c to ts no_group
 
 -- where a truth and the hosts behind it go on
 abbrev emit_of : Link → Formula → List Insn → Targets → List LeftTruth → Walk
 emit_of link f c to ts = finish_truth (emit_formula link nothing f to.yes to.no c) (between c to ts)
 
-leaf_put : (link : Link) (f : Formula) (c : List Insn) (to : Targets) (ts : List LeftTruth) (group : Group) (k : Bool) (bs : List ℕ) → finish_formula link f (flush_members link (waiting c to ts group k) bs) ≡ emit_of link (or_any f (group_formula link group) bs) c to ts
-leaf_put link f c to ts group k [] = refl
-leaf_put link f c to ts group k (b ∷ bs) = refl
+leaf_put : (link : Link) (f : Formula) (c : List Insn) (to : Targets) (ts : List LeftTruth) (group : Group) (bs : List ℕ) → finish_formula link f (flush_members link (waiting c to ts group) bs) ≡ emit_of link (or_any f (group_formula link group) bs) c to ts
+leaf_put link f c to ts group [] = refl
+leaf_put link f c to ts group (b ∷ bs) = refl
 
-value_walked : (link : Link) (q : FullQuals) (v : Value) (c : List Insn) (to : Targets) (ts : List LeftTruth) (group : Group) (k : Bool) (o : Option Group) → (k ≡ false) ⊎ (o ≡ None) → emit_value link q v (waiting c to ts group k) o ≡ emit_of link (choice o (λ more. group_formula link more) (or_group link (qualified_formula link q v) group)) c to ts
-value_walked link q v c to ts group k None h = leaf_put link (qualified_formula link q v) c to ts group k group.numbers
-value_walked link q v c to ts group false (Some more) h = refl
-value_walked link q v c to ts group true (Some more) (inl e) = cc
-value_walked link q v c to ts group true (Some more) (inr e) = cc
+value_walked : (link : Link) (q : FullQuals) (v : Value) (c : List Insn) (to : Targets) (ts : List LeftTruth) (group : Group) (o : Option Group) → emit_value link q v (waiting c to ts group) o ≡ emit_of link (choice o (λ more. group_formula link more) (or_group link (qualified_formula link q v) group)) c to ts
+value_walked link q v c to ts group None = leaf_put link (qualified_formula link q v) c to ts group group.numbers
+value_walked link q v c to ts group (Some more) = refl
 
 -- a comparison behind the group that waits: a constant that is its right operand is in the test
 abbrev comparison_walked : Link → Comparison → NumberTree → Walk → List Node → Walk
@@ -96,63 +98,80 @@ relation_walked link k a b c to ts d =
     both (negated i) = number_walked link (negated i) _ (number_onto a d) ∙ number_walked link a _ d
     both (applied o x y) = number_walked link (applied o x y) _ (number_onto a d) ∙ number_walked link a _ d
 
-relation_settled : (link : Link) (k : Comparison) (a b : NumberTree) (c : List Insn) (to : Targets) (ts : List LeftTruth) (group : Group) (chained : Bool) (d : List Node) (bs : List ℕ) → comparison_walked link k b (flush_members link (waiting c to ts group chained) bs) (number_onto a d) ≡ emit_nodes link (emit_of link (or_any (formula link (compared k a b)) (group_formula link group) bs) c to ts) d
-relation_settled link k a b c to ts group chained d [] = relation_walked link k a b c to ts d
-relation_settled link k a b c to ts group chained d (h ∷ hs) =
+relation_settled : (link : Link) (k : Comparison) (a b : NumberTree) (c : List Insn) (to : Targets) (ts : List LeftTruth) (group : Group) (d : List Node) (bs : List ℕ) → comparison_walked link k b (flush_members link (waiting c to ts group) bs) (number_onto a d) ≡ emit_nodes link (emit_of link (or_any (formula link (compared k a b)) (group_formula link group) bs) c to ts) d
+relation_settled link k a b c to ts group d [] = relation_walked link k a b c to ts d
+relation_settled link k a b c to ts group d (h ∷ hs) =
     let e = emit_formula link nothing (group_formula link group) to.yes to.no c in
     relation_walked link k a b e.code (targets to.yes e.entry) ts d
 
 -- a host that is the right operand of an or waits with those behind it
-member_waits : (link : Link) (b : TruthTree) (c : List Insn) (to : Targets) (t : LeftTruth) (ts : List LeftTruth) (group more : Group) (d : List Node) → truth_member b group ≡ Some more → emit_nodes link (waiting c to (t ∷ ts) group true) (truth_onto b d) ≡ emit_nodes link (waiting c to ts more false) d
-member_waits link (qualified q v) c to t ts group more d e = ap (λ o. emit_nodes link (emit_value link q v (waiting c to (t ∷ ts) group true) o) d) e
-member_waits link (check p) c to t ts group more d e = cc
-member_waits link (cast p k) c to t ts group more d e = cc
-member_waits link (sized s n) c to t ts group more d e = cc
-member_waits link (bare v) c to t ts group more d e = cc
-member_waits link (valued q v) c to t ts group more d e = cc
-member_waits link (compared k a b) c to t ts group more d e = cc
-member_waits link (denied a) c to t ts group more d e = cc
-member_waits link (joined j a b) c to t ts group more d e = cc
+member_waits : (link : Link) (b : TruthTree) (c : List Insn) (to : Targets) (ts : List LeftTruth) (group more : Group) (d : List Node) → truth_member b group ≡ Some more → emit_nodes link (behind_or c to ts group) (truth_onto b d) ≡ emit_nodes link (waiting c to ts more) d
+member_waits link (qualified q v) c to ts group more d e = ap (λ o. emit_nodes link (emit_value link q v (behind_or c to ts group) o) d) e
+member_waits link (check p) c to ts group more d e = cc
+member_waits link (cast p k) c to ts group more d e = cc
+member_waits link (sized s n) c to ts group more d e = cc
+member_waits link (bare v) c to ts group more d e = cc
+member_waits link (valued q v) c to ts group more d e = cc
+member_waits link (compared k a b) c to ts group more d e = cc
+member_waits link (denied a) c to ts group more d e = cc
+member_waits link (joined j a b) c to ts group more d e = cc
 
-abbrev Walks : Link → TruthTree → Group → Bool → Type 0
-Walks link a group k =
-    (c : List Insn) (to : Targets) (ts : List LeftTruth) (d : List Node) → emit_nodes link (waiting c to ts group k) (truth_onto a d) ≡ emit_nodes link (emit_of link (grouped_formula link group a) c to ts) d
+-- any other right operand is on its own, and the left one waits for it
+abbrev left_behind_or : Targets → LeftTruth
+left_behind_or to = record { join = Or; to = to }
 
-denied_walked : (link : Link) (a : TruthTree) → Walks link a no_group false → (c : List Insn) (to : Targets) (ts : List LeftTruth) (group : Group) (k : Bool) (d : List Node) (bs : List ℕ) → emit_nodes link (emit_truth_node link (flush_members link (waiting c to ts group k) bs) Not) (truth_onto a d) ≡ emit_nodes link (emit_of link (or_any (Except (grouped_formula link no_group a)) (group_formula link group) bs) c to ts) d
-denied_walked link a h c to ts group k d [] = h c (targets to.no to.yes) ts d
-denied_walked link a h c to ts group k d (b ∷ bs) =
+right_begins : (link : Link) (b : TruthTree) (c : List Insn) (to : Targets) (ts : List LeftTruth) (group : Group) (d : List Node) → truth_member b group ≡ None → emit_nodes link (behind_or c to ts group) (truth_onto b d) ≡ emit_nodes link (waiting c to (left_behind_or to ∷ ts) group) (truth_onto b d)
+right_begins link (qualified q v) c to ts group d e =
+    ap (λ o. emit_nodes link (emit_value link q v (behind_or c to ts group) o) d) e ∙ sym (ap (λ o. emit_nodes link (emit_value link q v (waiting c to (left_behind_or to ∷ ts) group) o) d) e)
+right_begins link (check p) c to ts group d e = refl
+right_begins link (cast p k) c to ts group d e = refl
+right_begins link (sized s n) c to ts group d e = refl
+right_begins link (bare v) c to ts group d e = refl
+right_begins link (valued q v) c to ts group d e = refl
+right_begins link (compared k a b) c to ts group d e =
+    compare_walked link k b (behind_or c to ts group) (number_onto a d) ∙ sym (compare_walked link k b (waiting c to (left_behind_or to ∷ ts) group) (number_onto a d))
+right_begins link (denied a) c to ts group d e = refl
+right_begins link (joined And a b) c to ts group d e = refl
+right_begins link (joined Or a b) c to ts group d e = refl
+
+abbrev Walks : Link → TruthTree → Group → Type 0
+Walks link a group =
+    (c : List Insn) (to : Targets) (ts : List LeftTruth) (d : List Node) → emit_nodes link (waiting c to ts group) (truth_onto a d) ≡ emit_nodes link (emit_of link (grouped_formula link group a) c to ts) d
+
+denied_walked : (link : Link) (a : TruthTree) → Walks link a no_group → (c : List Insn) (to : Targets) (ts : List LeftTruth) (group : Group) (d : List Node) (bs : List ℕ) → emit_nodes link (emit_truth_node link (flush_members link (waiting c to ts group) bs) Not) (truth_onto a d) ≡ emit_nodes link (emit_of link (or_any (Except (grouped_formula link no_group a)) (group_formula link group) bs) c to ts) d
+denied_walked link a h c to ts group d [] = h c (targets to.no to.yes) ts d
+denied_walked link a h c to ts group d (b ∷ bs) =
     let e = emit_formula link nothing (group_formula link group) to.yes to.no c in h e.code (targets e.entry to.yes) ts d
 
-both_walked : (link : Link) (a b : TruthTree) → Walks link a no_group false → Walks link b no_group false → (c : List Insn) (to : Targets) (ts : List LeftTruth) (d : List Node) → emit_nodes link (between c to (record { join = And; to = to } ∷ ts)) (truth_onto b (truth_onto a d)) ≡ emit_nodes link (emit_of link (Both (grouped_formula link no_group a) (grouped_formula link no_group b)) c to ts) d
+both_walked : (link : Link) (a b : TruthTree) → Walks link a no_group → Walks link b no_group → (c : List Insn) (to : Targets) (ts : List LeftTruth) (d : List Node) → emit_nodes link (between c to (record { join = And; to = to } ∷ ts)) (truth_onto b (truth_onto a d)) ≡ emit_nodes link (emit_of link (Both (grouped_formula link no_group a) (grouped_formula link no_group b)) c to ts) d
 both_walked link a b ha hb c to ts d =
     let e = emit_formula link nothing (grouped_formula link no_group b) to.yes to.no c in
     hb c to (record { join = And; to = to } ∷ ts) (truth_onto a d) ∙ ha e.code (targets e.entry to.no) ts d
 
-settled_both : (link : Link) (a b : TruthTree) → Walks link a no_group false → Walks link b no_group false → (c : List Insn) (to : Targets) (ts : List LeftTruth) (group : Group) (k : Bool) (d : List Node) (bs : List ℕ) → (let v = flush_members link (waiting c to ts group k) bs in emit_nodes link (record v { truths = record { join = And; to = v.to } ∷ v.truths }) (truth_onto b (truth_onto a d))) ≡ emit_nodes link (emit_of link (or_any (Both (grouped_formula link no_group a) (grouped_formula link no_group b)) (group_formula link group) bs) c to ts) d
-settled_both link a b ha hb c to ts group k d [] = both_walked link a b ha hb c to ts d
-settled_both link a b ha hb c to ts group k d (x ∷ xs) =
+settled_both : (link : Link) (a b : TruthTree) → Walks link a no_group → Walks link b no_group → (c : List Insn) (to : Targets) (ts : List LeftTruth) (group : Group) (d : List Node) (bs : List ℕ) → (let v = flush_members link (waiting c to ts group) bs in emit_nodes link (record v { truths = record { join = And; to = v.to } ∷ v.truths }) (truth_onto b (truth_onto a d))) ≡ emit_nodes link (emit_of link (or_any (Both (grouped_formula link no_group a) (grouped_formula link no_group b)) (group_formula link group) bs) c to ts) d
+settled_both link a b ha hb c to ts group d [] = both_walked link a b ha hb c to ts d
+settled_both link a b ha hb c to ts group d (x ∷ xs) =
     let e = emit_formula link nothing (group_formula link group) to.yes to.no c in both_walked link a b ha hb e.code (targets to.yes e.entry) ts d
 
-either_walked : (link : Link) (a b : TruthTree) (group : Group) (o : Option Group) → truth_member b group ≡ o → Walks link a no_group false → ((more : Group) → Walks link a more false) → (truth_member b group ≡ None → Walks link b group true) → (c : List Insn) (to : Targets) (ts : List LeftTruth) (d : List Node) → emit_nodes link (waiting c to (record { join = Or; to = to } ∷ ts) group true) (truth_onto b (truth_onto a d)) ≡ emit_nodes link (emit_of link (choice o (λ more. grouped_formula link more a) (Either (grouped_formula link no_group a) (grouped_formula link group b))) c to ts) d
+either_walked : (link : Link) (a b : TruthTree) (group : Group) (o : Option Group) → truth_member b group ≡ o → Walks link a no_group → ((more : Group) → Walks link a more) → Walks link b group → (c : List Insn) (to : Targets) (ts : List LeftTruth) (d : List Node) → emit_nodes link (behind_or c to ts group) (truth_onto b (truth_onto a d)) ≡ emit_nodes link (emit_of link (choice o (λ more. grouped_formula link more a) (Either (grouped_formula link no_group a) (grouped_formula link group b))) c to ts) d
 either_walked link a b group None e ha hm hb c to ts d =
     let x = emit_formula link nothing (grouped_formula link group b) to.yes to.no c in
-    hb e c to (record { join = Or; to = to } ∷ ts) (truth_onto a d) ∙ ha x.code (targets to.yes x.entry) ts d
-either_walked link a b group (Some more) e ha hm hb c to ts d =
-    member_waits link b c to (record { join = Or; to = to }) ts group more (truth_onto a d) e ∙ hm more c to ts d
+    right_begins link b c to ts group (truth_onto a d) e ∙ hb c to (left_behind_or to ∷ ts) (truth_onto a d) ∙ ha x.code (targets to.yes x.entry) ts d
+either_walked link a b group (Some more) e ha hm hb c to ts d = member_waits link b c to ts group more (truth_onto a d) e ∙ hm more c to ts d
 
-pub truth_walked : (link : Link) (a : TruthTree) (group : Group) (k : Bool) → (k ≡ false) ⊎ (truth_member a group ≡ None) → Walks link a group k
-truth_walked link (check p) group k free = λ c to ts d. ap (λ w. emit_nodes link w d) (leaf_put link (check_formula link p) c to ts group k group.numbers)
-truth_walked link (cast p x) group k free = λ c to ts d. ap (λ w. emit_nodes link w d) (leaf_put link (cast_formula link p x) c to ts group k group.numbers)
-truth_walked link (sized s n) group k free = λ c to ts d. ap (λ w. emit_nodes link w d) (leaf_put link (sized_formula s n) c to ts group k group.numbers)
-truth_walked link (bare v) group k free = λ c to ts d. ap (λ w. emit_nodes link w d) (leaf_put link (Single (Outcome false)) c to ts group k group.numbers)
-truth_walked link (valued q v) group k free = λ c to ts d. ap (λ w. emit_nodes link w d) (leaf_put link (Single (Outcome false)) c to ts group k group.numbers)
-truth_walked link (qualified q v) group k free = λ c to ts d. ap (λ w. emit_nodes link w d) (value_walked link q v c to ts group k (larger_group q v group) free)
-truth_walked link (compared x a b) group k free = λ c to ts d. compare_walked link x b (waiting c to ts group k) (number_onto a d) ∙ relation_settled link x a b c to ts group k d group.numbers
-truth_walked link (denied a) group k free = λ c to ts d. denied_walked link a (truth_walked link a no_group false (inl refl)) c to ts group k d group.numbers
-truth_walked link (joined And a b) group k free =
-    λ c to ts d. settled_both link a b (truth_walked link a no_group false (inl refl)) (truth_walked link b no_group false (inl refl)) c to ts group k d group.numbers
-truth_walked link (joined Or a b) group k free =
-    λ c to ts d. either_walked link a b group (truth_member b group) refl (truth_walked link a no_group false (inl refl)) (λ more. truth_walked link a more false (inl refl)) (λ e. truth_walked link b group true (inr e)) c to ts d
+pub truth_walked : (link : Link) (a : TruthTree) (group : Group) → Walks link a group
+truth_walked link (check p) group = λ c to ts d. ap (λ w. emit_nodes link w d) (leaf_put link (check_formula link p) c to ts group group.numbers)
+truth_walked link (cast p x) group = λ c to ts d. ap (λ w. emit_nodes link w d) (leaf_put link (cast_formula link p x) c to ts group group.numbers)
+truth_walked link (sized s n) group = λ c to ts d. ap (λ w. emit_nodes link w d) (leaf_put link (sized_formula s n) c to ts group group.numbers)
+truth_walked link (bare v) group = λ c to ts d. ap (λ w. emit_nodes link w d) (leaf_put link (Single (Outcome false)) c to ts group group.numbers)
+truth_walked link (valued q v) group = λ c to ts d. ap (λ w. emit_nodes link w d) (leaf_put link (Single (Outcome false)) c to ts group group.numbers)
+truth_walked link (qualified q v) group = λ c to ts d. ap (λ w. emit_nodes link w d) (value_walked link q v c to ts group (larger_group q v group))
+truth_walked link (compared x a b) group = λ c to ts d. compare_walked link x b (waiting c to ts group) (number_onto a d) ∙ relation_settled link x a b c to ts group d group.numbers
+truth_walked link (denied a) group = λ c to ts d. denied_walked link a (truth_walked link a no_group) c to ts group d group.numbers
+truth_walked link (joined And a b) group =
+    λ c to ts d. settled_both link a b (truth_walked link a no_group) (truth_walked link b no_group) c to ts group d group.numbers
+truth_walked link (joined Or a b) group =
+    λ c to ts d. either_walked link a b group (truth_member b group) refl (truth_walked link a no_group) (λ more. truth_walked link a more) (truth_walked link b group) c to ts d
 
 -- the walk over a whole expression ends with its code, entered where both targets are
 pub record Ends (w : Walk) (e : Block) : Type 0 where
@@ -162,5 +181,5 @@ pub record Ends (w : Walk) (e : Block) : Type 0 where
 pub expression_walked : (link : Link) (e : Expression) → Ends (emit_nodes link start_walk (expr_onto e)) (expression_code link e)
 expression_walked link empty = record { code = refl; entry = refl }
 expression_walked link (truth a) =
-    let h = truth_walked link a no_group false (inl refl) start_walk.code start_walk.to [] [] in
+    let h = truth_walked link a no_group start_walk.code start_walk.to [] [] in
     record { code = ap (λ (w : Walk). w.code) h; entry = ap (λ (w : Walk). w.to.yes) h }

@@ -14,6 +14,8 @@ use Rattle.flt_tree.specs.declared.node.Node.TheVariants as node
 use Rattle.cap_octet.specs.declared.link.Link.{Link}
 use Rattle.flt_code.specs.declared.code.Targets.{Targets}
 use Rattle.flt_gen.specs.declared.waiting.LeftTruth.{LeftTruth}
+use Rattle.flt_gen.specs.declared.waiting.Pending.{Pending}
+use Rattle.flt_gen.specs.declared.waiting.Pending.TheVariants as next
 use Rattle.flt_gen.specs.declared.waiting.Waiting.{Waiting}
 use Rattle.flt_gen.specs.declared.waiting.Waiting.TheVariants.{Index, Left}
 use Rattle.flt_code.specs.Numbers.{width_of}
@@ -37,10 +39,10 @@ pub record Walk : Type 0 where
   pub truths : List LeftTruth
   pub numbers : List Waiting
   pub accessors : List Protocol
-  -- hosts or ports that are tested in front of the code, and whose code isn't there yet; whether an
-  -- or was the last node, whose right operand is next
+  -- hosts or ports that are tested in front of the code, and whose code isn't there yet; and what
+  -- the last node leaves to the next one
   pub group : Group
-  pub chained : Bool
+  pub pending : Pending
 
 abbrev pub targets : ℕ → ℕ → Targets
 targets hit miss = record { yes = hit; no = miss }
@@ -102,35 +104,36 @@ begin_operands slot c w = record w {
 abbrev pub finish_formula : Link → Formula → Walk → Walk
 finish_formula link f w = finish_truth (emit_formula link nothing f w.to.yes w.to.no w.code) w
 
+-- if an or was the last node, its right operand is on its own: the left one waits for it
+abbrev pub begin_right : Pending → Walk → Walk
+begin_right next.Nothing w = w
+begin_right next.Or w = record w {
+  truths = record { join = Or; to = w.to } ∷ w.truths;
+  pending = next.Nothing;
+}
+
 abbrev pub flush_members : Link → Walk → List ℕ → Walk
-flush_members link w [] = record w { group = no_group; chained = false }
+flush_members link w [] = record w { group = no_group }
 flush_members link w (a ∷ others) =
     let e = emit_formula link nothing (group_formula link w.group) w.to.yes w.to.no w.code in
-    record w { code = e.code; to = targets w.to.yes e.entry; group = no_group; chained = false }
+    record w { code = e.code; to = targets w.to.yes e.entry; group = no_group }
 
 -- the code of the group that waits is emitted
 abbrev pub flush_group : Link → Walk → Walk
-flush_group link w = flush_members link w w.group.numbers
+flush_group link w = flush_members link (begin_right w.pending w) w.group.numbers
 
 -- a host or port and those behind it: they wait for one more if it is the right operand of an or
-abbrev pub finish_group : Link → Walk → Group → Bool → Walk
-finish_group link w group true = record w {
-  group = group;
-  truths = others w.truths;
-  chained = false;
-}
-finish_group link w group false =
-    finish_formula link (group_formula link group) (record w { group = no_group; chained = false })
+abbrev pub finish_group : Link → Walk → Group → Pending → Walk
+finish_group link w group next.Or = record w { group = group; pending = next.Nothing }
+finish_group link w group next.Nothing =
+    finish_formula link (group_formula link group) (record w { group = no_group })
 
 abbrev pub emit_value : Link → FullQuals → Value → Walk → Option Group → Walk
 emit_value link q v w None = finish_formula link (qualified_formula link q v) (flush_group link w)
-emit_value link q v w (Some group) = finish_group link w group w.chained
+emit_value link q v w (Some group) = finish_group link w group w.pending
 
 abbrev pub emit_join : Link → Join → Walk → Walk
-emit_join link Or w = record w {
-  truths = record { join = Or; to = w.to } ∷ w.truths;
-  chained = true;
-}
+emit_join link Or w = record (begin_right w.pending w) { pending = next.Or }
 emit_join link And w =
     let v = flush_group link w in record v { truths = record { join = And; to = v.to } ∷ v.truths }
 
@@ -225,7 +228,7 @@ start_walk = record {
   numbers = [];
   accessors = [];
   group = no_group;
-  chained = false;
+  pending = next.Nothing;
 }
 
 abbrev pub or_walk : Option Walk → Walk → Walk

@@ -10,8 +10,8 @@ use crate::walk::Walk;
 use cap_octet::Link;
 use flt_bpf::insn::Insn;
 use flt_bpf::program::{Program, check};
-use flt_tree::{Checked, Node};
 use flt_short::{pass_loads, shortened};
+use flt_tree::{Checked, Node};
 use std::alloc::{AllocError, Allocator};
 
 /// The instructions of a program for the tree with these nodes.

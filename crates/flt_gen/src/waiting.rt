@@ -25,6 +25,15 @@ pub enum Waiting {
     Left(u32),
 }
 
+/// What the last node leaves to the next one.
+#[derive(Clone, Copy)]
+pub enum Pending {
+    Nothing,
+    /// It was an `or`, whose right operand is next. Where that is a host or port, it waits for the
+    /// left one, and both are looked for together.
+    Or,
+}
+
 /// What waits, the latest first.
 #[derive(Drop)]
 pub struct Stack<T, A: Allocator> {

@@ -8,7 +8,8 @@ ghost use Rattle.flt_gen.specs.Group.{larger_group};
 ghost use Rattle.flt_code.specs.Code.{block};
 ghost use Rattle.flt_code.specs.Emits.{HasRoom};
 ghost use Rattle.flt_gen.specs.Walk.{start_walk, finish_truth, finish_relation, finish_number};
-ghost use Rattle.flt_gen.specs.Walk.{is_number_node, is_truth_node, begin_operands, flush_group};
+ghost use Rattle.flt_gen.specs.Walk.{is_number_node, is_truth_node, begin_operands, begin_right};
+ghost use Rattle.flt_gen.specs.Walk.{flush_group};
 ghost use Rattle.flt_gen.specs.Walk.{finish_group, emit_value, emit_join, emit_truth_node};
 ghost use Rattle.flt_gen.specs.Walk.{emit_node, insns_of, emit_applied, emit_compared};
 ghost use Rattle.flt_gen.specs.Walk.{emit_both_nodes, emit_nodes};
@@ -17,7 +18,7 @@ use crate::group::Group;
 use crate::number::{computation, emit_accessor, emit_accessors, emit_operands, takes, width_of};
 use crate::primitive::{emit_cast, emit_check};
 use crate::value::{emit_group, emit_qualified, emit_sized};
-use crate::waiting::{LeftTruth, Stack, Waiting};
+use crate::waiting::{LeftTruth, Pending, Stack, Waiting};
 use cap_octet::Link;
 use flt_bpf::insn::Insn;
 use flt_bpf::operation::{Operand, Operation, Register, Source};
@@ -44,8 +45,7 @@ pub struct Walk<A: Allocator> {
     accessors: Vec<Protocol, A>,
     /// Hosts or ports that are tested in front of the code, and whose code isn't there yet.
     group: Group<A>,
-    /// Whether an or was the last node: its right operand is next.
-    chained: bool,
+    pending: Pending,
 }
 
 impl<A: Allocator> Model for Walk<A> {
@@ -62,7 +62,7 @@ impl<A: Allocator> Model for Walk<A> {
       numbers = w.numbers;
       accessors = reverse w.accessors.items;
       group = w.group;
-      chained = w.chained;
+      pending = w.pending;
     } };
 }
 
@@ -161,6 +161,22 @@ impl<A: Allocator> Walk<A> {
         }
     }
 
+    /// If an `or` was the last node, its right operand is on its own: the left one waits for it.
+    fn begin_right(&mut self) -> Result<(), AllocError>
+        ensures walk { OnOk result (self.new ≡ begin_right self.old.pending self.old) }
+        ensures code { OnOk result (self.new.code ≡ self.old.code) }
+        ensures group { OnOk result (self.new.group ≡ self.old.group) }
+    {
+        match self.pending {
+            Pending::Nothing => Ok(()),
+            Pending::Or => {
+                let to = self.to;
+                self.pending = Pending::Nothing;
+                self.truths.push(LeftTruth { join: Join::Or, to })
+            }
+        }
+    }
+
     /// The code of the group that waits is emitted.
     fn flush_group(&mut self, link: Link) -> Result<(), AllocError>
         requires room { length self.old.code < 2 ^ 30 }
@@ -168,12 +184,12 @@ impl<A: Allocator> Walk<A> {
         ensures walk { OnOk result (self.new ≡ flush_group link self.old) }
         ensures room { OnOk result (length self.new.code ≤ length self.old.code + 150000) }
     {
+        self.begin_right()?;
         if !self.group.numbers().is_empty() {
             let context = Context::new(link, self.to);
             self.to.no = emit_group(&mut self.code, context, &self.group)?;
         }
         self.group.clear();
-        self.chained = false;
         Ok(())
     }
 
@@ -183,12 +199,10 @@ impl<A: Allocator> Walk<A> {
         requires room { length self.old.code < 2 ^ 30 }
         requires some { length self.old.group.numbers ≤ 4096 }
         ensures { OnOk result
-            (self.new ≡ finish_group link self.old self.old.group self.old.chained) }
+            (self.new ≡ finish_group link self.old self.old.group self.old.pending) }
     {
-        if self.chained {
-            // The targets that the or kept are still those of the walk.
-            let _ = self.truths.pop();
-            self.chained = false;
+        if let Pending::Or = self.pending {
+            self.pending = Pending::Nothing;
             return Ok(());
         }
         let context = Context::new(link, self.to);
@@ -222,11 +236,17 @@ impl<A: Allocator> Walk<A> {
         ensures { OnOk result (self.new ≡ emit_join link join self.old) }
     {
         match join {
-            Join::Or => self.chained = true,
-            Join::And => self.flush_group(link)?,
+            Join::Or => {
+                self.begin_right()?;
+                self.pending = Pending::Or;
+                Ok(())
+            }
+            Join::And => {
+                self.flush_group(link)?;
+                let to = self.to;
+                self.truths.push(LeftTruth { join, to })
+            }
         }
-        let to = self.to;
-        self.truths.push(LeftTruth { join, to })
     }
 
     /// A primitive or a negation. A value whose qualifiers aren't filled in yet is no.
@@ -371,7 +391,7 @@ impl<A: Allocator> Walk<A> {
             numbers: _,
             accessors: _,
             group: _,
-            chained: _,
+            pending: _,
         } = self;
         code.into_insns(to.yes)
     }
@@ -397,7 +417,7 @@ impl<A: Allocator + Clone> Walk<A> {
             numbers,
             accessors,
             group,
-            chained: false,
+            pending: Pending::Nothing,
         })
     }
 }
