@@ -84,8 +84,8 @@ pub trait Output {
     /// How often it failed. Contracts alone see this, and it has no greatest value.
     ghost failures: { Self → ℕ };
 
-    /// How many bytes in all it takes at least before it fails. No call changes that. Where a device
-    /// doesn't give this it is none.
+    /// How many bytes in all it takes at least before it fails. No call changes that. Where a
+    /// device doesn't give this it is none.
     ghost room: { Self → ℕ } = { λ _. 0 };
 
     /// Writes a prefix of the bytes, at least one if there is one, and returns how many. An error

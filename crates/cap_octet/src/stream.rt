@@ -73,8 +73,8 @@ impl<R: Read> Input for StdInput<R> {
     ghost failures = { λ s. s.failures.count };
 
     /// One read of the reader with this buffer, whose answer it hands over.
-    // Mostly the reader holds as many bytes already. They are taken here, without the errors of std,
-    // which are large and would be made room for each time.
+    // Mostly the reader holds as many bytes already. They are taken here, without the errors of
+    // std, which are large and would be made room for each time.
     #[inline(always)]
     fn read(&mut self, buf: &mut [u8]) -> Result<usize, DeviceFault>
         ensures within { IfOk result (λ n. n ≤ length buf.old) }

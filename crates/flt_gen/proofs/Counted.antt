@@ -10,8 +10,8 @@ use Rattle.flt_words.specs.declared.token.Cast.{Cast}
 use Rattle.flt_words.specs.declared.token.Cast.TheVariants.{Broadcast, Multicast}
 use Rattle.flt_words.specs.declared.token.ValueType.{ValueType}
 use Rattle.flt_words.specs.declared.token.ValueType.TheVariants.{Host, Net, Port, PortRange, Proto}
-use Rattle.flt_tree.specs.declared.quals.Direction.{Direction}
-use Rattle.flt_tree.specs.declared.quals.Direction.TheVariants as direction
+use Rattle.flt_tree.specs.declared.qualifiers.Direction.{Direction}
+use Rattle.flt_tree.specs.declared.qualifiers.Direction.TheVariants as direction
 use Rattle.flt_tree.specs.declared.value.Value.{Value}
 use Rattle.flt_tree.specs.declared.value.Value.TheVariants as value
 use Rattle.flt_tree.specs.Tree.{NumberTree, literal, len, named, load, negated, applied, TruthTree, check, cast, sized, bare, valued, qualified, compared, denied, joined}

@@ -8,9 +8,9 @@ use Rattle.flt_words.specs.declared.token.Side.TheVariants.{Source, Destination}
 use Rattle.flt_words.specs.declared.token.Join.TheVariants.{And, Or}
 use Rattle.flt_words.specs.declared.token.ValueType.{ValueType}
 use Rattle.flt_words.specs.declared.token.ValueType.TheVariants.{Host, Net, Port, PortRange, Proto}
-use Rattle.flt_tree.specs.declared.quals.Direction.{Direction}
-use Rattle.flt_tree.specs.declared.quals.Direction.TheVariants as direction
-use Rattle.flt_tree.specs.declared.quals.FullQuals.{FullQuals}
+use Rattle.flt_tree.specs.declared.qualifiers.Direction.{Direction}
+use Rattle.flt_tree.specs.declared.qualifiers.Direction.TheVariants as direction
+use Rattle.flt_tree.specs.declared.qualifiers.CompleteQualifiers.{CompleteQualifiers}
 use Rattle.flt_tree.specs.declared.value.Value.{Value}
 use Rattle.flt_tree.specs.declared.value.Value.TheVariants as value
 use Rattle.flt_tree.specs.Tree.{TruthTree, check, cast, sized, bare, valued, qualified, compared, denied, joined}
@@ -39,7 +39,7 @@ pub record Kept (group : Group) : Type 0 where
 pub kept_none : Kept no_group
 kept_none = record { ascending = tt; first = λ l. absurd (omega arith) }
 
-kept_with : (q : FullQuals) (a : ℕ) (group : Group) → Kept group → Kept (with_member q a group)
+kept_with : (q : CompleteQualifiers) (a : ℕ) (group : Group) → Kept group → Kept (with_member q a group)
 kept_with q a group h =
     record {
       ascending = ascending_inserted a group.numbers h.ascending;
@@ -274,15 +274,15 @@ one_address f b e = by_test (f == b) refl e
     by_test false g h = cc
 
 -- a value that goes with members has their type, protocol and direction
-record SameQuals (q : FullQuals) (k : ValueType) (protocol : Option Protocol) (d : Direction) : Type 0 where
+record SameQualifiers (q : CompleteQualifiers) (k : ValueType) (protocol : Option Protocol) (d : Direction) : Type 0 where
   types : k ≡ q.value_type
   protocols : protocol ≡ q.protocol
   directions : d ≡ q.direction
   common : Common q.protocol
   merged : Merged q.direction
 
-same_quals : (q : FullQuals) (k : ValueType) (protocol : Option Protocol) (d : Direction) (bs : List ℕ) → (same_type q.value_type k && (same_protocol q.protocol protocol && (same_direction q.direction d && nat_lt (length bs) MOST_TOGETHER))) ≡ true → SameQuals q k protocol d
-same_quals q k protocol d bs g =
+same_qualifiers : (q : CompleteQualifiers) (k : ValueType) (protocol : Option Protocol) (d : Direction) (bs : List ℕ) → (same_type q.value_type k && (same_protocol q.protocol protocol && (same_direction q.direction d && nat_lt (length bs) MOST_TOGETHER))) ≡ true → SameQualifiers q k protocol d
+same_qualifiers q k protocol d bs g =
     let upper_bound = nat_lt (length bs) MOST_TOGETHER in
     let b = both_true (same_type q.value_type k) (same_protocol q.protocol protocol && (same_direction q.direction d && upper_bound)) g in
     let c = both_true (same_protocol q.protocol protocol) (same_direction q.direction d && upper_bound) b.1 in
@@ -305,10 +305,10 @@ module _ (link : Link) (p : List ℕ) (n : ℕ) where
       ∙ ap (λ r. either r (together link p n k protocol d f (b ∷ bs))) (sym (plain_together link p n k protocol d a c m))
       ∙ ap (λ r. either (reads link (one_formula link k protocol d a) p n) r) (others_read k protocol d f b bs c m h)
 
-  with_member_reads : (q : FullQuals) (a : ℕ) (k : ValueType) (protocol : Option Protocol) (d : Direction) (f : ℕ) (bs : List ℕ) → goes_with q (group_of k protocol d f bs) bs ≡ true → (0 < length bs → is_one_of f bs ≡ true) → reads link (group_formula link (with_member q a (group_of k protocol d f bs))) p n ≡ or_reads bs (reads link (one_formula link q.value_type q.protocol q.direction a) p n) (reads link (group_formula link (group_of k protocol d f bs)) p n)
+  with_member_reads : (q : CompleteQualifiers) (a : ℕ) (k : ValueType) (protocol : Option Protocol) (d : Direction) (f : ℕ) (bs : List ℕ) → goes_with q (group_of k protocol d f bs) bs ≡ true → (0 < length bs → is_one_of f bs ≡ true) → reads link (group_formula link (with_member q a (group_of k protocol d f bs))) p n ≡ or_reads bs (reads link (one_formula link q.value_type q.protocol q.direction a) p n) (reads link (group_formula link (group_of k protocol d f bs)) p n)
   with_member_reads q a k protocol d f [] g h = refl
   with_member_reads q a k protocol d f (b ∷ bs) g h =
-      let s = same_quals q k protocol d (b ∷ bs) g in
+      let s = same_qualifiers q k protocol d (b ∷ bs) g in
       let one = reads link (one_formula link q.value_type q.protocol q.direction a) p n in
       same_more q.value_type q.protocol q.direction a f b bs s.common s.merged (h (omega arith))
       ∙ ap (λ x. either one (reads link (group_formula link (group_of x q.protocol q.direction f (b ∷ bs))) p n)) (sym s.types)
@@ -316,7 +316,7 @@ module _ (link : Link) (p : List ℕ) (n : ℕ) where
       ∙ ap (λ x. either one (reads link (group_formula link (group_of k protocol x f (b ∷ bs))) p n)) (sym s.directions)
 
 -- what a member and those behind it are, and how they read
-record Taken (link : Link) (q : FullQuals) (v : Value) (group more : Group) : Type 0 where
+record Taken (link : Link) (q : CompleteQualifiers) (v : Value) (group more : Group) : Type 0 where
   kept : Kept more
   some : 0 < length more.numbers
   tests_fit : group_tests more ≤ count.value_tests q v + group_tests group
@@ -325,10 +325,10 @@ record Taken (link : Link) (q : FullQuals) (v : Value) (group more : Group) : Ty
 more_times : (n k m : ℕ) → m ≡ n + 1 → m * k ≡ k + n * k
 more_times n k m e = ap (λ x. x * k) e ∙ omega arith
 
-with_member_tests : (q : FullQuals) (a : ℕ) (k : ValueType) (protocol : Option Protocol) (d : Direction) (f : ℕ) (bs : List ℕ) → goes_with q (group_of k protocol d f bs) bs ≡ true → group_tests (with_member q a (group_of k protocol d f bs)) ≤ member_tests q.value_type q.protocol q.direction + group_tests (group_of k protocol d f bs)
+with_member_tests : (q : CompleteQualifiers) (a : ℕ) (k : ValueType) (protocol : Option Protocol) (d : Direction) (f : ℕ) (bs : List ℕ) → goes_with q (group_of k protocol d f bs) bs ≡ true → group_tests (with_member q a (group_of k protocol d f bs)) ≤ member_tests q.value_type q.protocol q.direction + group_tests (group_of k protocol d f bs)
 with_member_tests q a k protocol d f [] g = omega arith
 with_member_tests q a k protocol d f (b ∷ bs) g =
-    let s = same_quals q k protocol d (b ∷ bs) g in
+    let s = same_qualifiers q k protocol d (b ∷ bs) g in
     let m = more_times (length (b ∷ bs)) (member_tests q.value_type q.protocol q.direction) (length (insert_ascending a (b ∷ bs))) (length_inserted a (b ∷ bs)) in
     let same : length (b ∷ bs) * member_tests k protocol d ≡ length (b ∷ bs) * member_tests q.value_type q.protocol q.direction =
     ap (λ x. length (b ∷ bs) * member_tests x protocol d) s.types ∙ ap (λ x. length (b ∷ bs) * member_tests q.value_type x d) s.protocols ∙ ap (λ x. length (b ∷ bs) * member_tests q.value_type q.protocol x) s.directions in
@@ -337,7 +337,7 @@ with_member_tests q a k protocol d f (b ∷ bs) g =
 some_is : (a b : Group) → Some a ≡ Some b → a ≡ b
 some_is a b e = cc
 
-taken : (link : Link) (q : FullQuals) (v : Value) (group more : Group) → Kept group → larger_group q v group ≡ Some more → Taken link q v group more
+taken : (link : Link) (q : CompleteQualifiers) (v : Value) (group more : Group) → Kept group → larger_group q v group ≡ Some more → Taken link q v group more
 taken link q v group more k e = by_address (member_number q.value_type v) refl e
   where
     by_test : (a : ℕ) (t : Bool) → member_number q.value_type v ≡ Some a → goes_with q group group.numbers ≡ t → (if t then Some (with_member q a group) else None) ≡ Some more → Taken link q v group more
@@ -376,7 +376,7 @@ leaf_stands link a group k u =
     or_stands link (formula link a) (formula link a) (count.truth_tests a) group k
     (record { nodes_are = refl; words_are = refl; apt = λ p. formula_apt p link a; tests_fit = let l = tests_fit link a u in omega arith; reads_are = λ p n. refl })
 
-value_stands : (link : Link) (q : FullQuals) (v : Value) (group : Group) → Kept group → any_primitive is_unfilled (qualified q v) ≡ false → (o : Option Group) → larger_group q v group ≡ o → StandsBy link (choice o (λ more. group_formula link more) (or_group link (qualified_formula link q v) group)) (qualified_formula link q v) (count.value_tests q v) group
+value_stands : (link : Link) (q : CompleteQualifiers) (v : Value) (group : Group) → Kept group → any_primitive is_unfilled (qualified q v) ≡ false → (o : Option Group) → larger_group q v group ≡ o → StandsBy link (choice o (λ more. group_formula link more) (or_group link (qualified_formula link q v) group)) (qualified_formula link q v) (count.value_tests q v) group
 value_stands link q v group k u None e = leaf_stands link (qualified q v) group k u
 value_stands link q v group k u (Some more) e =
     let t = taken link q v group more k e in
@@ -411,7 +411,7 @@ both_stands link a b group k h g =
       reads_are = λ p n. ap (λ r. both r (reads link (grouped_formula link no_group b) p n)) (h.reads_are p n) ∙ ap (λ r. both (reads link (formula link a) p n) r) (g.reads_are p n);
     })
 
-member_taken : (link : Link) (b : TruthTree) (group more : Group) → Kept group → truth_member b group ≡ Some more → (q : FullQuals) × (v : Value) × (b ≡ qualified q v) × Taken link q v group more
+member_taken : (link : Link) (b : TruthTree) (group more : Group) → Kept group → truth_member b group ≡ Some more → (q : CompleteQualifiers) × (v : Value) × (b ≡ qualified q v) × Taken link q v group more
 member_taken link (qualified q v) group more k e = (q, v, refl, taken link q v group more k e)
 member_taken link (check p) group more k e = cc
 member_taken link (cast p x) group more k e = cc
@@ -422,7 +422,7 @@ member_taken link (compared x a b) group more k e = cc
 member_taken link (denied a) group more k e = cc
 member_taken link (joined j a b) group more k e = cc
 
-chain_stands : (link : Link) (a b : TruthTree) (group more : Group) (q : FullQuals) (v : Value) → b ≡ qualified q v → Taken link q v group more → StandsBy link (grouped_formula link more a) (formula link a) (count.truth_tests a) more → StandsBy link (grouped_formula link more a) (Either (formula link a) (formula link b)) (count.truth_tests a + count.truth_tests b) group
+chain_stands : (link : Link) (a b : TruthTree) (group more : Group) (q : CompleteQualifiers) (v : Value) → b ≡ qualified q v → Taken link q v group more → StandsBy link (grouped_formula link more a) (formula link a) (count.truth_tests a) more → StandsBy link (grouped_formula link more a) (Either (formula link a) (formula link b)) (count.truth_tests a + count.truth_tests b) group
 chain_stands link a b group more q v e t h =
     subst (λ (x : TruthTree). StandsBy link (grouped_formula link more a) (Either (formula link a) (formula link x)) (count.truth_tests a + count.truth_tests x) group) (sym e)
     (let n = h.nodes_are in

@@ -4,7 +4,7 @@ use Rattle.std.specs.Prelude.{nat_lt, ◌&&◌, if◌then◌else◌}
 use Rattle.std.proofs.lemmas.Bool.Decides.{nat_tests}
 use Rattle.flt_words.specs.declared.token.Join.{Join}
 use Rattle.flt_words.specs.declared.token.Join.TheVariants.{And, Or}
-use Rattle.flt_tree.specs.declared.quals.FullQuals.{FullQuals}
+use Rattle.flt_tree.specs.declared.qualifiers.CompleteQualifiers.{CompleteQualifiers}
 use Rattle.flt_tree.specs.declared.value.Value.{Value}
 use Rattle.flt_code.specs.Formula.{Formula}
 use Rattle.flt_gen.specs.Group.{Group, MOST_TOGETHER, same_type, same_protocol, same_direction, goes_with, with_member, member_number, group_and, larger_group, group_formula}
@@ -119,7 +119,7 @@ flushed_grown link w h =
     grown_after w v (flush_group link w) g (settled_grown link v w.group.numbers g.low)
 
 -- with one more they are no more than the most
-pub more_few : (q : FullQuals) (v : Value) (group more : Group) → larger_group q v group ≡ Some more → length more.numbers ≤ MOST_TOGETHER
+pub more_few : (q : CompleteQualifiers) (v : Value) (group more : Group) → larger_group q v group ≡ Some more → length more.numbers ≤ MOST_TOGETHER
 more_few q v group more e = by_address (member_number q.value_type v) e
   where
     some_is : (a b : Group) → Some a ≡ Some b → a ≡ b
@@ -145,7 +145,7 @@ more_few q v group more e = by_address (member_number q.value_type v) e
     by_address None e = cc
     by_address (Some a) e = by_test a (goes_with q group group.numbers) refl e
 
-value_grown : (link : Link) (q : FullQuals) (v : Value) (w : Walk) → IsLow w → (o : Option Group) → larger_group q v w.group ≡ o → Grown w (emit_value link q v w o)
+value_grown : (link : Link) (q : CompleteQualifiers) (v : Value) (w : Walk) → IsLow w → (o : Option Group) → larger_group q v w.group ≡ o → Grown w (emit_value link q v w o)
 value_grown link q v w h None e =
     let g = flushed_grown link w h in
     grown_after w (flush_group link w) (emit_value link q v w None) g (formula_grown link (qualified_formula link q v) (flush_group link w) g.low)

@@ -9,8 +9,8 @@ use Rattle.flt_words.specs.declared.token.ValueType.{ValueType}
 use Rattle.flt_words.specs.declared.token.ValueType.TheVariants.{Host, Net, Port, PortRange, Proto}
 use Rattle.flt_words.specs.declared.token.Side.TheVariants.{Source, Destination}
 use Rattle.flt_words.specs.declared.token.Join.TheVariants.{And, Or}
-use Rattle.flt_tree.specs.declared.quals.Direction.{Direction}
-use Rattle.flt_tree.specs.declared.quals.Direction.TheVariants as direction
+use Rattle.flt_tree.specs.declared.qualifiers.Direction.{Direction}
+use Rattle.flt_tree.specs.declared.qualifiers.Direction.TheVariants as direction
 use Rattle.cap_octet.specs.declared.link.Link.{Link}
 use Rattle.flt_code.specs.declared.elementary.FrameKind.{FrameKind}
 use Rattle.flt_code.specs.declared.elementary.FrameKind.TheVariants as kind

@@ -4,7 +4,7 @@ use Rattle.std.proofs.Common.{◌≡◌, ℕ, List, [], ◌∷◌, Bool, true, f
 use Rattle.flt_bpf.specs.declared.insn.Insn.{Insn}
 use Rattle.flt_words.specs.declared.token.Join.TheVariants.{And, Or}
 use Rattle.flt_words.specs.declared.token.Comparison.{Comparison}
-use Rattle.flt_tree.specs.declared.quals.FullQuals.{FullQuals}
+use Rattle.flt_tree.specs.declared.qualifiers.CompleteQualifiers.{CompleteQualifiers}
 use Rattle.flt_tree.specs.declared.value.Value.{Value}
 use Rattle.flt_tree.specs.declared.node.Node.{Node}
 use Rattle.flt_tree.specs.declared.node.Node.TheVariants.{Apply, Compare, Literal, Not}
@@ -68,7 +68,7 @@ leaf_put : (link : Link) (f : Formula) (c : List Insn) (to : Targets) (ts : List
 leaf_put link f c to ts group [] = refl
 leaf_put link f c to ts group (b ∷ bs) = refl
 
-value_walked : (link : Link) (q : FullQuals) (v : Value) (c : List Insn) (to : Targets) (ts : List LeftTruth) (group : Group) (o : Option Group) → emit_value link q v (waiting c to ts group) o ≡ emit_of link (choice o (λ more. group_formula link more) (or_group link (qualified_formula link q v) group)) c to ts
+value_walked : (link : Link) (q : CompleteQualifiers) (v : Value) (c : List Insn) (to : Targets) (ts : List LeftTruth) (group : Group) (o : Option Group) → emit_value link q v (waiting c to ts group) o ≡ emit_of link (choice o (λ more. group_formula link more) (or_group link (qualified_formula link q v) group)) c to ts
 value_walked link q v c to ts group None = leaf_put link (qualified_formula link q v) c to ts group group.numbers
 value_walked link q v c to ts group (Some more) = refl
 

@@ -6,9 +6,9 @@ use Rattle.flt_words.specs.declared.token.Side.TheVariants.{Source, Destination}
 use Rattle.flt_words.specs.declared.token.Join.TheVariants.{And, Or}
 use Rattle.flt_words.specs.declared.token.ValueType.{ValueType}
 use Rattle.flt_words.specs.declared.token.ValueType.TheVariants.{Host, Port}
-use Rattle.flt_tree.specs.declared.quals.Direction.{Direction}
-use Rattle.flt_tree.specs.declared.quals.Direction.TheVariants as direction
-use Rattle.flt_tree.specs.declared.quals.FullQuals.{FullQuals}
+use Rattle.flt_tree.specs.declared.qualifiers.Direction.{Direction}
+use Rattle.flt_tree.specs.declared.qualifiers.Direction.TheVariants as direction
+use Rattle.flt_tree.specs.declared.qualifiers.CompleteQualifiers.{CompleteQualifiers}
 use Rattle.flt_tree.specs.declared.value.Value.{Value}
 use Rattle.flt_tree.specs.declared.value.Value.TheVariants as value
 use Rattle.flt_tree.specs.Tree.{TruthTree, qualified, denied, joined}
@@ -43,7 +43,7 @@ abbrev pub insert_ascending : ℕ → List ℕ → List ℕ
 insert_ascending a [] = a ∷ []
 insert_ascending a (b ∷ bs) = if nat_lt b a then b ∷ insert_ascending a bs else a ∷ b ∷ bs
 
-abbrev pub with_member : FullQuals → ℕ → Group → Group
+abbrev pub with_member : CompleteQualifiers → ℕ → Group → Group
 with_member q a group = record {
   value_type = q.value_type;
   protocol = q.protocol;
@@ -75,7 +75,7 @@ same_direction _ _ = false
 abbrev pub MOST_TOGETHER : ℕ
 MOST_TOGETHER = 4096
 
-abbrev pub goes_with : FullQuals → Group → List ℕ → Bool
+abbrev pub goes_with : CompleteQualifiers → Group → List ℕ → Bool
 goes_with q group [] = true
 goes_with q group (a ∷ others) =
     same_type q.value_type group.value_type
@@ -88,13 +88,13 @@ member_number Host (value.Dotted dotted mask) = Some dotted.address
 member_number Port (value.Number n mask) = Some n
 member_number _ _ = None
 
-abbrev pub group_and : FullQuals → Group → Option ℕ → Option Group
+abbrev pub group_and : CompleteQualifiers → Group → Option ℕ → Option Group
 group_and q group None = None
 group_and q group (Some a) =
     if goes_with q group group.numbers then Some (with_member q a group) else None
 
 -- the group with one more in front, where the value is one that goes with it
-abbrev pub larger_group : FullQuals → Value → Group → Option Group
+abbrev pub larger_group : CompleteQualifiers → Value → Group → Option Group
 larger_group q v group = group_and q group (member_number q.value_type v)
 
 -- one member, and several

@@ -13,9 +13,9 @@ use Rattle.flt_words.specs.declared.token.Size.{Size}
 use Rattle.flt_words.specs.declared.token.Size.TheVariants as size
 use Rattle.flt_words.specs.declared.token.Cast.{Cast}
 use Rattle.flt_words.specs.declared.token.Cast.TheVariants.{Broadcast, Multicast}
-use Rattle.flt_tree.specs.declared.quals.Direction.{Direction}
-use Rattle.flt_tree.specs.declared.quals.Direction.TheVariants as direction
-use Rattle.flt_tree.specs.declared.quals.FullQuals.{FullQuals}
+use Rattle.flt_tree.specs.declared.qualifiers.Direction.{Direction}
+use Rattle.flt_tree.specs.declared.qualifiers.Direction.TheVariants as direction
+use Rattle.flt_tree.specs.declared.qualifiers.CompleteQualifiers.{CompleteQualifiers}
 use Rattle.flt_tree.specs.declared.value.Value.{Value}
 use Rattle.flt_tree.specs.declared.value.Value.TheVariants as value
 use Rattle.flt_tree.specs.declared.net.Ip4Net.{Ip4Net}
@@ -308,7 +308,7 @@ value_formula link Port protocol direction v = port_value_formula link protocol 
 value_formula link PortRange protocol direction v = range_value_formula link protocol direction v
 value_formula link Proto protocol direction v = proto_value_formula link protocol v
 
-abbrev pub qualified_formula : Link → FullQuals → Value → Formula
+abbrev pub qualified_formula : Link → CompleteQualifiers → Value → Formula
 qualified_formula link q v = value_formula link q.value_type q.protocol q.direction v
 
 -- the original length is at most, or at least, a number

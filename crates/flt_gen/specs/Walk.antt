@@ -7,7 +7,7 @@ use Rattle.flt_words.specs.declared.token.Comparison.{Comparison}
 use Rattle.flt_words.specs.declared.token.Join.{Join}
 use Rattle.flt_words.specs.declared.token.Join.TheVariants.{And, Or}
 use Rattle.flt_words.specs.declared.token.Protocol.{Protocol}
-use Rattle.flt_tree.specs.declared.quals.FullQuals.{FullQuals}
+use Rattle.flt_tree.specs.declared.qualifiers.CompleteQualifiers.{CompleteQualifiers}
 use Rattle.flt_tree.specs.declared.value.Value.{Value}
 use Rattle.flt_tree.specs.declared.node.Node.{Node}
 use Rattle.flt_tree.specs.declared.node.Node.TheVariants as node
@@ -128,7 +128,7 @@ finish_group link w group next.Or = record w { group = group; pending = next.Not
 finish_group link w group next.Nothing =
     finish_formula link (group_formula link group) (record w { group = no_group })
 
-abbrev pub emit_value : Link → FullQuals → Value → Walk → Option Group → Walk
+abbrev pub emit_value : Link → CompleteQualifiers → Value → Walk → Option Group → Walk
 emit_value link q v w None = finish_formula link (qualified_formula link q v) (flush_group link w)
 emit_value link q v w (Some group) = finish_group link w group w.pending
 
@@ -149,7 +149,7 @@ emit_truth_node link w _ = finish_truth (block w.code w.to.no) w
 -- one more node
 abbrev pub emit_node : Link → Walk → Node → Walk
 emit_node link w (node.Join join) = emit_join link join w
-emit_node link w (node.Qualified quals v) = emit_value link quals v w (larger_group quals v w.group)
+emit_node link w (node.Qualified q v) = emit_value link q v w (larger_group q v w.group)
 emit_node link w (node.Literal n) =
     finish_number link w.numbers (with_insns (plain (Load Accumulator Immediate) n ∷ w.code) w)
 emit_node link w (node.Named n) =
@@ -169,8 +169,8 @@ emit_node link w (node.Cast protocol c) =
     emit_truth_node link (flush_group link w) (node.Cast protocol c)
 emit_node link w (node.Sized size n) = emit_truth_node link (flush_group link w) (node.Sized size n)
 emit_node link w (node.Bare v) = emit_truth_node link (flush_group link w) (node.Bare v)
-emit_node link w (node.Valued quals v) =
-    emit_truth_node link (flush_group link w) (node.Valued quals v)
+emit_node link w (node.Valued qualifiers v) =
+    emit_truth_node link (flush_group link w) (node.Valued qualifiers v)
 emit_node link w (node.Compare comparison) =
     emit_truth_node link (flush_group link w) (node.Compare comparison)
 emit_node link w node.Not = emit_truth_node link (flush_group link w) node.Not
@@ -213,7 +213,7 @@ is_truth_node (node.Check protocol) = true
 is_truth_node (node.Cast protocol c) = true
 is_truth_node (node.Sized size n) = true
 is_truth_node (node.Bare v) = true
-is_truth_node (node.Valued quals v) = true
+is_truth_node (node.Valued qualifiers v) = true
 is_truth_node (node.Compare comparison) = true
 is_truth_node node.Not = true
 is_truth_node _ = false

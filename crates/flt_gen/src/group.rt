@@ -5,7 +5,7 @@ ghost use Rattle.std.specs.List.{insert};
 ghost use Rattle.flt_gen.specs.Group.{no_group, insert_ascending, same_type, same_protocol};
 ghost use Rattle.flt_gen.specs.Group.{same_direction, goes_with, member_number, larger_group};
 
-use flt_tree::{Direction, FullQuals, Value};
+use flt_tree::{CompleteQualifiers, Direction, Value};
 use flt_words::{Join, Protocol, Side, ValueType};
 use std::alloc::{AllocError, Allocator};
 use std::marker::Model;
@@ -150,29 +150,29 @@ impl<A: Allocator> Group<A> {
         &self.numbers
     }
 
-    fn goes_with(&self, quals: FullQuals) -> bool
-        ensures { result ≡ goes_with quals self.now self.now.numbers }
+    fn goes_with(&self, qualifiers: CompleteQualifiers) -> bool
+        ensures { result ≡ goes_with qualifiers self.now self.now.numbers }
     {
         self.numbers.is_empty()
-            || (same_type(quals.value_type, self.value_type)
-                && (same_protocol(quals.protocol, self.protocol)
-                    && (same_direction(quals.direction, self.direction)
+            || (same_type(qualifiers.value_type, self.value_type)
+                && (same_protocol(qualifiers.protocol, self.protocol)
+                    && (same_direction(qualifiers.direction, self.direction)
                         && self.numbers.len() < MOST_TOGETHER)))
     }
 
     /// A member in front of the others, if it goes with them. The result is whether it does.
-    pub fn add(&mut self, quals: FullQuals, value: Value) -> Result<bool, AllocError>
-        ensures taken { IfOk result (λ taken. larger_group quals value self.old
+    pub fn add(&mut self, qualifiers: CompleteQualifiers, value: Value) -> Result<bool, AllocError>
+        ensures taken { IfOk result (λ taken. larger_group qualifiers value self.old
             ≡ (if taken then Some self.new else None)) }
         ensures same { IfOk result (λ taken. self.new ≡ (if taken then self.new else self.old)) }
     {
-        match member_number(quals.value_type, value) {
-            Some(number) if self.goes_with(quals) => {
+        match member_number(qualifiers.value_type, value) {
+            Some(number) if self.goes_with(qualifiers) => {
                 let at = place_among(&self.numbers, number);
                 self.numbers.insert(at, number)?;
-                self.value_type = quals.value_type;
-                self.protocol = quals.protocol;
-                self.direction = quals.direction;
+                self.value_type = qualifiers.value_type;
+                self.protocol = qualifiers.protocol;
+                self.direction = qualifiers.direction;
                 self.first = number;
                 Ok(true)
             }

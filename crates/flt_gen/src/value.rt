@@ -13,7 +13,7 @@ use crate::primitive::{emit_ether_host, emit_proto};
 use crate::wanted::{Hosts, NetTest, PortTest, Ports};
 use flt_bpf::operation::{Operand, Operation, Register, Source};
 use flt_code::{Code, Context, emit_comparison};
-use flt_tree::{Direction, FullQuals, Value};
+use flt_tree::{CompleteQualifiers, Direction, Value};
 use flt_words::{Comparison, Protocol, Size, ValueType};
 use std::alloc::{AllocError, Allocator};
 
@@ -67,15 +67,15 @@ fn emit_net_value<A: Allocator>(
 pub fn emit_qualified<A: Allocator>(
     code: &mut Code<A>,
     context: Context,
-    quals: FullQuals,
+    qualifiers: CompleteQualifiers,
     value: Value,
 ) -> Result<usize, AllocError>
     requires { HasRoom 96 code.old }
-    ensures { EmitsFormula 96 result context (qualified_formula context.link quals value)
+    ensures { EmitsFormula 96 result context (qualified_formula context.link qualifiers value)
         code.old code.new }
 {
-    let (protocol, direction) = (quals.protocol, quals.direction);
-    match (quals.value_type, value) {
+    let (protocol, direction) = (qualifiers.protocol, qualifiers.direction);
+    match (qualifiers.value_type, value) {
         (ValueType::Host, value) => emit_host(code, context, protocol, direction, value),
         (ValueType::Net, value) => emit_net_value(code, context, protocol, direction, value),
         (ValueType::Port, Value::Number(port, _)) => {

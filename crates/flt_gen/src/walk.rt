@@ -23,7 +23,7 @@ use cap_octet::Link;
 use flt_bpf::insn::Insn;
 use flt_bpf::operation::{Operand, Operation, Register, Source};
 use flt_code::{Code, Context, Targets, emit_comparison};
-use flt_tree::{FullQuals, Node, Value};
+use flt_tree::{CompleteQualifiers, Node, Value};
 use flt_words::{Comparison, Join, Operator, Protocol};
 use std::alloc::{AllocError, Allocator};
 use std::marker::Model;
@@ -213,18 +213,23 @@ impl<A: Allocator> Walk<A> {
     }
 
     /// A value with all its qualifiers.
-    fn emit_value(&mut self, link: Link, quals: FullQuals, value: Value) -> Result<(), AllocError>
+    fn emit_value(
+        &mut self,
+        link: Link,
+        qualifiers: CompleteQualifiers,
+        value: Value,
+    ) -> Result<(), AllocError>
         requires before { length self.old.code < 2 ^ 30 }
         requires some { length self.old.group.numbers ≤ 4096 }
-        ensures { OnOk result (self.new ≡ emit_value link quals value self.old
-            (larger_group quals value self.old.group)) }
+        ensures { OnOk result (self.new ≡ emit_value link qualifiers value self.old
+            (larger_group qualifiers value self.old.group)) }
     {
-        if self.group.add(quals, value)? {
+        if self.group.add(qualifiers, value)? {
             return self.finish_group(link);
         }
         self.flush_group(link)?;
         let context = Context::new(link, self.to);
-        let entry = emit_qualified(&mut self.code, context, quals, value)?;
+        let entry = emit_qualified(&mut self.code, context, qualifiers, value)?;
         self.finish_truth(entry);
         Ok(())
     }
@@ -343,7 +348,7 @@ impl<A: Allocator> Walk<A> {
     {
         match node {
             Node::Join(join) => self.emit_join(link, *join),
-            Node::Qualified(quals, value) => self.emit_value(link, *quals, *value),
+            Node::Qualified(qualifiers, value) => self.emit_value(link, *qualifiers, *value),
             Node::Literal(_)
             | Node::Named(_)
             | Node::Len

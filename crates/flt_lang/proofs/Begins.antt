@@ -6,7 +6,7 @@ use Rattle.flt_words.specs.declared.token.Size.{Size}
 use Rattle.flt_words.specs.declared.token.TokenKind.{TokenKind}
 use Rattle.flt_words.specs.declared.token.TokenKind.TheVariants as token
 use Rattle.flt_tree.specs.declared.value.Value.{Value}
-use Rattle.flt_tree.specs.declared.quals.Quals.{Quals}
+use Rattle.flt_tree.specs.declared.qualifiers.Qualifiers.{Qualifiers}
 use Rattle.flt_tree.specs.declared.node.Node.{Node}
 use Rattle.flt_tree.specs.declared.node.Node.TheVariants as node
 use Rattle.flt_reader.specs.declared.frame.Frame.{Frame}
@@ -14,11 +14,11 @@ use Rattle.flt_reader.specs.declared.frame.Frame.TheVariants as frame
 use Rattle.flt_reader.specs.declared.frame.Operand.{Operand}
 use Rattle.flt_reader.specs.declared.frame.Operand.TheVariants as operand
 use Rattle.flt_tree.specs.Tree.{len, named, TruthTree, check, cast, sized, bare, valued}
-use Rattle.flt_reader.specs.Values.{quals_of, value_of, is_written}
+use Rattle.flt_reader.specs.Values.{qualifiers_of, value_of, is_written}
 use Rattle.flt_reader.specs.Grammar.{is_accessor, is_check, has_casts, of_len, of_name, Truth, of_check, of_cast, of_protocol_cast, of_sized, of_valued, of_bare}
 use Rattle.flt_tree.specs.Nodes.{truth_onto}
 use Rattle.flt_reader.specs.Machine.{operand_precedence, Begun, begin, valued_of, valued_or, check_of, primitive, bare_of, with_frames}
-use Rattle.flt_reader.proofs.Valued.{quals_sound, value_sound, side_written, left_behind}
+use Rattle.flt_reader.proofs.Valued.{qualifiers_sound, value_sound, side_written, left_behind}
 use Rattle.flt_lang.proofs.Bare.{value_left}
 use Rattle.flt_lang.proofs.Stacked.{some_first, some_then, Stacked, Behind}
 
@@ -60,22 +60,22 @@ check_sound (token.Protocol p) ts fs d start r stacked h =
     truth_begun (token.Protocol p) ts fs d start r 0 (node.Check p) (check p) stacked (of_check allowed) refl (ap (with_frames fs) is_w ∙ is)
 check_sound _ ts fs d start r stacked h = cc
 
-valued_sound : (t : TokenKind) (ts : List TokenKind) (fs : List Frame) (d : List Node) (start : List TokenKind) (q : Quals × Value × ℕ) → Stacked fs d start (t ∷ ts) → is_written (quals_of (t ∷ ts)).0 ≡ true → valued_of (t ∷ ts) ≡ Some q → SoFar (Some operand.Truth) fs (node.Valued q.0 q.1 ∷ d) start (left ts q.2)
+valued_sound : (t : TokenKind) (ts : List TokenKind) (fs : List Frame) (d : List Node) (start : List TokenKind) (q : Qualifiers × Value × ℕ) → Stacked fs d start (t ∷ ts) → is_written (qualifiers_of (t ∷ ts)).0 ≡ true → valued_of (t ∷ ts) ≡ Some q → SoFar (Some operand.Truth) fs (node.Valued q.0 q.1 ∷ d) start (left ts q.2)
 valued_sound t ts fs d start q stacked w h =
-    let (v, value_is, is) = some_first (value_of (quals_of (t ∷ ts)).1) (λ r. Some ((quals_of (t ∷ ts)).0, r.0, length (t ∷ ts) - length r.1 - 1)) q h in
-    let P : Quals × Value × ℕ → Type 0 = λ q. SoFar (Some operand.Truth) fs (node.Valued q.0 q.1 ∷ d) start (left ts q.2) in
-    let reads_quals = quals_sound (t ∷ ts) in
-    let reads_value = value_sound (quals_of (t ∷ ts)).1 v value_is in
-    let rest_is = left_drops ts (length (t ∷ ts) - length v.1 - 1) ∙ left_behind t ts (quals_of (t ∷ ts)).1 v.1 (quals_of (t ∷ ts)).0 v.0 reads_quals reads_value in
-    let reads : Truth 0 (t ∷ ts) (valued (quals_of (t ∷ ts)).0 v.0) (left ts (length (t ∷ ts) - length v.1 - 1)) = subst (λ us. Truth 0 (t ∷ ts) (valued (quals_of (t ∷ ts)).0 v.0) us) (sym rest_is) (of_valued reads_quals w reads_value) in
-    let one : ◌≡◌ {A = Quals × Value × ℕ} ((quals_of (t ∷ ts)).0, v.0, length (t ∷ ts) - length v.1 - 1) q = cc in
-    subst P one (d, (t ∷ ts), stacked, (valued (quals_of (t ∷ ts)).0 v.0, inl reads, refl))
+    let (v, value_is, is) = some_first (value_of (qualifiers_of (t ∷ ts)).1) (λ r. Some ((qualifiers_of (t ∷ ts)).0, r.0, length (t ∷ ts) - length r.1 - 1)) q h in
+    let P : Qualifiers × Value × ℕ → Type 0 = λ q. SoFar (Some operand.Truth) fs (node.Valued q.0 q.1 ∷ d) start (left ts q.2) in
+    let reads_qualifiers = qualifiers_sound (t ∷ ts) in
+    let reads_value = value_sound (qualifiers_of (t ∷ ts)).1 v value_is in
+    let rest_is = left_drops ts (length (t ∷ ts) - length v.1 - 1) ∙ left_behind t ts (qualifiers_of (t ∷ ts)).1 v.1 (qualifiers_of (t ∷ ts)).0 v.0 reads_qualifiers reads_value in
+    let reads : Truth 0 (t ∷ ts) (valued (qualifiers_of (t ∷ ts)).0 v.0) (left ts (length (t ∷ ts) - length v.1 - 1)) = subst (λ us. Truth 0 (t ∷ ts) (valued (qualifiers_of (t ∷ ts)).0 v.0) us) (sym rest_is) (of_valued reads_qualifiers w reads_value) in
+    let one : ◌≡◌ {A = Qualifiers × Value × ℕ} ((qualifiers_of (t ∷ ts)).0, v.0, length (t ∷ ts) - length v.1 - 1) q = cc in
+    subst P one (d, (t ∷ ts), stacked, (valued (qualifiers_of (t ∷ ts)).0 v.0, inl reads, refl))
 
-primitive_or : (t : TokenKind) (ts : List TokenKind) (fs : List Frame) (d : List Node) (start : List TokenKind) (r : Begun) (o : Option (Quals × Value × ℕ)) → valued_of (t ∷ ts) ≡ o → Stacked fs d start (t ∷ ts) → is_written (quals_of (t ∷ ts)).0 ≡ true → with_frames fs (valued_or o (t ∷ ts) d) ≡ Some r → After r start ts
+primitive_or : (t : TokenKind) (ts : List TokenKind) (fs : List Frame) (d : List Node) (start : List TokenKind) (r : Begun) (o : Option (Qualifiers × Value × ℕ)) → valued_of (t ∷ ts) ≡ o → Stacked fs d start (t ∷ ts) → is_written (qualifiers_of (t ∷ ts)).0 ≡ true → with_frames fs (valued_or o (t ∷ ts) d) ≡ Some r → After r start ts
 primitive_or t ts fs d start r None e stacked w h = check_sound t ts fs d start r stacked h
 primitive_or t ts fs d start r (Some q) e stacked w h = begun ts start (q.2, (fs, Some operand.Truth, node.Valued q.0 q.1 ∷ d)) r (valued_sound t ts fs d start q stacked w e) h
 
-primitive_sound : (t : TokenKind) (ts : List TokenKind) (fs : List Frame) (d : List Node) (start : List TokenKind) (r : Begun) → Stacked fs d start (t ∷ ts) → is_written (quals_of (t ∷ ts)).0 ≡ true → with_frames fs (primitive (t ∷ ts) d) ≡ Some r → After r start ts
+primitive_sound : (t : TokenKind) (ts : List TokenKind) (fs : List Frame) (d : List Node) (start : List TokenKind) (r : Begun) → Stacked fs d start (t ∷ ts) → is_written (qualifiers_of (t ∷ ts)).0 ≡ true → with_frames fs (primitive (t ∷ ts) d) ≡ Some r → After r start ts
 primitive_sound t ts fs d start r stacked w h = primitive_or t ts fs d start r (valued_of (t ∷ ts)) refl stacked w h
 
 bare_sound : (t : TokenKind) (ts : List TokenKind) (fs : List Frame) (d : List Node) (start : List TokenKind) (r : Begun) → Stacked fs d start (t ∷ ts) → with_frames fs (bare_of (t ∷ ts) d) ≡ Some r → After r start ts

@@ -1,9 +1,9 @@
 -- A filled tree has none of the faults that its source has not.
 use Rattle.std.proofs.Common.{◌≡◌, List, refl, ap, ◌∙◌, Bool, true, false, not, ◌||◌, ◌&&◌, is_some, Option, Some, None, unwrap_or}
 use Rattle.flt_words.specs.declared.token.Join.TheVariants as join
-use Rattle.flt_tree.specs.declared.quals.Direction.{Direction}
-use Rattle.flt_tree.specs.declared.quals.Direction.TheVariants as direction
-use Rattle.flt_tree.specs.declared.quals.Quals.{Quals}
+use Rattle.flt_tree.specs.declared.qualifiers.Direction.{Direction}
+use Rattle.flt_tree.specs.declared.qualifiers.Direction.TheVariants as direction
+use Rattle.flt_tree.specs.declared.qualifiers.Qualifiers.{Qualifiers}
 use Rattle.flt_tree.specs.declared.value.Value.{Value}
 use Rattle.flt_tree.specs.declared.node.Node.{Node}
 use Rattle.flt_tree.specs.Tree.{TruthTree, check, cast, sized, bare, valued, qualified, compared, denied, joined, Expression, empty, truth}
@@ -23,7 +23,7 @@ either_false true b h i = cc
 either_false false b h i = i
 
 -- what holds of no primitive holds of none of the completed tree
-completed_keeps : (f : TruthTree → Bool) → ((q : Quals) (v : Value) → f (valued q v) ≡ false → f (qualified (full q) v) ≡ false) → (a : TruthTree) → any_primitive f a ≡ false → any_primitive f (complete a) ≡ false
+completed_keeps : (f : TruthTree → Bool) → ((q : Qualifiers) (v : Value) → f (valued q v) ≡ false → f (qualified (full q) v) ≡ false) → (a : TruthTree) → any_primitive f a ≡ false → any_primitive f (complete a) ≡ false
 completed_keeps f keeps (check p) h = h
 completed_keeps f keeps (cast p c) h = h
 completed_keeps f keeps (sized s n) h = h
@@ -36,7 +36,7 @@ completed_keeps f keeps (joined j a b) h =
     let (left, right) = both_false (any_primitive f a) (any_primitive f b) h in
     either_false (any_primitive f (complete a)) (any_primitive f (complete b)) (completed_keeps f keeps a left) (completed_keeps f keeps b right)
 
-filled_keeps : (f : TruthTree → Bool) → ((q : Quals) (v : Value) → f (valued q v) ≡ false → f (qualified (full q) v) ≡ false) → (e : Expression) → some_primitive f (expr_inherited e) ≡ false → some_primitive f (fill_expression e) ≡ false
+filled_keeps : (f : TruthTree → Bool) → ((q : Qualifiers) (v : Value) → f (valued q v) ≡ false → f (qualified (full q) v) ≡ false) → (e : Expression) → some_primitive f (expr_inherited e) ≡ false → some_primitive f (fill_expression e) ≡ false
 filled_keeps f keeps empty h = h
 filled_keeps f keeps (truth a) h = completed_keeps f keeps (with_inherited only_host a) h
 
@@ -48,7 +48,7 @@ undirected false true (Some d) h = cc
 undirected false false (Some d) h = refl
 
 -- no bare value is left
-none_bare : (q : Quals) (a : TruthTree) → any_primitive is_unfilled (complete (with_inherited q a)) ≡ false
+none_bare : (q : Qualifiers) (a : TruthTree) → any_primitive is_unfilled (complete (with_inherited q a)) ≡ false
 none_bare q (check p) = refl
 none_bare q (cast p c) = refl
 none_bare q (sized s n) = refl

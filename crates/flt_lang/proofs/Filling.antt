@@ -1,12 +1,12 @@
 -- The nodes of a tree whose values inherit, and of one that is completed.
 use Rattle.std.proofs.Common.{◌≡◌, List, [], refl, sym, ap, ◌∙◌, map}
-use Rattle.flt_tree.specs.declared.quals.Quals.{Quals}
+use Rattle.flt_tree.specs.declared.qualifiers.Qualifiers.{Qualifiers}
 use Rattle.flt_tree.specs.declared.node.Node.{Node}
 use Rattle.flt_tree.specs.Tree.{NumberTree, literal, len, named, load, negated, applied, TruthTree, check, cast, sized, bare, valued, qualified, compared, denied, joined, Expression, empty, truth}
 use Rattle.flt_tree.specs.Nodes.{number_nodes, truth_nodes, expr_nodes, tree_of, tree_back, IsTree}
 use Rattle.flt_tree.specs.Filled.{latest, with_inherited, complete, only_host, expr_inherited, fill_expression, inherited_nodes, completed_node}
 
-number_inherited : (a : NumberTree) (q : Quals) (rest : List Node) → inherited_nodes q (number_nodes a rest) ≡ number_nodes a (inherited_nodes q rest)
+number_inherited : (a : NumberTree) (q : Qualifiers) (rest : List Node) → inherited_nodes q (number_nodes a rest) ≡ number_nodes a (inherited_nodes q rest)
 number_inherited (literal n) q rest = refl
 number_inherited len q rest = refl
 number_inherited (named n) q rest = refl
@@ -14,7 +14,7 @@ number_inherited (load p s a) q rest = number_inherited a q _
 number_inherited (negated a) q rest = number_inherited a q _
 number_inherited (applied o a b) q rest = number_inherited a q _ ∙ ap (number_nodes a) (number_inherited b q _)
 
-truth_inherited : (a : TruthTree) (q : Quals) (rest : List Node) → inherited_nodes q (truth_nodes a rest) ≡ truth_nodes (with_inherited q a) (inherited_nodes (latest q a) rest)
+truth_inherited : (a : TruthTree) (q : Qualifiers) (rest : List Node) → inherited_nodes q (truth_nodes a rest) ≡ truth_nodes (with_inherited q a) (inherited_nodes (latest q a) rest)
 truth_inherited (check p) q rest = refl
 truth_inherited (cast p c) q rest = refl
 truth_inherited (sized s n) q rest = refl

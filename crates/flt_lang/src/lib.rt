@@ -12,7 +12,7 @@ mod sums;
 pub use checking::check;
 pub use counts::{bound, nodes, tests, words};
 pub use flt_tree::{
-    Checked, Direction, Dotted, Expr, FullQuals, Ip4Net, NetMask, Node, Quals, Value,
+    Checked, CompleteQualifiers, Direction, Dotted, Expr, Ip4Net, NetMask, Node, Qualifiers, Value,
 };
 pub use parser::parse;
 pub use resolving::resolve;

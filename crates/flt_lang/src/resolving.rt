@@ -7,7 +7,7 @@ ghost use Rattle.flt_tree.specs.Filled.{only_host};
 ghost use Rattle.flt_tree.specs.Resolved.{fill_fault, nodes_fault, IsResolved, is_misfit_node};
 ghost use Rattle.flt_tree.specs.Resolved.{is_out_of_range_node, has_past_bits_node};
 
-use flt_tree::{Expr, Node, Quals};
+use flt_tree::{Expr, Node, Qualifiers};
 use flt_words::{ExprFault, ValueType};
 use std::alloc::Allocator;
 
@@ -37,14 +37,14 @@ pub fn resolve<A: Allocator>(expr: Expr<A>) -> Result<Expr<A>, ExprFault>
 fn inherit<A: Allocator>(nodes: &mut Vec<Node, A>)
     ensures { nodes.new.items ≡ inherited_nodes only_host nodes.old.items }
 {
-    let mut nearest = Quals {
+    let mut nearest = Qualifiers {
         protocol: None,
         direction: None,
         value_type: Some(ValueType::Host),
     };
     for i in 0..nodes.len() {
         match nodes[i] {
-            Node::Valued(quals, _) => nearest = quals,
+            Node::Valued(qualifiers, _) => nearest = qualifiers,
             Node::Bare(value) => nodes[i] = Node::Valued(nearest, value),
             _ => {}
         }

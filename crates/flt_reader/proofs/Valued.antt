@@ -8,8 +8,8 @@ use Rattle.flt_words.specs.declared.token.Side.TheVariants.{Source, Destination}
 use Rattle.flt_words.specs.declared.token.ValueType.{ValueType}
 use Rattle.flt_words.specs.declared.token.TokenKind.{TokenKind}
 use Rattle.flt_words.specs.declared.token.TokenKind.TheVariants as token
-use Rattle.flt_tree.specs.declared.quals.Direction.{Direction}
-use Rattle.flt_tree.specs.declared.quals.Quals.{Quals}
+use Rattle.flt_tree.specs.declared.qualifiers.Direction.{Direction}
+use Rattle.flt_tree.specs.declared.qualifiers.Qualifiers.{Qualifiers}
 use Rattle.flt_tree.specs.declared.value.NetMask.{NetMask}
 use Rattle.flt_tree.specs.declared.value.Value.{Value}
 use Rattle.flt_tree.specs.declared.value.Value.TheVariants as value
@@ -18,9 +18,9 @@ use Rattle.flt_tree.specs.declared.node.Node.TheVariants as node
 use Rattle.flt_reader.specs.declared.frame.Frame.{Frame}
 use Rattle.flt_reader.specs.declared.frame.Operand.{Operand}
 use Rattle.flt_reader.specs.declared.frame.Operand.TheVariants as operand
-use Rattle.flt_reader.specs.Values.{ReadsProtocol, no_protocol, protocol, ReadsDirection, no_direction, one_side, source_first, destination_first, ReadsType, no_type, of_type, ReadsQuals, quals, is_written, ReadsMask, no_mask, prefix, dotted_mask, ReadsValue, number, dotted, ip6, ip6_prefix, mac, range, starts_value, protocol_of, direction_of, type_of, quals_of, mask_of, value_of}
+use Rattle.flt_reader.specs.Values.{ReadsProtocol, no_protocol, protocol, ReadsDirection, no_direction, one_side, source_first, destination_first, ReadsType, no_type, of_type, ReadsQualifiers, qualifiers, is_written, ReadsMask, no_mask, prefix, dotted_mask, ReadsValue, number, dotted, ip6, ip6_prefix, mac, range, starts_value, protocol_of, direction_of, type_of, qualifiers_of, mask_of, value_of}
 use Rattle.flt_reader.specs.Machine.{◌>>=◌, next_precedence, State, begin, run, valued_of, valued_or, primitive, with_frames}
-use Rattle.flt_reader.proofs.ValuesBack.{type_back, direction_back, quals_back, ends_protocol, value_back}
+use Rattle.flt_reader.proofs.ValuesBack.{type_back, direction_back, qualifiers_back, ends_protocol, value_back}
 
 -- rest is what is left of ts
 pub record IsSuffix (ts rest : List TokenKind) : Type 0 where
@@ -65,11 +65,11 @@ value_suffix ip6_prefix = record { used = 3; drops = refl; long = omega arith }
 value_suffix mac = record { used = 1; drops = refl; long = omega arith }
 value_suffix range = record { used = 1; drops = refl; long = omega arith }
 
-quals_suffix : {ts mid : List TokenKind} {q : Quals} → ReadsQuals ts q mid → IsSuffix ts mid
-quals_suffix (quals p d k) = joined_suffix _ _ _ (joined_suffix _ _ _ (protocol_suffix p) (direction_suffix d)) (type_suffix k)
+qualifiers_suffix : {ts mid : List TokenKind} {q : Qualifiers} → ReadsQualifiers ts q mid → IsSuffix ts mid
+qualifiers_suffix (qualifiers p d k) = joined_suffix _ _ _ (joined_suffix _ _ _ (protocol_suffix p) (direction_suffix d)) (type_suffix k)
 
-pub whole_suffix : {ts mid rest : List TokenKind} {q : Quals} {v : Value} → ReadsQuals ts q mid → ReadsValue mid v rest → IsSuffix ts rest
-whole_suffix qs v = joined_suffix _ _ _ (quals_suffix qs) (value_suffix v)
+pub whole_suffix : {ts mid rest : List TokenKind} {q : Qualifiers} {v : Value} → ReadsQualifiers ts q mid → ReadsValue mid v rest → IsSuffix ts rest
+whole_suffix qs v = joined_suffix _ _ _ (qualifiers_suffix qs) (value_suffix v)
 
 -- a type, a direction or a protocol stands first, the last with neither a bracket nor a cast behind it
 abbrev is_front : List TokenKind → Bool
@@ -78,13 +78,13 @@ is_front (token.Side s ∷ ts) = true
 is_front (token.ValueType k ∷ ts) = true
 is_front _ = false
 
-front : {ts mid : List TokenKind} {q : Quals} → ReadsQuals ts q mid → is_written q ≡ true → starts_value mid ≡ true → is_front ts ≡ true
-front (quals protocol d k) w h = (direction_back d (type_back k h).1).1
-front (quals no_protocol no_direction no_type) w h = cc
-front (quals no_protocol no_direction of_type) w h = refl
-front (quals no_protocol one_side k) w h = refl
-front (quals no_protocol source_first k) w h = refl
-front (quals no_protocol destination_first k) w h = refl
+front : {ts mid : List TokenKind} {q : Qualifiers} → ReadsQualifiers ts q mid → is_written q ≡ true → starts_value mid ≡ true → is_front ts ≡ true
+front (qualifiers protocol d k) w h = (direction_back d (type_back k h).1).1
+front (qualifiers no_protocol no_direction no_type) w h = cc
+front (qualifiers no_protocol no_direction of_type) w h = refl
+front (qualifiers no_protocol one_side k) w h = refl
+front (qualifiers no_protocol source_first k) w h = refl
+front (qualifiers no_protocol destination_first k) w h = refl
 
 begin_protocol : (p : Protocol) (ts : List TokenKind) (fs : List Frame) (d : List Node) → ends_protocol ts ≡ true → begin (token.Protocol p ∷ ts) fs d ≡ with_frames fs (primitive (token.Protocol p ∷ ts) d)
 begin_protocol p (token.OpenBracket ∷ ts) fs d h = cc
@@ -115,14 +115,14 @@ value_some ip6_prefix = omega arith
 value_some mac = omega arith
 value_some range = omega arith
 
-pub valued_runs : {ts mid rest : List TokenKind} {q : Quals} {v : Value} → ReadsQuals ts q mid → is_written q ≡ true → ReadsValue mid v rest → (fs : List Frame) (d : List Node) → 6 ≤ next_precedence rest → run ts 0 fs None d ≡ run rest 0 fs (Some operand.Truth) (node.Valued q v ∷ d)
+pub valued_runs : {ts mid rest : List TokenKind} {q : Qualifiers} {v : Value} → ReadsQualifiers ts q mid → is_written q ≡ true → ReadsValue mid v rest → (fs : List Frame) (d : List Node) → 6 ≤ next_precedence rest → run ts 0 fs None d ≡ run rest 0 fs (Some operand.Truth) (node.Valued q v ∷ d)
 valued_runs {ts = ts} {mid = mid} {rest = rest} {q = q} {v = v} qs w vs fs d h =
     let value_is = value_back vs h in
-    let quals_are = quals_back qs value_is.1 in
-    let found : valued_of ts ≡ Some (q, v, length ts - length rest - 1) = ap (λ r. value_of r.1 >>= λ x. Some (r.0, x.0, length ts - length x.1 - 1)) quals_are ∙ ap (λ o. o >>= λ x. Some (q, x.0, length ts - length x.1 - 1)) value_is.0 in
+    let qualifiers_are = qualifiers_back qs value_is.1 in
+    let found : valued_of ts ≡ Some (q, v, length ts - length rest - 1) = ap (λ r. value_of r.1 >>= λ x. Some (r.0, x.0, length ts - length x.1 - 1)) qualifiers_are ∙ ap (λ o. o >>= λ x. Some (q, x.0, length ts - length x.1 - 1)) value_is.0 in
     let begun : begin ts fs d ≡ Some (length ts - length rest - 1, (fs, Some operand.Truth, node.Valued q v ∷ d)) = begin_front ts fs d (front qs w value_is.1) ∙ ap (λ o. with_frames fs (valued_or o ts d)) found in
     let suffix = whole_suffix qs vs in
-    let front_suffix = quals_suffix qs in
+    let front_suffix = qualifiers_suffix qs in
     let shorter = value_some vs in
     let some : 0 < length ts = omega (arith, front_suffix.long, shorter) in
     let index : suc (length ts - length rest - 1) ≡ suffix.used = omega (arith, suffix.long, front_suffix.long, shorter) in
@@ -143,8 +143,8 @@ type_sound : (ts : List TokenKind) → ReadsType ts (type_of ts).0 (type_of ts).
 type_sound (token.ValueType k ∷ ts) = of_type
 type_sound _ = no_type
 
-pub quals_sound : (ts : List TokenKind) → ReadsQuals ts (quals_of ts).0 (quals_of ts).1
-quals_sound ts = quals (protocol_sound ts) (direction_sound (protocol_of ts).1) (type_sound (direction_of (protocol_of ts).1).1)
+pub qualifiers_sound : (ts : List TokenKind) → ReadsQualifiers ts (qualifiers_of ts).0 (qualifiers_of ts).1
+qualifiers_sound ts = qualifiers (protocol_sound ts) (direction_sound (protocol_of ts).1) (type_sound (direction_of (protocol_of ts).1).1)
 
 value_moved : (ts : List TokenKind) (r s : Value × List TokenKind) → ReadsValue ts r.0 r.1 → ◌≡◌ {A = Option (Value × List TokenKind)} (Some r) (Some s) → ReadsValue ts s.0 s.1
 value_moved ts r s v same =
@@ -172,14 +172,14 @@ side_some Source _ = refl
 side_some Destination (token.Join j ∷ token.Side Source ∷ ts) = refl
 side_some Destination _ = refl
 
-pub side_written : (s : Side) (ts : List TokenKind) → is_written (quals_of (token.Side s ∷ ts)).0 ≡ true
+pub side_written : (s : Side) (ts : List TokenKind) → is_written (qualifiers_of (token.Side s ∷ ts)).0 ≡ true
 side_written s ts = ap (λ b. b || is_some (type_of (direction_of (token.Side s ∷ ts)).1).0) (side_some s ts)
 
 -- what is left of a qualified value
-pub left_behind : (t : TokenKind) (ts mid rest : List TokenKind) (q : Quals) (v : Value) → ReadsQuals (t ∷ ts) q mid → ReadsValue mid v rest → drop (length (t ∷ ts) - length rest - 1) ts ≡ rest
+pub left_behind : (t : TokenKind) (ts mid rest : List TokenKind) (q : Qualifiers) (v : Value) → ReadsQualifiers (t ∷ ts) q mid → ReadsValue mid v rest → drop (length (t ∷ ts) - length rest - 1) ts ≡ rest
 left_behind t ts mid rest q v qs vs =
     let suffix = whole_suffix qs vs in
-    let front_suffix = quals_suffix qs in
+    let front_suffix = qualifiers_suffix qs in
     let shorter = value_some vs in
     let index : suc (length (t ∷ ts) - length rest - 1) ≡ suffix.used = omega (arith, suffix.long, front_suffix.long, shorter) in
     ap (λ k. drop k (t ∷ ts)) index ∙ suffix.drops

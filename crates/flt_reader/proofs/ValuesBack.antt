@@ -8,12 +8,12 @@ use Rattle.flt_words.specs.declared.token.Side.TheVariants.{Source, Destination}
 use Rattle.flt_words.specs.declared.token.ValueType.{ValueType}
 use Rattle.flt_words.specs.declared.token.TokenKind.{TokenKind}
 use Rattle.flt_words.specs.declared.token.TokenKind.TheVariants as token
-use Rattle.flt_tree.specs.declared.quals.Direction.{Direction}
-use Rattle.flt_tree.specs.declared.quals.Direction.TheVariants as direction
-use Rattle.flt_tree.specs.declared.quals.Quals.{Quals}
+use Rattle.flt_tree.specs.declared.qualifiers.Direction.{Direction}
+use Rattle.flt_tree.specs.declared.qualifiers.Direction.TheVariants as direction
+use Rattle.flt_tree.specs.declared.qualifiers.Qualifiers.{Qualifiers}
 use Rattle.flt_tree.specs.declared.value.NetMask.{NetMask}
 use Rattle.flt_tree.specs.declared.value.Value.{Value}
-use Rattle.flt_reader.specs.Values.{ReadsProtocol, no_protocol, protocol, ReadsDirection, no_direction, one_side, source_first, destination_first, ReadsType, no_type, of_type, ReadsQuals, quals, ReadsMask, no_mask, prefix, dotted_mask, ReadsValue, number, dotted, ip6, ip6_prefix, mac, range, starts_value, protocol_of, direction_of, type_of, quals_of, mask_of, value_of}
+use Rattle.flt_reader.specs.Values.{ReadsProtocol, no_protocol, protocol, ReadsDirection, no_direction, one_side, source_first, destination_first, ReadsType, no_type, of_type, ReadsQualifiers, qualifiers, ReadsMask, no_mask, prefix, dotted_mask, ReadsValue, number, dotted, ip6, ip6_prefix, mac, range, starts_value, protocol_of, direction_of, type_of, qualifiers_of, mask_of, value_of}
 use Rattle.flt_reader.specs.Grammar.{level}
 use Rattle.flt_reader.specs.Machine.{next_precedence}
 
@@ -79,8 +79,8 @@ protocol_back : {ts rest : List TokenKind} {p : Option Protocol} → ReadsProtoc
 protocol_back (no_protocol {ts = ts}) h = protocol_none ts h
 protocol_back protocol h = refl
 
-pub quals_back : {ts rest : List TokenKind} {q : Quals} → ReadsQuals ts q rest → starts_value rest ≡ true → quals_of ts ≡ (q, rest)
-quals_back (quals p d k) h =
+pub qualifiers_back : {ts rest : List TokenKind} {q : Qualifiers} → ReadsQualifiers ts q rest → starts_value rest ≡ true → qualifiers_of ts ≡ (q, rest)
+qualifiers_back (qualifiers p d k) h =
     let t = type_back k h in
     let e = direction_back d t.1 in
     let f = protocol_back p e.1 in

@@ -12,8 +12,8 @@ use Rattle.flt_words.specs.declared.token.Token.{Token}
 use Rattle.flt_words.specs.declared.token.TokenKind.{TokenKind}
 use Rattle.flt_words.specs.declared.token.TokenKind.TheVariants as token
 use Rattle.flt_tree.specs.declared.value.Value.{Value}
-use Rattle.flt_tree.specs.declared.quals.Quals.{Quals}
-use Rattle.flt_reader.specs.Values.{ReadsQuals, is_written, ReadsValue}
+use Rattle.flt_tree.specs.declared.qualifiers.Qualifiers.{Qualifiers}
+use Rattle.flt_reader.specs.Values.{ReadsQualifiers, is_written, ReadsValue}
 use Rattle.flt_tree.specs.Tree.{NumberTree, literal, len, named, load, negated, applied, TruthTree, check, cast, sized, bare, valued, compared, denied, joined, Expression, empty, truth}
 
 -- the level of an operator: its chains are of operands of this level
@@ -76,7 +76,7 @@ pub data Truth : ℕ → List TokenKind → TruthTree → List TokenKind → Typ
       → Truth 0 (token.Protocol p ∷ token.Cast c ∷ rest) (cast (Some p) c) rest
   of_sized : {s : Size} {n : ℕ} {rest : List TokenKind}
       → Truth 0 (token.Size s ∷ token.Number n ∷ rest) (sized s n) rest
-  of_valued : {ts mid rest : List TokenKind} {q : Quals} {v : Value} → ReadsQuals ts q mid
+  of_valued : {ts mid rest : List TokenKind} {q : Qualifiers} {v : Value} → ReadsQualifiers ts q mid
       → is_written q ≡ true → ReadsValue mid v rest → Truth 0 ts (valued q v) rest
   of_bare : {ts rest : List TokenKind} {v : Value} → ReadsValue ts v rest → Truth 0 ts (bare v) rest
   relation : {c : Comparison} {ts mid rest : List TokenKind} {a b : NumberTree}

@@ -10,7 +10,7 @@ use Rattle.flt_tree.specs.declared.value.NetMask.{NetMask}
 use Rattle.flt_tree.specs.declared.value.NetMask.TheVariants as mask
 use Rattle.flt_tree.specs.declared.value.Value.{Value}
 use Rattle.flt_tree.specs.declared.value.Value.TheVariants as value
-use Rattle.flt_tree.specs.declared.quals.Quals.{Quals}
+use Rattle.flt_tree.specs.declared.qualifiers.Qualifiers.{Qualifiers}
 use Rattle.flt_tree.specs.declared.node.Node.{Node}
 use Rattle.flt_tree.specs.declared.node.Node.TheVariants as node
 use Rattle.flt_reader.specs.declared.frame.Frame.{Frame}
@@ -22,7 +22,7 @@ use Rattle.flt_reader.specs.declared.frame.Operand.TheVariants as operand
 use Rattle.flt_reader.specs.declared.frame.Sort.{Sort}
 use Rattle.flt_reader.specs.declared.frame.Sort.TheVariants as sort
 use Rattle.flt_tree.specs.Tree.{NumberTree, literal, len, named, load, negated, applied, TruthTree, check, cast, sized, bare, valued, qualified, compared, denied, joined, Expression, empty, truth}
-use Rattle.flt_reader.specs.Values.{quals_of, value_of}
+use Rattle.flt_reader.specs.Values.{qualifiers_of, value_of}
 use Rattle.flt_reader.specs.Grammar.{level, is_check, is_accessor, has_casts}
 
 -- what the parser keeps: the frames that wait and the nodes that are written
@@ -198,16 +198,18 @@ abbrev pub Primitive : Type 0
 Primitive = ℕ × Option Operand × List Node
 
 -- a value with what stands before it, and how many tokens more than one they are
-abbrev pub valued_of : List TokenKind → Option (Quals × Value × ℕ)
+abbrev pub valued_of : List TokenKind → Option (Qualifiers × Value × ℕ)
 valued_of ts =
-    value_of (quals_of ts).1 >>= λ r. Some ((quals_of ts).0, r.0, length ts - length r.1 - 1)
+    let q = qualifiers_of ts in
+    value_of q.1 >>= λ r. Some (q.0, r.0, length ts - length r.1 - 1)
 
 abbrev pub check_of : List TokenKind → List Node → Option Primitive
 check_of (token.Protocol p ∷ ts) d =
     if is_check p then Some (0, Some operand.Truth, node.Check p ∷ d) else None
 check_of _ d = None
 
-abbrev pub valued_or : Option (Quals × Value × ℕ) → List TokenKind → List Node → Option Primitive
+abbrev pub valued_or : Option (Qualifiers × Value × ℕ) → List TokenKind → List Node
+    → Option Primitive
 valued_or (Some r) ts d = Some (r.2, Some operand.Truth, node.Valued r.0 r.1 ∷ d)
 valued_or None ts d = check_of ts d
 

@@ -9,9 +9,9 @@ use Rattle.flt_words.specs.declared.token.Join.{Join}
 use Rattle.flt_words.specs.declared.token.Operator.TheVariants.{Divide}
 use Rattle.flt_words.specs.declared.token.TokenKind.{TokenKind}
 use Rattle.flt_words.specs.declared.token.TokenKind.TheVariants as token
-use Rattle.flt_tree.specs.declared.quals.Direction.{Direction}
-use Rattle.flt_tree.specs.declared.quals.Direction.TheVariants as direction
-use Rattle.flt_tree.specs.declared.quals.Quals.{Quals}
+use Rattle.flt_tree.specs.declared.qualifiers.Direction.{Direction}
+use Rattle.flt_tree.specs.declared.qualifiers.Direction.TheVariants as direction
+use Rattle.flt_tree.specs.declared.qualifiers.Qualifiers.{Qualifiers}
 use Rattle.flt_tree.specs.declared.value.NetMask.{NetMask}
 use Rattle.flt_tree.specs.declared.value.NetMask.TheVariants as mask
 use Rattle.flt_tree.specs.declared.value.Value.{Value}
@@ -37,14 +37,14 @@ pub data ReadsType : List TokenKind → Option ValueType → List TokenKind → 
   no_type : {ts : List TokenKind} → ReadsType ts None ts
   of_type : {k : ValueType} {ts : List TokenKind} → ReadsType (token.ValueType k ∷ ts) (Some k) ts
 
-pub data ReadsQuals : List TokenKind → Quals → List TokenKind → Type 0 where
-  quals : {ts mid later rest : List TokenKind}
+pub data ReadsQualifiers : List TokenKind → Qualifiers → List TokenKind → Type 0 where
+  qualifiers : {ts mid later rest : List TokenKind}
       {p : Option Protocol} {d : Option Direction} {k : Option ValueType}
       → ReadsProtocol ts p mid → ReadsDirection mid d later → ReadsType later k rest
-      → ReadsQuals ts (record { protocol = p; direction = d; value_type = k }) rest
+      → ReadsQualifiers ts (record { protocol = p; direction = d; value_type = k }) rest
 
 -- something is written before the value
-abbrev pub is_written : Quals → Bool
+abbrev pub is_written : Qualifiers → Bool
 is_written q = is_some q.protocol || is_some q.direction || is_some q.value_type
 
 pub data ReadsMask : List TokenKind → NetMask → List TokenKind → Type 0 where
@@ -95,8 +95,8 @@ abbrev pub type_of : List TokenKind → Option ValueType × List TokenKind
 type_of (token.ValueType k ∷ ts) = (Some k, ts)
 type_of ts = (None, ts)
 
-abbrev pub quals_of : List TokenKind → Quals × List TokenKind
-quals_of ts =
+abbrev pub qualifiers_of : List TokenKind → Qualifiers × List TokenKind
+qualifiers_of ts =
     let p = protocol_of ts in
     let d = direction_of p.1 in
     let k = type_of d.1 in

@@ -4,14 +4,14 @@
 ghost use Rattle.std.specs.Prelude.{◌≡◌, ◌∷◌, List, IsTrue, IfSome, IfNone};
 ghost use Rattle.std.specs.Prelude.{Some, None, length, slice_get, drop, ◌<◌, ◌≤◌};
 ghost use Rattle.flt_words.specs.declared.token.TokenKind.{TokenKind};
-ghost use Rattle.flt_tree.specs.declared.quals.Quals.{Quals};
+ghost use Rattle.flt_tree.specs.declared.qualifiers.Qualifiers.{Qualifiers};
 ghost use Rattle.flt_reader.specs.Grammar.{kinds_of};
-ghost use Rattle.flt_reader.specs.Values.{quals_of, protocol_of, direction_of, type_of};
+ghost use Rattle.flt_reader.specs.Values.{qualifiers_of, protocol_of, direction_of, type_of};
 ghost use Rattle.flt_reader.specs.Values.{is_opposite, both_of};
 ghost use Rattle.flt_reader.specs.Values.{mask_of, prefix_of, value_of};
 ghost use Rattle.flt_reader.specs.Machine.{valued_of};
 
-use flt_tree::{Direction, Dotted, NetMask, Quals, Value};
+use flt_tree::{Direction, Dotted, NetMask, Qualifiers, Value};
 use flt_words::{Join, Operator, Protocol, Side, Token, TokenKind, ValueType};
 
 /// The kind of the token at an index, if there is one.
@@ -78,20 +78,20 @@ fn read_type(tokens: &[Token]) -> (Option<ValueType>, usize)
     }
 }
 
-fn read_quals(tokens: &[Token]) -> (Quals, usize)
-    ensures quals { result.0 ≡ (quals_of (kinds_of tokens.now)).0 }
-    ensures rest { kinds_of (drop result.1 tokens.now) ≡ (quals_of (kinds_of tokens.now)).1 }
+fn read_qualifiers(tokens: &[Token]) -> (Qualifiers, usize)
+    ensures qualifiers { result.0 ≡ (qualifiers_of (kinds_of tokens.now)).0 }
+    ensures rest { kinds_of (drop result.1 tokens.now) ≡ (qualifiers_of (kinds_of tokens.now)).1 }
     ensures within { result.1 ≤ length tokens.now }
 {
     let (protocol, a) = read_protocol(tokens);
     let (direction, b) = read_direction(&tokens[a..]);
     let (value_type, c) = read_type(&tokens[a + b..]);
-    let quals = Quals {
+    let qualifiers = Qualifiers {
         protocol,
         direction,
         value_type,
     };
-    (quals, a + b + c)
+    (qualifiers, a + b + c)
 }
 
 fn read_mask(tokens: &[Token]) -> (NetMask, usize)
@@ -166,11 +166,11 @@ pub fn read_value(tokens: &[Token]) -> Option<(Value, usize)>
 }
 
 /// A value with what stands before it, and how many tokens more than one they are.
-pub fn read_valued(tokens: &[Token]) -> Option<(Quals, Value, usize)>
+pub fn read_valued(tokens: &[Token]) -> Option<(Qualifiers, Value, usize)>
     ensures value { result ≡ valued_of (kinds_of tokens.now) }
     ensures within { IfSome result (λ r. r.2 < length tokens.now) }
 {
-    let (quals, used) = read_quals(tokens);
+    let (qualifiers, used) = read_qualifiers(tokens);
     let (value, more) = read_value(&tokens[used..])?;
-    Some((quals, value, used + more - 1))
+    Some((qualifiers, value, used + more - 1))
 }

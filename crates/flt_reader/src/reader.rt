@@ -1,5 +1,5 @@
-//! The parser's state and its steps. It reads the tokens once, by operator precedence with one stack
-//! of frames, and decides late which sort an operand is of.
+//! The parser's state and its steps. It reads the tokens once, by operator precedence with one
+//! stack of frames, and decides late which sort an operand is of.
 
 ghost use Rattle.std.specs.Prelude.{◌≡◌, ◌≤◌, ◌<◌, ◌∷◌, [], IfErr, IfNone, IfOk, IfSome};
 ghost use Rattle.std.specs.Prelude.{MatchOption, OnOk, length, reverse, List, Some, None, Err};
@@ -550,8 +550,8 @@ fn read_primitive(tokens: &[Token]) -> Option<(Node, usize)>
         one_node nodes result ≡ primitive (kinds_of tokens.now) nodes }
     ensures within { IfSome result (λ r. r.1 < length tokens.now) }
 {
-    if let Some((quals, value, more)) = read_valued(tokens) {
-        return Some((Node::Valued(quals, value), more));
+    if let Some((qualifiers, value, more)) = read_valued(tokens) {
+        return Some((Node::Valued(qualifiers, value), more));
     }
     match kind_at(tokens, 0) {
         Some(TokenKind::Protocol(protocol)) if is_check(protocol) => {

@@ -100,7 +100,8 @@ same_step (Some op) j l i ls =
     && ((implies (reads_accumulator op) l.accumulator && implies (reads_index op) l.index)
     && goes_on op j l i ls)
 
--- the code of a mask, that of a test whether A is a number, and that of a test whether A has a bit of k
+-- the code of a mask, that of a test whether A is a number, and that of a test whether A has a bit
+-- of k
 abbrev pub MASK : ℕ
 MASK = code_of (Compute And Constant)
 

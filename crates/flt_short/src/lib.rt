@@ -1,5 +1,5 @@
-//! A program of fewer instructions for another one: jumps go past loads of what is in A already, and
-//! one instruction replaces several that do the same.
+//! A program of fewer instructions for another one: jumps go past loads of what is in A already,
+//! and one instruction replaces several that do the same.
 #![tactic(auto)]
 
 mod alike;

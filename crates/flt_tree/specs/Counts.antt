@@ -8,9 +8,9 @@ use Rattle.flt_words.specs.declared.token.Cast.{Cast}
 use Rattle.flt_words.specs.declared.token.Cast.TheVariants as casts
 use Rattle.flt_words.specs.declared.token.ValueType.{ValueType}
 use Rattle.flt_words.specs.declared.token.ValueType.TheVariants.{Host, Net, Port, PortRange, Proto}
-use Rattle.flt_tree.specs.declared.quals.Direction.{Direction}
-use Rattle.flt_tree.specs.declared.quals.Direction.TheVariants as direction
-use Rattle.flt_tree.specs.declared.quals.FullQuals.{FullQuals}
+use Rattle.flt_tree.specs.declared.qualifiers.Direction.{Direction}
+use Rattle.flt_tree.specs.declared.qualifiers.Direction.TheVariants as direction
+use Rattle.flt_tree.specs.declared.qualifiers.CompleteQualifiers.{CompleteQualifiers}
 use Rattle.flt_tree.specs.declared.value.Value.{Value}
 use Rattle.flt_tree.specs.declared.value.Value.TheVariants as value
 use Rattle.flt_tree.specs.declared.node.Node.{Node}
@@ -77,7 +77,7 @@ typed_tests Port p d v = port_tests p d 1
 typed_tests PortRange p d v = port_tests p d 2
 typed_tests Proto p d v = proto_tests p
 
-abbrev pub value_tests : FullQuals → Value → ℕ
+abbrev pub value_tests : CompleteQualifiers → Value → ℕ
 value_tests q v = typed_tests q.value_type q.protocol q.direction v
 
 -- the checks of an accessor: the protocol, and of one above IPv4 its number and that the packet is

@@ -3,15 +3,15 @@ use Rattle.std.specs.Prelude.{List, [], ◌∷◌, Some, None, unwrap_or}
 use Rattle.flt_words.specs.declared.token.Join.TheVariants as join
 use Rattle.flt_words.specs.declared.token.ValueType.{ValueType}
 use Rattle.flt_words.specs.declared.token.ValueType.TheVariants.{Host}
-use Rattle.flt_tree.specs.declared.quals.Direction.TheVariants as direction
-use Rattle.flt_tree.specs.declared.quals.Quals.{Quals}
-use Rattle.flt_tree.specs.declared.quals.FullQuals.{FullQuals}
+use Rattle.flt_tree.specs.declared.qualifiers.Direction.TheVariants as direction
+use Rattle.flt_tree.specs.declared.qualifiers.Qualifiers.{Qualifiers}
+use Rattle.flt_tree.specs.declared.qualifiers.CompleteQualifiers.{CompleteQualifiers}
 use Rattle.flt_tree.specs.declared.node.Node.{Node}
 use Rattle.flt_tree.specs.declared.node.Node.TheVariants as node
 use Rattle.flt_tree.specs.Tree.{TruthTree, bare, valued, qualified, denied, joined, Expression, empty, truth}
 
 -- the qualifiers of the last value in a tree that has some written before it, or else q
-abbrev pub latest : Quals → TruthTree → Quals
+abbrev pub latest : Qualifiers → TruthTree → Qualifiers
 latest q (valued p v) = p
 latest q (denied a) = latest q a
 latest q (joined j a b) = latest (latest q a) b
@@ -19,17 +19,17 @@ latest q _ = q
 
 -- each bare value takes the qualifiers of the nearest value to its left that has some, or q where
 -- there is none
-abbrev pub with_inherited : Quals → TruthTree → TruthTree
+abbrev pub with_inherited : Qualifiers → TruthTree → TruthTree
 with_inherited q (bare v) = valued q v
 with_inherited q (denied a) = denied (with_inherited q a)
 with_inherited q (joined j a b) = joined j (with_inherited q a) (with_inherited (latest q a) b)
 with_inherited q a = a
 
 -- a type that is left out is `host`, a direction `src or dst`
-abbrev pub type_or_host : Quals → ValueType
+abbrev pub type_or_host : Qualifiers → ValueType
 type_or_host q = unwrap_or q.value_type Host
 
-abbrev pub full : Quals → FullQuals
+abbrev pub full : Qualifiers → CompleteQualifiers
 full q =
     record {
       protocol = q.protocol;
@@ -44,7 +44,7 @@ complete (joined j a b) = joined j (complete a) (complete b)
 complete a = a
 
 -- where nothing is to the left
-abbrev pub only_host : Quals
+abbrev pub only_host : Qualifiers
 only_host = record { protocol = None; direction = None; value_type = Some Host }
 
 abbrev pub expr_inherited : Expression → Expression
@@ -56,15 +56,15 @@ fill_expression empty = empty
 fill_expression (truth a) = truth (complete (with_inherited only_host a))
 
 -- the same over the nodes
-abbrev pub next_latest : Quals → Node → Quals
+abbrev pub next_latest : Qualifiers → Node → Qualifiers
 next_latest q (node.Valued p v) = p
 next_latest q _ = q
 
-abbrev pub inherited_node : Quals → Node → Node
+abbrev pub inherited_node : Qualifiers → Node → Node
 inherited_node q (node.Bare v) = node.Valued q v
 inherited_node q n = n
 
-abbrev pub inherited_nodes : Quals → List Node → List Node
+abbrev pub inherited_nodes : Qualifiers → List Node → List Node
 inherited_nodes q [] = []
 inherited_nodes q (n ∷ rest) = inherited_node q n ∷ inherited_nodes (next_latest q n) rest
 

@@ -7,8 +7,8 @@ use Rattle.flt_words.specs.declared.token.Cast.{Cast}
 use Rattle.flt_words.specs.declared.token.Cast.TheVariants as casts
 use Rattle.flt_words.specs.declared.token.ValueType.{ValueType}
 use Rattle.flt_words.specs.declared.token.ValueType.TheVariants.{Host, Net, Port, PortRange, Proto}
-use Rattle.flt_tree.specs.declared.quals.Direction.{Direction}
-use Rattle.flt_tree.specs.declared.quals.Direction.TheVariants as direction
+use Rattle.flt_tree.specs.declared.qualifiers.Direction.{Direction}
+use Rattle.flt_tree.specs.declared.qualifiers.Direction.TheVariants as direction
 use Rattle.flt_tree.specs.declared.value.Dotted.{Dotted}
 use Rattle.flt_tree.specs.declared.value.NetMask.{NetMask}
 use Rattle.flt_tree.specs.declared.value.NetMask.TheVariants as mask

@@ -7,8 +7,8 @@ use Rattle.flt_words.specs.declared.token.Join.{Join}
 use Rattle.flt_words.specs.declared.token.Cast.{Cast}
 use Rattle.flt_words.specs.declared.token.Size.{Size}
 use Rattle.flt_tree.specs.declared.value.Value.{Value}
-use Rattle.flt_tree.specs.declared.quals.Quals.{Quals}
-use Rattle.flt_tree.specs.declared.quals.FullQuals.{FullQuals}
+use Rattle.flt_tree.specs.declared.qualifiers.Qualifiers.{Qualifiers}
+use Rattle.flt_tree.specs.declared.qualifiers.CompleteQualifiers.{CompleteQualifiers}
 
 -- an accessor has its size in bytes and its place
 pub data NumberTree : Type 0 where
@@ -25,8 +25,8 @@ pub data TruthTree : Type 0 where
   cast : Option Protocol → Cast → TruthTree
   sized : Size → ℕ → TruthTree
   bare : Value → TruthTree
-  valued : Quals → Value → TruthTree
-  qualified : FullQuals → Value → TruthTree
+  valued : Qualifiers → Value → TruthTree
+  qualified : CompleteQualifiers → Value → TruthTree
   compared : Comparison → NumberTree → NumberTree → TruthTree
   denied : TruthTree → TruthTree
   joined : Join → TruthTree → TruthTree → TruthTree

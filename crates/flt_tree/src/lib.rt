@@ -8,12 +8,12 @@ mod fits;
 mod net;
 mod node;
 mod node_counts;
-mod quals;
+mod qualifiers;
 mod value;
 
 pub use checked::Checked;
 pub use expr::Expr;
 pub use net::Ip4Net;
 pub use node::Node;
-pub use quals::{Direction, FullQuals, Quals};
+pub use qualifiers::{CompleteQualifiers, Direction, Qualifiers};
 pub use value::{Dotted, NetMask, Value};

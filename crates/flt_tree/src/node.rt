@@ -2,7 +2,7 @@
 
 use crate::fits::{Fit, fit_of, is_cast_misfit};
 use crate::node_counts::{accessor_tests, cast_tests, check_tests, value_tests};
-use crate::quals::{Direction, FullQuals, Quals};
+use crate::qualifiers::{CompleteQualifiers, Direction, Qualifiers};
 use crate::value::Value;
 use flt_words::{Cast, Comparison, Join, Operator, Protocol, Size, ValueType};
 
@@ -19,9 +19,9 @@ pub enum Node {
     /// A value with nothing before it.
     Bare(Value),
     /// A value with what is written before it.
-    Valued(Quals, Value),
+    Valued(Qualifiers, Value),
     /// A value with all its qualifiers.
-    Qualified(FullQuals, Value),
+    Qualified(CompleteQualifiers, Value),
     /// Takes two numbers.
     Compare(Comparison),
     /// Takes a truth.
@@ -56,15 +56,15 @@ impl Node {
     {
         match self {
             Node::Cast(protocol, cast) => is_cast_misfit(protocol, cast),
-            Node::Valued(quals, value) => {
-                let value_type = quals.type_or_host();
-                fit_of(value_type, value, quals.protocol) == Fit::Misfit
-                    || value_type == ValueType::Proto && quals.direction.is_some()
+            Node::Valued(qualifiers, value) => {
+                let value_type = qualifiers.type_or_host();
+                fit_of(value_type, value, qualifiers.protocol) == Fit::Misfit
+                    || value_type == ValueType::Proto && qualifiers.direction.is_some()
             }
-            Node::Qualified(quals, value) => {
-                fit_of(quals.value_type, value, quals.protocol) == Fit::Misfit
-                    || quals.value_type == ValueType::Proto
-                        && !matches!(quals.direction, Direction::Both(Join::Or))
+            Node::Qualified(qualifiers, value) => {
+                fit_of(qualifiers.value_type, value, qualifiers.protocol) == Fit::Misfit
+                    || qualifiers.value_type == ValueType::Proto
+                        && !matches!(qualifiers.direction, Direction::Both(Join::Or))
             }
             _ => false,
         }
@@ -75,11 +75,11 @@ impl Node {
         ensures { result ≡ is_out_of_range_node self }
     {
         match self {
-            Node::Valued(quals, value) => {
-                fit_of(quals.type_or_host(), value, quals.protocol) == Fit::OutOfRange
+            Node::Valued(qualifiers, value) => {
+                fit_of(qualifiers.type_or_host(), value, qualifiers.protocol) == Fit::OutOfRange
             }
-            Node::Qualified(quals, value) => {
-                fit_of(quals.value_type, value, quals.protocol) == Fit::OutOfRange
+            Node::Qualified(qualifiers, value) => {
+                fit_of(qualifiers.value_type, value, qualifiers.protocol) == Fit::OutOfRange
             }
             Node::Load(_, size) => !matches!(size, 1 | 2 | 4),
             _ => false,
@@ -91,11 +91,11 @@ impl Node {
         ensures { result ≡ has_past_bits_node self }
     {
         match self {
-            Node::Valued(quals, value) => {
-                quals.type_or_host() == ValueType::Net && value.is_past_mask()
+            Node::Valued(qualifiers, value) => {
+                qualifiers.type_or_host() == ValueType::Net && value.is_past_mask()
             }
-            Node::Qualified(quals, value) => {
-                quals.value_type == ValueType::Net && value.is_past_mask()
+            Node::Qualified(qualifiers, value) => {
+                qualifiers.value_type == ValueType::Net && value.is_past_mask()
             }
             _ => false,
         }
@@ -106,7 +106,7 @@ impl Node {
         ensures { result ≡ completed_node self }
     {
         match self {
-            Node::Valued(quals, value) => Node::Qualified(quals.full(), value),
+            Node::Valued(qualifiers, value) => Node::Qualified(qualifiers.full(), value),
             _ => self,
         }
     }
@@ -119,7 +119,7 @@ impl Node {
         match self {
             Node::Check(protocol) => check_tests(protocol),
             Node::Cast(_, cast) => cast_tests(cast),
-            Node::Qualified(quals, value) => value_tests(quals, value),
+            Node::Qualified(qualifiers, value) => value_tests(qualifiers, value),
             Node::Sized(_, _) | Node::Compare(_) => 1,
             Node::Load(protocol, _) => accessor_tests(protocol),
             _ => 0,

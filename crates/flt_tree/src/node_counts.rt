@@ -6,7 +6,7 @@ ghost use Rattle.flt_tree.specs.Counts.{cast_tests, ip4_tests, ip6_test_count, t
 ghost use Rattle.flt_tree.specs.Counts.{port_tests, address_tests, value_tests};
 ghost use Rattle.flt_tree.specs.Counts.{accessor_test_count};
 
-use crate::quals::{Direction, FullQuals};
+use crate::qualifiers::{CompleteQualifiers, Direction};
 use crate::value::Value;
 use flt_words::{Cast, Protocol, Side, ValueType};
 
@@ -102,15 +102,19 @@ fn address_tests(protocol: Option<Protocol>, direction: Direction, value: Value)
     }
 }
 
-pub(crate) fn value_tests(quals: FullQuals, value: Value) -> u8
-    ensures count { result ≡ value_tests quals value }
+pub(crate) fn value_tests(qualifiers: CompleteQualifiers, value: Value) -> u8
+    ensures count { result ≡ value_tests qualifiers value }
     ensures upper_bound { result ≤ 27 }
 {
-    match quals.value_type {
-        ValueType::Host | ValueType::Net => address_tests(quals.protocol, quals.direction, value),
-        ValueType::Port => port_tests(quals.protocol, quals.direction, 1),
-        ValueType::PortRange => port_tests(quals.protocol, quals.direction, 2),
-        ValueType::Proto => proto_tests(quals.protocol),
+    match qualifiers.value_type {
+        ValueType::Host | ValueType::Net => address_tests(
+            qualifiers.protocol,
+            qualifiers.direction,
+            value,
+        ),
+        ValueType::Port => port_tests(qualifiers.protocol, qualifiers.direction, 1),
+        ValueType::PortRange => port_tests(qualifiers.protocol, qualifiers.direction, 2),
+        ValueType::Proto => proto_tests(qualifiers.protocol),
     }
 }
 

@@ -13,13 +13,13 @@ pub enum Direction {
 
 /// Qualifiers, as they are written.
 #[derive(Clone, Copy)]
-pub struct Quals {
+pub struct Qualifiers {
     pub protocol: Option<Protocol>,
     pub direction: Option<Direction>,
     pub value_type: Option<ValueType>,
 }
 
-impl Quals {
+impl Qualifiers {
     ghost use Rattle.std.specs.Prelude.{◌≡◌};
     ghost use Rattle.flt_tree.specs.Filled.{full, type_or_host};
 
@@ -31,10 +31,10 @@ impl Quals {
     }
 
     /// What is left out is filled in: the type `host`, the direction `src or dst`.
-    pub(crate) fn full(self) -> FullQuals
+    pub(crate) fn full(self) -> CompleteQualifiers
         ensures { result ≡ full self }
     {
-        FullQuals {
+        CompleteQualifiers {
             protocol: self.protocol,
             direction: self.direction.unwrap_or(Direction::Both(Join::Or)),
             value_type: self.type_or_host(),
@@ -45,7 +45,7 @@ impl Quals {
 /// The qualifiers of a value once those that were left out are filled in. A protocol may be missing
 /// still: then the value is looked for in each protocol that has such values.
 #[derive(Clone, Copy)]
-pub struct FullQuals {
+pub struct CompleteQualifiers {
     pub protocol: Option<Protocol>,
     pub direction: Direction,
     pub value_type: ValueType,
