@@ -1,5 +1,6 @@
 use Rattle.std.proofs.Common.{rules, length, take, ap, arith, refl, sym, ◌∙◌}
 use Rattle.std.proofs.lemmas.List.{take_at}
+use Rattle.std.proofs.lemmas.Grind.{common_steps}
 use Rattle.std.proofs.lemmas.Result.{err_from_is_err_and}
 use Rattle.cap_pcapng.specs.Frame.{frame_in}
 use Rattle.cap_io.specs.Blocks.{section_of}
@@ -13,7 +14,7 @@ pub returns-in_err-found : goal.returns-in_err-found
 returns-in_err-found g c =
     let p = err_from_is_err_and c.from_residual.result c.from_residual.ensures.1 in
     rw (p.1, p.2) (record {
-      moves = search rules;
+      moves = grind (arith, common_steps);
       sized = tt;
       consistent = tt;
       known = tt;
@@ -27,7 +28,7 @@ pub returns-in_err-make_room : goal.returns-in_err-make_room
 returns-in_err-make_room g c =
     let p = err_from_is_err_and c.from_residual-in_err-make_room.result c.from_residual-in_err-make_room.ensures.1 in
     rw (p.1, p.2, c.in_err-make_room.ensures.memory) (record {
-      moves = search rules;
+      moves = grind (arith, common_steps);
       sized = tt;
       consistent = tt;
       known = tt;
@@ -41,7 +42,7 @@ pub returns-in_err-read_rest : goal.returns-in_err-read_rest
 returns-in_err-read_rest g c =
     let p = err_from_is_err_and c.from_residual-in_err-read_rest.result c.from_residual-in_err-read_rest.ensures.1 in
     rw (p.1, p.2) (record {
-      moves = search rules;
+      moves = grind (arith, common_steps);
       sized = tt;
       consistent = tt;
       known = tt;
