@@ -1,4 +1,3 @@
-use Rattle.std.proofs.lemmas.Grind.{common_steps}
 use Rattle.std.proofs.Common.{[], ◌≡◌, ◌==◌, ◌∙◌, ℕ, zero, suc, true, false, ◌-◌, ◌<◌, sym, ap, refl, arith, rules, length, not, Some, None, Option, MutBor}
 use Rattle.std.proofs.lemmas.List.{length-set}
 use Rattle.std.proofs.lemmas.Option.{get_or_from_slice_get, slice_get-get_or}
@@ -104,12 +103,3 @@ returns-clause-placed g c = λ some class hung.
     placing_end marks c.args.links.now.items c.loop-step.links.items class (length marks - 1) c.loop-step.depth c.loop-step.place c.loop-step.step
     (record { zeros = c.loop-step.step; ones = c.loop-step.step })
     (c.loop-step.invariant.placing class hung) (omega arith) (omega arith) refl refl
-
-pub overflow_sub-place : goal.overflow_sub-place
-overflow_sub-place g c = grind (arith, common_steps)
-
-pub overflow_sub-lower : goal.overflow_sub-lower
-overflow_sub-lower g c = grind (arith, common_steps)
-
-pub overflow_add-depth : goal.overflow_add-depth
-overflow_add-depth g c = grind (arith, common_steps)
