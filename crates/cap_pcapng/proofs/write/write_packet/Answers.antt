@@ -1,4 +1,3 @@
-use Rattle.std.proofs.lemmas.Grind.{common_steps}
 use Rattle.std.proofs.Common.{◌+◌, List, ℕ, sym, subst, ◌∙◌, arith}
 use Rattle.cap_octet.specs.Writer.{WritesExactly}
 use Rattle.cap_octet.specs.Packet.{Captured, captured}
@@ -23,36 +22,3 @@ returns g c =
     let P : List ℕ → Type 0 = λ text. WritesExactly g.O.Output c.args.output.now text c.write_all_parts-2.result c.write_all_parts-2.new.output in
     subst P (packet_joined c.args.number (c.padding_behind-zeros.result + 4) p _ _ _ (omega (arith, c.padding_behind-zeros.ensures.short)) behind c.packet_header-head-2.ensures c.packet_end-end-2.ensures)
     (record { front = written.front; failed = written.failed; room = written.room; exact = written.exact })
-
-pub overflow_cast-size : goal.overflow_cast-size
-overflow_cast-size g c = grind (arith, common_steps)
-
-pub overflow_add-size : goal.overflow_add-size
-overflow_add-size g c = grind (arith, common_steps)
-
-pub overflow_add-zeros : goal.overflow_add-zeros
-overflow_add-zeros g c = grind (arith, common_steps)
-
-pub option_header-option-requires : goal.option_header-option-requires
-option_header-option-requires g c = grind (arith, common_steps)
-
-pub packet_header-head-requires : goal.packet_header-head-requires
-packet_header-head-requires g c = grind (arith, common_steps)
-
-pub packet_header-head-requires-2 : goal.packet_header-head-requires-2
-packet_header-head-requires-2 g c = grind (arith, common_steps)
-
-pub overflow_add-size-2 : goal.overflow_add-size-2
-overflow_add-size-2 g c = grind (arith, common_steps)
-
-pub overflow_add-size-3 : goal.overflow_add-size-3
-overflow_add-size-3 g c = grind (arith, common_steps)
-
-pub overflow_cast-size-2 : goal.overflow_cast-size-2
-overflow_cast-size-2 g c = grind (arith, common_steps)
-
-pub overflow_sub-parts : goal.overflow_sub-parts
-overflow_sub-parts g c = grind (arith, common_steps)
-
-pub overflow_sub-option : goal.overflow_sub-option
-overflow_sub-option g c = grind (arith, common_steps)
