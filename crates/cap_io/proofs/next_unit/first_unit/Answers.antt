@@ -1,5 +1,4 @@
-use Rattle.std.proofs.lemmas.Grind.{common_steps}
-use Rattle.std.proofs.Common.{rules, refl, sym, ◌∙◌, arith}
+use Rattle.std.proofs.Common.{rules, refl, sym, ◌∙◌}
 use Rattle.std.proofs.lemmas.Result.{err_from_is_err_and}
 use Rattle.cap_io.proofs.Came.{NoUnitCame-behind, first_of, joined_front, section_of_bytes}
 use Rattle.cap_io.proofs.CapturesCame.{ReadsUnit-behind, UnitPassed-behind, header_passed, rest_of_front}
@@ -9,7 +8,7 @@ pub returns-in_err-read_rest : goal.returns-in_err-read_rest
 returns-in_err-read_rest g c =
     let p = err_from_is_err_and c.from_residual-in_err-read_rest.result c.from_residual-in_err-read_rest.ensures.1 in
     rw (p.1, p.2, c.requires.unknown) (record {
-      moves = grind (arith, common_steps);
+      moves = search rules;
       sized = tt;
       consistent = tt;
       known = tt;
@@ -35,7 +34,7 @@ returns-then-begins_section g c =
 
 pub returns : goal.returns
 returns g c = rw c.requires.unknown (record {
-  moves = grind (arith, common_steps);
+  moves = search rules;
   sized = search rules;
   consistent = tt;
   known = tt;

@@ -1,4 +1,3 @@
-use Rattle.std.proofs.lemmas.Grind.{common_steps}
 use Rattle.std.proofs.Common.{rules, ◌+◌, take, refl, arith}
 use Rattle.std.proofs.lemmas.List.{take_at}
 use Rattle.std.proofs.lemmas.Result.{err_from_is_err_and}
@@ -9,7 +8,7 @@ pub returns-in_err-found : goal.returns-in_err-found
 returns-in_err-found g c =
     let p = err_from_is_err_and c.from_residual-in_err-found.result c.from_residual-in_err-found.ensures.1 in
     rw (p.1, p.2) (λ interfaces. record {
-      moves = grind (arith, common_steps);
+      moves = search rules;
       sized = tt;
       consistent = tt;
       known = tt;
@@ -22,7 +21,7 @@ pub returns-in_err-make_room : goal.returns-in_err-make_room
 returns-in_err-make_room g c =
     let p = err_from_is_err_and c.from_residual-in_err-make_room.result c.from_residual-in_err-make_room.ensures.1 in
     rw (p.1, p.2, c.in_err-make_room.ensures.memory) (λ interfaces. record {
-      moves = grind (arith, common_steps);
+      moves = search rules;
       sized = tt;
       consistent = tt;
       known = tt;
@@ -35,7 +34,7 @@ pub returns-in_err-read_rest : goal.returns-in_err-read_rest
 returns-in_err-read_rest g c =
     let p = err_from_is_err_and c.from_residual-in_err-read_rest.result c.from_residual-in_err-read_rest.ensures.1 in
     rw (p.1, p.2) (λ interfaces. record {
-      moves = grind (arith, common_steps);
+      moves = search rules;
       sized = tt;
       consistent = tt;
       known = tt;
@@ -47,7 +46,7 @@ returns-in_err-read_rest g c =
 
 pub returns : goal.returns
 returns g c = rw c.record_spans.ensures (λ interfaces. record {
-  moves = grind (arith, common_steps);
+  moves = search rules;
   sized = (
     record {
       bytes = omega arith;
@@ -67,9 +66,3 @@ returns g c = rw c.record_spans.ensures (λ interfaces. record {
   err = tt;
   kept = tt;
 })
-
-pub returns-in_err-read_front : goal.returns-in_err-read_front
-returns-in_err-read_front g c = grind (arith, common_steps)
-
-pub returns-then-not-branch : goal.returns-then-not-branch
-returns-then-not-branch g c = grind (arith, common_steps)

@@ -1,4 +1,3 @@
-use Rattle.std.proofs.lemmas.Grind.{common_steps}
 use Rattle.std.proofs.Common.{◌≡◌, ◌+◌, ◌≤◌, ℕ, Bool, Ok, List, ◌++◌, take, sym, ap, ◌∙◌, arith, subst, rules}
 use Rattle.std.proofs.lemmas.List.{take-take}
 use Rattle.cap_octet.specs.Device.{Passes}
@@ -32,9 +31,3 @@ returns-then-pass-clause-taken g c =
           taken-first (g.I.Input.unread c.args.input.now) (g.I.Input.unread c.pass.new.self) hand size (c.at_hand-hand.ensures.exact t) c.if-size-hand.false (subst T c.if-pass.true (c.pass.ensures.exact t))
           ∙ ap (λ (l : List ℕ). l ++ g.I.Input.unread c.pass.new.self) (sym c.copy_unit.ensures.copied);
     }
-
-pub returns-then-pass-clause-nothing : goal.returns-then-pass-clause-nothing
-returns-then-pass-clause-nothing g c = grind (arith, common_steps)
-
-pub returns-in_default : goal.returns-in_default
-returns-in_default g c = grind (arith, common_steps)

@@ -1,5 +1,4 @@
-use Rattle.std.proofs.lemmas.Grind.{common_steps}
-use Rattle.std.proofs.Common.{refl, arith}
+use Rattle.std.proofs.Common.{rules, refl}
 use Rattle.std.proofs.lemmas.Result.{err_from_is_err_and}
 use Rattle.cap_io.proofs.CapturesCame.{begun-front}
 use Rattle.cap_io.proofs.pcapng.next_block.Goals as goal
@@ -8,7 +7,7 @@ pub returns-in_err-read_front : goal.returns-in_err-read_front
 returns-in_err-read_front g c =
     let p = err_from_is_err_and c.from_residual.result c.from_residual.ensures.1 in
     rw (p.1, p.2) (record {
-      moves = grind (arith, common_steps);
+      moves = search rules;
       sized = tt;
       consistent = tt;
       known = tt;
@@ -16,6 +15,3 @@ returns-in_err-read_front g c =
       err = λ t. begun-front c.args.file.now c.args.table.now _ _ _ c.requires.section (c.in_err-read_front.ensures.err t);
       kept = (refl, refl);
     })
-
-pub returns-then-not-branch : goal.returns-then-not-branch
-returns-then-not-branch g c = grind (arith, common_steps)

@@ -1,6 +1,5 @@
 use Rattle.std.proofs.Common.{rules, length, take, ap, arith, refl, sym, ◌∙◌}
 use Rattle.std.proofs.lemmas.List.{take_at}
-use Rattle.std.proofs.lemmas.Grind.{common_steps}
 use Rattle.std.proofs.lemmas.Result.{err_from_is_err_and}
 use Rattle.cap_pcapng.specs.Frame.{frame_in}
 use Rattle.cap_io.specs.Blocks.{section_of}
@@ -14,7 +13,7 @@ pub returns-in_err-found : goal.returns-in_err-found
 returns-in_err-found g c =
     let p = err_from_is_err_and c.from_residual.result c.from_residual.ensures.1 in
     rw (p.1, p.2) (record {
-      moves = grind (arith, common_steps);
+      moves = search rules;
       sized = tt;
       consistent = tt;
       known = tt;
@@ -28,7 +27,7 @@ pub returns-in_err-make_room : goal.returns-in_err-make_room
 returns-in_err-make_room g c =
     let p = err_from_is_err_and c.from_residual-in_err-make_room.result c.from_residual-in_err-make_room.ensures.1 in
     rw (p.1, p.2, c.in_err-make_room.ensures.memory) (record {
-      moves = grind (arith, common_steps);
+      moves = search rules;
       sized = tt;
       consistent = tt;
       known = tt;
@@ -42,7 +41,7 @@ pub returns-in_err-read_rest : goal.returns-in_err-read_rest
 returns-in_err-read_rest g c =
     let p = err_from_is_err_and c.from_residual-in_err-read_rest.result c.from_residual-in_err-read_rest.ensures.1 in
     rw (p.1, p.2) (record {
-      moves = grind (arith, common_steps);
+      moves = search rules;
       sized = tt;
       consistent = tt;
       known = tt;

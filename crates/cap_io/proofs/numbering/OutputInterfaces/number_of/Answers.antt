@@ -1,5 +1,4 @@
-use Rattle.std.proofs.lemmas.Grind.{common_steps}
-use Rattle.std.proofs.Common.{◌≡◌, map, not, refl, sym, ap, ◌∙◌, rules, Some, arith}
+use Rattle.std.proofs.Common.{◌≡◌, map, not, refl, sym, ap, ◌∙◌, rules, Some}
 use Rattle.std.specs.Option.{option_map}
 use Rattle.std.proofs.lemmas.Option.{slice_get-map}
 use Rattle.cap_octet.specs.Packet.{captured}
@@ -58,12 +57,3 @@ invariant_of-self-2 g c =
       returns-2-clause-fits g c,
       first-behind c.args.self.now new i place (returns-2-clause-number g c),
     )
-
-pub returns-clause-fits : goal.returns-clause-fits
-returns-clause-fits g c = grind (arith, common_steps)
-
-pub invariant_of-self : goal.invariant_of-self
-invariant_of-self g c = grind (arith, common_steps)
-
-pub returns-in_default-clause-fits : goal.returns-in_default-clause-fits
-returns-in_default-clause-fits g c = grind (arith, common_steps)

@@ -1,5 +1,4 @@
-use Rattle.std.proofs.lemmas.Grind.{common_steps}
-use Rattle.std.proofs.Common.{◌+◌, ◌∙◌, refl, ap, ap₂, arith}
+use Rattle.std.proofs.Common.{◌+◌, ◌∙◌, refl, ap, ap₂}
 use Rattle.std.proofs.lemmas.Result.{err_from_is_err_and}
 use Rattle.cap_io.specs.Reading.{declared_by}
 use Rattle.cap_io.specs.Source.{SourceView, block_at, packet_at, view_of}
@@ -47,12 +46,3 @@ returns-in-End-clause-packets g c = λ t.
     (g.I.Input.unread c.read_unit.new.input) (g.I.Input.given c.read_unit.new.input) (g.I.Input.failures c.read_unit.new.input) (g.I.Input.never_fails c.read_unit.new.input) in
     rw c.in-End.is (FindsEnd-next c.args.self.now new c.requires.between
     (rw (declared, unread) at (rw c.in-End.is at (c.in_ok-unit.ensures.ok t))) (ap (λ (v : SourceView). v.offset) c.self.view_is) refl refl refl)
-
-pub returns-in-Packet-clause-bounds : goal.returns-in-Packet-clause-bounds
-returns-in-Packet-clause-bounds g c = grind (arith, common_steps)
-
-pub returns-in-Other-clause-bounds : goal.returns-in-Other-clause-bounds
-returns-in-Other-clause-bounds g c = grind (arith, common_steps)
-
-pub returns-in-End-clause-bounds : goal.returns-in-End-clause-bounds
-returns-in-End-clause-bounds g c = grind (arith, common_steps)
