@@ -1,5 +1,7 @@
 -- Marks in a window.
-use Rattle.std.proofs.Common.{◌≡◌, ◌↔◌, ℕ, ◌+◌, ◌-◌, ◌≤◌, ◌==◌, Bool, List, [], ◌∷◌, ◌++◌, length, drop, sym, ap, ◌∙◌, arith, length-append, length-drop, IsTrue}
+use Rattle.cap_window.specs.declared.links.Links.{Links}
+use Rattle.std.specs.Option.{IsSome, option_copied}
+use Rattle.std.proofs.Common.{◌≡◌, ◌↔◌, ℕ, ◌+◌, ◌-◌, ◌≤◌, ◌==◌, Bool, List, [], ◌∷◌, ◌++◌, length, drop, sym, ap, ◌∙◌, arith, length-append, length-drop, IsTrue, Bor, Option, Some, None, rules}
 use Rattle.std.proofs.lemmas.Bool.Decides.{Decides-and, Decides-eqb, Decides-like}
 use Rattle.std.proofs.lemmas.List.{drop-drop, drop-append-le}
 use Rattle.std.proofs.lemmas.List.Folds.{list_any_at}
@@ -45,3 +47,12 @@ last-last n ms m =
     ap (λ (xs : List Mark). drop (length (drop k ms ++ m ∷ []) - n) xs) (sym (drop-append-le k ms (m ∷ []) within))
     ∙ drop-drop (length (drop k ms ++ m ∷ []) - n) k (ms ++ m ∷ [])
     ∙ ap (λ (j : ℕ). drop j (ms ++ m ∷ [])) sum
+
+-- what is got at a place that there is
+pub mark_is_there : (o : Option (Bor Mark)) (x : Mark) → option_copied o ≡ Some x → IsSome o
+mark_is_there (Some r) x e = search rules
+mark_is_there None x e = absurd cc
+
+pub links_are_there : (o : Option (Bor Links)) (x : Links) → option_copied o ≡ Some x → IsSome o
+links_are_there (Some r) x e = search rules
+links_are_there None x e = absurd cc

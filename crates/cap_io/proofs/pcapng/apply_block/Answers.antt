@@ -1,4 +1,5 @@
-use Rattle.std.proofs.Common.{◌∙◌, sym, ap, subst}
+use Rattle.std.proofs.Common.{◌∙◌, arith, sym, ap, subst}
+use Rattle.std.proofs.lemmas.Grind.{common_steps}
 use Rattle.std.proofs.lemmas.Result.{err_from_is_err_and}
 use Rattle.cap_octet.specs.declared.fault.Fault.{Fault}
 use Rattle.cap_pcapng.specs.Block.{IsDescribedIfAny, parts_of}
@@ -41,3 +42,15 @@ returns-in-Err-clause-err g c =
     let P : Fault → Type 0 = λ fault. IsEntryFault c.args.frame.now c.args.table.now c.args.bytes.now fault in
     subst P (sym c.fault_in_full_table.ensures)
     (refused_entry c.args.frame.now c.args.table.now c.args.bytes.now c.in-Err.fault c.requires.whole c.requires.shortest c.in-Err.ensures.refused)
+
+pub returns-in_err-enhanced_packet-in-Ok-Enhanced-clause-err : goal.returns-in_err-enhanced_packet-in-Ok-Enhanced-clause-err
+returns-in_err-enhanced_packet-in-Ok-Enhanced-clause-err g c = grind (arith, common_steps)
+
+pub returns-in_err-simple_packet-in-Ok-Simple-clause-err : goal.returns-in_err-simple_packet-in-Ok-Simple-clause-err
+returns-in_err-simple_packet-in-Ok-Simple-clause-err g c = grind (arith, common_steps)
+
+pub returns-in-Ok-Section-clause-ok : goal.returns-in-Ok-Section-clause-ok
+returns-in-Ok-Section-clause-ok g c = grind (arith, common_steps)
+
+pub returns-in-Ok-Skipped-clause-ok : goal.returns-in-Ok-Skipped-clause-ok
+returns-in-Ok-Skipped-clause-ok g c = grind (arith, common_steps)

@@ -1,10 +1,10 @@
-use Rattle.std.proofs.Common.{Bor, [], ◌≡◌, ◌==◌, ◌∙◌, ℕ, zero, suc, true, false, ◌-◌, ◌<◌, sym, ap, refl, arith, rules, length, not, Some, None, Option, MutBor}
+use Rattle.std.proofs.Common.{[], ◌≡◌, ◌==◌, ◌∙◌, ℕ, zero, suc, true, false, ◌-◌, ◌<◌, sym, ap, refl, arith, rules, length, not, Some, None, Option, MutBor}
 use Rattle.std.proofs.lemmas.List.{length-set}
 use Rattle.std.proofs.lemmas.Option.{get_or_from_slice_get, slice_get-get_or}
 use Rattle.std.specs.Option.{IsSome, option_copied, option_copied_mut}
 use Rattle.cap_window.specs.declared.links.Links.{Links}
-use Rattle.cap_window.specs.declared.mark.Mark.{Mark}
 use Rattle.cap_window.specs.Index.{is_one, links_at, mark_at}
+use Rattle.cap_window.proofs.Marks.{links_are_there, mark_is_there}
 use Rattle.cap_window.proofs.Trees.{behind_links, placing_first, placing_end, placing_equal, placing_next, step_at}
 use Rattle.cap_window.proofs.links.place_newest.Goals as goal
 
@@ -15,14 +15,6 @@ nonzero (suc n) e = omega arith
 is_there : (o : Option (MutBor Links)) (x : Links) → option_copied_mut o ≡ Some x → IsSome o
 is_there (Some r) x e = search rules
 is_there None x e = absurd cc
-
-mark_is_there : (o : Option (Bor Mark)) (x : Mark) → option_copied o ≡ Some x → IsSome o
-mark_is_there (Some r) x e = search rules
-mark_is_there None x e = absurd cc
-
-links_are_there : (o : Option (Bor Links)) (x : Links) → option_copied o ≡ Some x → IsSome o
-links_are_there (Some r) x e = search rules
-links_are_there None x e = absurd cc
 
 pub unwrap-above-requires : goal.unwrap-above-requires
 unwrap-above-requires g c =

@@ -1,4 +1,5 @@
-use Rattle.std.proofs.Common.{◌∙◌, refl, take}
+use Rattle.std.proofs.lemmas.Grind.{common_steps}
+use Rattle.std.proofs.Common.{◌∙◌, refl, take, arith}
 use Rattle.cap_pcapng.specs.Interface.{description_of}
 use Rattle.cap_io.proofs.Entered.{known_interface}
 use Rattle.cap_io.proofs.Passing.{part-lent, pcap-lent, pcapng-lent}
@@ -20,3 +21,9 @@ returns-in_ok-interface-in-Pcapng-clause-packet g c =
     (c.of-bytes.ensures ∙ part-lent spans.bytes spans.size buffer buffer c.requires.bytes refl)
     c.comment.ensures.value
     (c.of-rest.ensures ∙ part-lent spans.options spans.size buffer buffer c.requires.options refl))
+
+pub returns-in-Pcap-clause-short : goal.returns-in-Pcap-clause-short
+returns-in-Pcap-clause-short g c = grind (arith, common_steps)
+
+pub returns-in_ok-interface-in-Pcapng-clause-short : goal.returns-in_ok-interface-in-Pcapng-clause-short
+returns-in_ok-interface-in-Pcapng-clause-short g c = grind (arith, common_steps)

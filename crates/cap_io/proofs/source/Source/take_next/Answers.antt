@@ -1,4 +1,5 @@
-use Rattle.std.proofs.Common.{◌≡◌, ◌+◌, ◌++◌, ℕ, List, length, take, drop, refl, sym, ap, ◌∙◌, subst}
+use Rattle.std.proofs.lemmas.Grind.{common_steps}
+use Rattle.std.proofs.Common.{◌≡◌, ◌+◌, ◌++◌, ℕ, List, length, take, drop, refl, sym, ap, ◌∙◌, subst, arith}
 use Rattle.std.proofs.lemmas.List.{take_at}
 use Rattle.cap_io.specs.Capture.{Declared}
 use Rattle.cap_io.specs.Reading.{declared_by, record_spans, packet_in_unit}
@@ -30,3 +31,12 @@ returns-clause-found g c =
     declared refl
     (ap (λ (d : Declared). packet_in_unit d (record_spans found) (take (16 + found.captured) buffer)) declared)
     (ap (λ (v : SourceView). v.offset) c.self.view_is) refl))
+
+pub returns-clause-nothing : goal.returns-clause-nothing
+returns-clause-nothing g c = grind (arith, common_steps)
+
+pub returns-in_default-clause-nothing : goal.returns-in_default-clause-nothing
+returns-in_default-clause-nothing g c = grind (arith, common_steps)
+
+pub returns-in_default-take_record-clause-nothing : goal.returns-in_default-take_record-clause-nothing
+returns-in_default-take_record-clause-nothing g c = grind (arith, common_steps)

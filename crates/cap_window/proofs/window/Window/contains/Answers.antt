@@ -1,8 +1,10 @@
-use Rattle.std.proofs.Common.{arith, refl, ◌≡◌, ◌∙◌, ap, sym, get_or, ◌-◌, ◌<◌, length}
+use Rattle.std.proofs.lemmas.Grind.{common_steps}
+use Rattle.std.proofs.Common.{[], arith, refl, ◌≡◌, ◌∙◌, ap, sym, get_or, ◌-◌, ◌<◌, ◌≤◌, length}
 use Rattle.std.proofs.lemmas.List.{get_or_default}
-use Rattle.std.proofs.lemmas.Option.{get_or_from_slice_get}
+use Rattle.std.proofs.lemmas.Option.{get_or_from_slice_get, slice_get-get_or}
 use Rattle.std.specs.Option.{option_copied}
 use Rattle.cap_window.specs.Index.{hash_of, links_at, mark_at}
+use Rattle.cap_window.proofs.Marks.{links_are_there, mark_is_there}
 use Rattle.cap_window.proofs.Searching.{searched_first, searched_next, searched_step, searched_all}
 use Rattle.cap_window.proofs.window.Window.contains.Goals as goal
 
@@ -44,3 +46,30 @@ returns g c =
     let none = searched_all ms c.self.inside.links.items c.args.mark.now c.loop-step.depth c.loop-step.limit c.loop-step.step c.loop-step.invariant c.loop-step-test.false in
     rw (← c.self.view_is)
     ((λ is. absurd cc), (λ has. absurd (none has.0 has.1 (get_or_default ms has.0 _ c.args.mark.now has.1 ∙ has.2))))
+
+pub overflow_sub-step : goal.overflow_sub-step
+overflow_sub-step g c =
+    let inside : c.hash_of-hash.result < length c.self.inside.heads.items = omega (arith, c.self.invariant.wide) in
+    let heads = c.self.inside.heads.items in
+    let head : c.index.result.now ≡ get_or heads c.hash_of-hash.result 0 = c.index.ensures ∙ get_or_default _ _ _ 0 inside in
+    let small : get_or heads c.hash_of-hash.result 0 ≤ c.self.inside.newest = c.self.invariant.index.small c.hash_of-hash.result inside in
+    omega (arith, head, small)
+
+pub unwrap-requires : goal.unwrap-requires
+unwrap-requires g c =
+    let step = searched_step _ _ _ _ _ _ c.loop-step.invariant in
+    mark_is_there _ _ (c.get.ensures ∙ slice_get-get_or c.self.inside.marks.items (c.loop-step.limit - c.loop-step.step) (record { length = 0; digest = [] }) (omega (arith, c.loop-step.invariant.within, step)))
+
+pub unwrap-requires-in-loop-step : goal.unwrap-requires-in-loop-step
+unwrap-requires-in-loop-step g c =
+    let step = searched_step _ _ _ _ _ _ c.loop-step.invariant in
+    links_are_there _ _ (c.get-in-loop-step.ensures ∙ slice_get-get_or c.self.inside.links.items (c.loop-step.limit - c.loop-step.step) (record { zeros = 0; ones = 0 }) (omega (arith, c.loop-step.invariant.within, step, c.self.invariant.index.long)))
+
+pub overflow_sub-limit : goal.overflow_sub-limit
+overflow_sub-limit g c = grind (arith, common_steps)
+
+pub overflow_add-depth : goal.overflow_add-depth
+overflow_add-depth g c = grind (arith, common_steps)
+
+pub overflow_add-step : goal.overflow_add-step
+overflow_add-step g c = grind (arith, common_steps)

@@ -1,3 +1,4 @@
+use Rattle.std.proofs.lemmas.Grind.{common_steps}
 use Rattle.std.proofs.Common.{arith, refl, ◌≡◌, ◌∙◌, get_or, set, ◌+◌, ◌-◌, ◌<◌, ◌≤◌, length, take, drop, ◌++◌, List, ℕ, ap}
 use Rattle.std.proofs.lemmas.List.{get_or_default, take-append-le, take_all}
 use Rattle.cap_window.specs.Index.{has_hash, hash_of}
@@ -46,3 +47,26 @@ place_newest-requires-clause-hung g c = λ some.
       has_hash w.mask (hash_of w.mask c.args.mark),
       sound_hung w.mask w.marks.items w.marks.capacity w.links.items w.links.capacity w.heads.items w.newest c.args.mark l' c.self.invariant (rw c.push_back.ensures.items at some),
     )
+
+pub overflow_sub-step : goal.overflow_sub-step
+overflow_sub-step g c =
+    let inside : c.hash_of-hash.result < length c.self.inside.heads.items = omega (arith, c.self.invariant.wide) in
+    let heads = c.self.inside.heads.items in
+    let head : c.index.result.now ≡ get_or heads c.hash_of-hash.result 0 = c.index.ensures ∙ get_or_default _ _ _ 0 inside in
+    let small : get_or heads c.hash_of-hash.result 0 ≤ c.self.inside.newest = c.self.invariant.index.small c.hash_of-hash.result inside in
+    omega (arith, head, small)
+
+pub returns : goal.returns
+returns g c = grind (arith, common_steps)
+
+pub overflow_cast-len : goal.overflow_cast-len
+overflow_cast-len g c = grind (arith, common_steps)
+
+pub place_newest-requires-clause-long : goal.place_newest-requires-clause-long
+place_newest-requires-clause-long g c = grind (arith, common_steps)
+
+pub place_newest-requires-clause-upper_bound : goal.place_newest-requires-clause-upper_bound
+place_newest-requires-clause-upper_bound g c = grind (arith, common_steps)
+
+pub renumbered-self-inside-requires : goal.renumbered-self-inside-requires
+renumbered-self-inside-requires g c = grind (arith, common_steps)

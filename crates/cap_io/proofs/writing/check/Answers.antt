@@ -1,0 +1,12 @@
+use Rattle.std.proofs.Common.{arith}
+use Rattle.std.proofs.lemmas.Grind.{common_steps}
+use Rattle.cap_io.proofs.writing.check.Goals as goal
+
+pub returns-then-link-packet : goal.returns-then-link-packet
+returns-then-link-packet g c = grind (arith, common_steps)
+
+pub returns-after-state : goal.returns-after-state
+returns-after-state g c = grind (arith, common_steps)
+
+pub returns-in_err-fits-in-Pcapng : goal.returns-in_err-fits-in-Pcapng
+returns-in_err-fits-in-Pcapng g c = grind (arith, common_steps)
