@@ -6,6 +6,7 @@ use Rattle.cap_octet.specs.declared.fault.Fault.{Fault}
 use Rattle.cap_octet.specs.declared.fault.Fault.TheVariants.{TooManyPackets}
 use Rattle.cap_filter.specs.Decisions.{Decision, Keep, Refuse, ReturnsDecision}
 use Rattle.cap_filter.specs.Decisions as chosen
+use Rattle.flt_bpf.specs.Content.{Content}
 use Rattle.cap_window.specs.View.{WindowView}
 use Rattle.cap_window.specs.declared.mark.Mark.{Mark}
 use Rattle.cap_packets.specs.declared.selector.Verdict as code
@@ -13,7 +14,7 @@ use Rattle.cap_packets.specs.Verdict.{Policy, Edit, Filter, KeepAll, Count, Sele
 use Rattle.cap_packets.specs.Reports.{Tally}
 use Rattle.cap_packets.specs.Reports.{FitsTally, tally_with}
 use Rattle.cap_inputs.specs.Inputs.{most_steps}
-use Rattle.cap_packets.specs.Selector.{PolicyState, IsWithin, IsWindowFor, ReturnsVerdict, is_count, count_limit, TakesTally, marks_in, verdict_if, places, state_of, verdict_of, IsVerdict}
+use Rattle.cap_packets.specs.Selector.{PolicyState, IsWithin, IsWindowFor, ReturnsVerdict, is_count, count_limit, spent_by, spent_by_verdict, TakesTally, marks_in, verdict_if, places, state_of, verdict_of, IsVerdict}
 
 nat_le-true : (a b : ℕ) → a ≤ b → nat_le a b ≡ true
 nat_le-true a b h = grind (arith, nat_tests, h)
@@ -32,6 +33,26 @@ upper_bound (Edit s) state number p judges h = rw (nat_le-false (2 ^ 63) number 
 upper_bound (Filter rule count) state number p judges h = rw (nat_le-false (2 ^ 63) number h) refl
 upper_bound KeepAll state number p judges h = rw (nat_le-false (2 ^ 63) number h) refl
 upper_bound Count state number p judges h = (cc)
+
+-- ---- what judging costs
+
+pub counted-spends : (policy : Policy) (number : ℕ) (p : Captured) (programs : List Content) → is_count policy ≡ true → programs ≡ spent_by_verdict policy number p programs
+counted-spends (Edit s) number p programs is = (cc)
+counted-spends (Filter rule count) number p programs is = (cc)
+counted-spends KeepAll number p programs is = (cc)
+counted-spends Count number p programs is = refl
+
+pub refused-spends : (policy : Policy) (number : ℕ) (p : Captured) (programs : List Content) → is_count policy ≡ false → 2 ^ 63 ≤ number → programs ≡ spent_by_verdict policy number p programs
+refused-spends (Edit s) number p programs judges h = rw (nat_le-true (2 ^ 63) number h) refl
+refused-spends (Filter rule count) number p programs judges h = rw (nat_le-true (2 ^ 63) number h) refl
+refused-spends KeepAll number p programs judges h = rw (nat_le-true (2 ^ 63) number h) refl
+refused-spends Count number p programs judges h = (cc)
+
+pub judged-spends : (policy : Policy) (number : ℕ) (p : Captured) (programs : List Content) → is_count policy ≡ false → number < 2 ^ 63 → spent_by policy p programs ≡ spent_by_verdict policy number p programs
+judged-spends (Edit s) number p programs judges h = rw (nat_le-false (2 ^ 63) number h) refl
+judged-spends (Filter rule count) number p programs judges h = rw (nat_le-false (2 ^ 63) number h) refl
+judged-spends KeepAll number p programs judges h = rw (nat_le-false (2 ^ 63) number h) refl
+judged-spends Count number p programs judges h = (cc)
 
 -- ---- what is returned
 

@@ -1,5 +1,5 @@
 -- The job of a command of which nothing is done.
-use Rattle.std.proofs.Common.{◌≡◌, inl, inr, ℕ, ◌+◌, ◌≤◌, Bool, true, not, List, [], ◌++◌, map, length, take, None, Ok, Err, refl, sym, ap, arith, subst, ◌∙◌, nat_eq, nat_le, ◌&&◌, add-zero, Option}
+use Rattle.std.proofs.Common.{◌≡◌, inl, inr, ℕ, ◌+◌, ◌≤◌, Bool, true, not, List, [], ◌++◌, map, length, take, None, Some, Option, Ok, Err, ap₂, refl, sym, ap, arith, subst, ◌∙◌, nat_eq, nat_le, ◌&&◌, add-zero}
 use Rattle.std.proofs.lemmas.List.{append-nil}
 use Rattle.cap_octet.specs.declared.device.Stopped.{Stopped}
 use Rattle.flt_bpf.specs.Listing.{listing}
@@ -26,12 +26,12 @@ use Rattle.cap_tools.specs.Jobs.{JobView, first_job, machine_at, end_message}
 use Rattle.cap_inputs.specs.Fresh.{fresh_inputs, nothing_done}
 use Rattle.cap_inputs.specs.Sequence.{order_of}
 use Rattle.cap_tools.specs.declared.step.JobEnd.TheVariants as end
-use Rattle.cap_inputs.specs.Inputs.{InputsView}
+use Rattle.cap_inputs.specs.Inputs.{InputsView, steps_left}
 use Rattle.cap_tools.specs.FirstStep.{EndsList, is_text, output_by}
 use Rattle.cap_tools.specs.Step.{ending}
-use Rattle.cap_tools.specs.Start.{Assignment, Preparing, assignment}
+use Rattle.cap_tools.specs.Start.{Assignment, FilterAsked, Preparing, assignment}
 use Rattle.cap_packets.specs.Selector.{SelectorView, state_with}
-use Rattle.cap_tools.specs.Commands.{IsReadyIf, CompileGives, DecidedBy, RunsBy, RunsCommand}
+use Rattle.cap_tools.specs.Commands.{IsReadyIf, CompileGives, DecidedBy, FilterGives, KeepsFirst, PreparesOnly, RunsBy, RunsCommand, StepKeeps, preparing_left}
 use Rattle.cap_tools.proofs.Programs.{new-for}
 use Rattle.cap_tools.proofs.Starts.{nothing-decided, first-few, first-less}
 
@@ -47,6 +47,32 @@ pub compile-gives : (words : List ℕ) (link : Link) (tells : Bool) (p : Option 
 compile-gives words link tells p old turn.More new gives = gives
 compile-gives words link tells p old (turn.Done status) new (inl some) = inl (record { prog = some.prog; compiled = some.compiled; lists = record { runs = some.lists.runs } })
 compile-gives words link tells p old (turn.Done status) new (inr none) = inr (record { fault = none.fault; why = none.why; refuses = record { status_is = none.refuses.status_is; exact = none.refuses.exact; new_is = none.refuses.new_is } })
+
+pub filter-gives : (asked : FilterAsked) (tells : Bool) (p : Option Preparing) (old : JobView) (r : Turn) (new : JobView) → FilterGives asked tells (preparing_else p old) r new → FilterGives asked tells old r new
+filter-gives asked tells p old turn.More new gives = record { rule = gives.rule; is = gives.is; programs = gives.programs; made = gives.made; new_is = gives.new_is }
+filter-gives asked tells p old (turn.Done status) new gives = record { refusal = gives.refusal; why = gives.why; refuses = record { status_is = gives.refuses.status_is; exact = gives.refuses.exact; new_is = gives.refuses.new_is } }
+
+pub first-reads : (p : Option Preparing) (old new : JobView) → PreparesOnly (preparing_else p old) new → PreparesOnly old new
+first-reads p old new only = record { inputs = only.inputs; decided = only.decided; unspent = only.unspent }
+
+-- what is prepared is one step
+pub first-keeps : (p : Option Preparing) (q : Preparing) (old : JobView) (r : Turn) (new : JobView) → old.preparing ≡ Some q → KeepsFirst (preparing_else p old) r new → StepKeeps old r new
+first-keeps p q old r new some keeps = record {
+  prepared = keeps.prepared;
+  done = keeps.done;
+  status = keeps.status;
+  turns = λ none. keeps.turns;
+  upper_bound = λ none. keeps.upper_bound;
+  light = keeps.light;
+  sound = keeps.sound;
+  left = λ more.
+      let after = ap₂ (λ (o : Option Preparing) (f : InputsView). preparing_left o + steps_left f) keeps.prepared keeps.inputs in
+      let before = ap (λ (o : Option Preparing). preparing_left o + steps_left old.machine.inputs) some in
+      omega (arith, after, before);
+  names = keeps.names;
+  quiet = keeps.quiet;
+  policy = λ none. (cc);
+}
 
 one-input : (n : ℕ) (other : Bool) → (nat_eq n 1 && other) ≡ true → n ≤ most_inputs
 one-input n other is = let one = eqb-true n 1 (and_parts (nat_eq n 1) other is).0 in omega (arith, one)

@@ -1,5 +1,5 @@
 -- The first step of a job.
-use Rattle.std.proofs.Common.{◌≡◌, ◌+◌, false, Option, None, Some, List, [], ◌∷◌, refl, ap₂, arith, suc}
+use Rattle.std.proofs.Common.{◌≡◌, ◌+◌, true, false, Option, None, Some, List, [], ◌∷◌, refl, ap₂, arith, suc}
 use Rattle.std.specs.List.{All}
 use Rattle.std.specs.Option.{is_some, option_map}
 use Rattle.flt_bpf.specs.Content.{Content}
@@ -15,6 +15,10 @@ use Rattle.cap_filter.specs.Programs.{spent_in}
 pub none-before : {Z : Type 0} (p : Option (Preparation Z)) → is_some p ≡ false → option_map preparing_of p ≡ None
 none-before None is = refl
 none-before (Some p) is = (cc)
+
+pub none-taken : {Z : Type 0} (p : Option (Preparation Z)) → is_some p ≡ true → p ≡ None → ⊥
+none-taken None some none = (cc)
+none-taken (Some p) some none = (cc)
 
 -- a job that prepares nothing is ready
 pub ready-none : (p : Option Preparing) (j : JobView) → p ≡ None → IsReadyIf p j
