@@ -20,12 +20,13 @@ pub enum Stop<'a> {
 
 impl fmt::Display for Stop<'_> {
     fn fmt<W: fmt::Write>(&self, f: &mut fmt::Formatter<W>) -> fmt::Result {
-        match self {
-            Stop::CannotOpen(name) => write!(f, "{}: cannot open", Shown { text: name }),
-            Stop::CannotCreate(name) => write!(f, "{}: cannot create", Shown { text: name }),
-            Stop::WriteFailed(name) => write!(f, "{}: write failed", Shown { text: name }),
-            Stop::NoMemory => write!(f, "no memory"),
-        }
+        let (name, fault) = match self {
+            Stop::CannotOpen(name) => (*name, "cannot open"),
+            Stop::CannotCreate(name) => (*name, "cannot create"),
+            Stop::WriteFailed(name) => (*name, "write failed"),
+            Stop::NoMemory => return f.write_str("no memory"),
+        };
+        write!(f, "{}: {fault}", Shown { text: name })
     }
 }
 

@@ -1,5 +1,5 @@
 -- What a text of digits parses to, and where a word has a hyphen.
-use Rattle.std.proofs.Common.{inl, inr, lit<, suc, ◌+◌, ◌≤◌, cond, ◌≡◌, ◌<◌, ◌^◌, ℕ, Bool, true, false, List, [], ◌∷◌, length, refl, sym, ◌∙◌, rules, arith}
+use Rattle.std.proofs.Common.{inl, inr, lit<, suc, ◌+◌, ◌≤◌, cond, ◌≡◌, ◌<◌, ◌^◌, ℕ, Bool, true, false, List, [], ◌∷◌, length, refl, subst, sym, ◌∙◌, rules, arith}
 use Rattle.std.specs.Prelude.{IfSome, nat_lt, Result, Ok, Err, ◌||◌, not, if◌then◌else◌, Option, Some, None}
 use Rattle.std.specs.Char.{is_ascii_digit}
 use Rattle.std.specs.List.{after_first, before_first, list_all, list_any, position_or_len}
@@ -11,7 +11,7 @@ use Rattle.std.proofs.lemmas.Bool.{and_parts, cases_lt, le-ltb, lt-ltb, ltb-true
 use Rattle.std.proofs.lemmas.Bool.Decides.{nat_tests}
 use Rattle.std.proofs.lemmas.Str.Parse.{IsDigitsTest, numerals_by_value, parse_digits}
 use Rattle.std.proofs.lemmas.Str.Pattern.{IsSplitOnceResult, split_once_first}
-use Rattle.capkit.specs.Range.{is_hyphen, range_number, is_decimal}
+use Rattle.capkit.specs.Range.{is_hyphen, range_number, is_decimal, sides_of}
 
 test : IsDigitsTest (λ ds. list_all is_ascii_digit ds ≡ true)
 test = search rules
@@ -54,6 +54,18 @@ any_by_place p (x ∷ xs) = go (p x) (any_by_place p xs)
         → (b || list_any p xs) ≡ nat_lt (cond (not b) (1 + position_or_len p xs) 0) (length (x ∷ xs))
     go true more = sym (lt-ltb 0 (length (x ∷ xs)) (omega arith))
     go false more = more ∙ lt_both (position_or_len p xs) (length xs)
+
+-- a word is split around its first hyphen
+pub is_split : (word : List ℕ) (r : Option (Bor (List ℕ) × Bor (List ℕ))) (first last : Bor (List ℕ)) → IsSplitOnceResult 45 word r → r ≡ Some (first, last)
+    → (first.now ≡ (sides_of word).0) × (last.now ≡ (sides_of word).1)
+is_split word r first last h is =
+    let place = position_or_len is_hyphen word in
+    let split : (place < length word) × (first.now ≡ before_first is_hyphen word) × (last.now ≡ after_first is_hyphen word) =
+    subst (λ (q : Option (Bor (List ℕ) × Bor (List ℕ))). MatchOption q (place ≡ length word)
+    (λ x. (place < length word) × (x.0.now ≡ before_first is_hyphen word) × (x.1.now ≡ after_first is_hyphen word)))
+    is (split_once_first 45 word r h (lit< tt)) in
+    let has : list_any is_hyphen word ≡ true = any_by_place is_hyphen word ∙ lt-ltb place (length word) split.0 in
+    rw has (split.1, split.2)
 
 -- a word that is not split has no hyphen
 pub not_split : (word : List ℕ) (r : Option (Bor (List ℕ) × Bor (List ℕ))) → IsSplitOnceResult 45 word r → r ≡ None → list_any is_hyphen word ≡ false

@@ -17,9 +17,10 @@ pub fn infos_line(alloc: Global, matches: &ArgMatches<'_>) -> Result<Line, Usage
     ensures ready { IfOk result (λ line. is_ready line ≡ true) }
     ensures fault { IfErr result (IsUsageOf (infos_fault (rows_of (found_of matches.now)))) }
 {
+    let inputs = input_names(alloc, matches, None)?;
     Ok(Line {
         command: Command::Infos,
-        inputs: input_names(alloc, matches, None)?,
+        inputs,
         output: None,
         code: None,
     })

@@ -24,10 +24,11 @@ pub fn merge_line(alloc: Global, matches: &ArgMatches<'_>) -> Result<Line, Usage
         format: format(matches, "FORMAT"),
     };
     let inputs = input_names(alloc, matches, Some(output))?;
+    let output = String::from_str(alloc, output)?;
     Ok(Line {
         command: Command::Merge(merge),
         inputs,
-        output: Some(String::from_str(alloc, output)?),
+        output: Some(output),
         code: None,
     })
 }

@@ -1,4 +1,5 @@
 use Rattle.std.proofs.Common.{arith, ◌∙◌, ap, sym, inl, inr, map, refl}
+use Rattle.std.proofs.lemmas.Grind.{common_steps}
 use Rattle.std.proofs.lemmas.List.{take_all}
 use Rattle.std.proofs.lemmas.Result.{err_from_is_err_and}
 use Rattle.capkit.specs.Range.{range_of}
@@ -34,3 +35,6 @@ returns-clause-none c =
 pub returns-clause-proper : goal.returns-clause-proper
 returns-clause-proper c =
     proper_ranges c.args.words.now c.loop-word.ranges.items c.loop-word.word-index (omega arith) (omega arith) c.loop-word.invariant
+
+pub loop-word-preserved : goal.loop-word-preserved
+loop-word-preserved c = grind (arith, common_steps)

@@ -1,4 +1,5 @@
 use Rattle.std.proofs.Common.{◌∙◌, ap, sym, inl, inr, arith, map, refl}
+use Rattle.std.proofs.lemmas.Grind.{common_steps}
 use Rattle.std.proofs.lemmas.Result.{err_from_is_err_and}
 use Rattle.std.specs.Prelude.{option_map}
 use Rattle.capkit.proofs.FileNames.{faultless, text_of, used_twice}
@@ -23,3 +24,9 @@ pub returns-clause-faultless : goal.returns-clause-faultless
 returns-clause-faultless c =
     let names = c.deref.result.now in
     faultless names _ (option_map text_of c.args.output) (ap (map text_of) c.deref.ensures.value ∙ c.in_ok-names.ensures) (omega arith) (sym c.uses_name_twice.ensures ∙ c.if-uses_name_twice.false)
+
+pub returns-clause-names : goal.returns-clause-names
+returns-clause-names c = grind (arith, common_steps)
+
+pub returns-clause-count : goal.returns-clause-count
+returns-clause-count c = grind (arith, common_steps)

@@ -5,10 +5,10 @@ use Rattle.capkit.proofs.infos_line.infos_line.Goals as goal
 pub returns-clause-line : goal.returns-clause-line
 returns-clause-line c = record {
   command = refl;
-  inputs = c.in_ok-input_names.ensures.names;
+  inputs = c.in_ok-inputs.ensures.names;
   output = refl;
   code = refl;
 }
 
 pub returns-clause-ready : goal.returns-clause-ready
-returns-clause-ready c = and_from _ _ c.in_ok-input_names.ensures.count refl
+returns-clause-ready c = and_from _ _ c.in_ok-inputs.ensures.count refl

@@ -9,7 +9,7 @@ returns-clause-line c = record {
   append = c.flag.ensures;
   format = c.format.ensures;
   inputs = c.in_ok-inputs.ensures.names;
-  output = ap Some (c.in_ok-from_str.ensures.ok ∙ c.text-output.ensures);
+  output = ap Some (c.in_ok-output.ensures.ok ∙ c.text-output.ensures);
   code = refl;
 }
 
