@@ -4,9 +4,9 @@
 usage: build.py PROGRAM
 
 A crate is proved as soon as those that it needs are, many side by side on all processors. The one
-with the longest chain of crates above it goes first, with those whose chain is about as long: each
-has up to as many jobs as there are processors, and the others run beside them by `nice`, on what
-they leave idle, with two jobs if their chain is long too, and else with one. A run of rt keeps other runs out of the folders of its
+with the longest chain of crates above it goes first: it has up to as many jobs as there are
+processors, and the others run beside it by `nice`, on what it leaves idle, with two jobs if their
+chain is nearly as long, and else with one. A run of rt keeps other runs out of the folders of its
 crate and of those that this one needs. So each crate is proved in a workspace of its own,
 out/crates/NAME: copies of the sources, links to the libraries that are built, and the crate's own
 out/, which is moved there and back. rt knows one crates.txt in a repository, so no workspace is
@@ -174,12 +174,12 @@ class Build:
             self.stop()
 
     def begin_ready(self):
-        """Begins crates that wait for no other: urgent ones with all jobs that serve them, and
+        """Begins crates that wait for no other: an urgent one with all jobs that serve it, and
         others with the jobs that are free."""
         is_ready = lambda crate: all(self.crates[it] in self.proved for it in crate.needs)
         longest = max((it.chain for it in self.crates.values() if it not in self.proved), default=0)
         for crate in [it for it in self.waiting if is_ready(it)]:
-            crate.is_urgent = 10 * crate.chain >= 9 * longest
+            crate.is_urgent = crate.chain == longest
             jobs = jobs_of(crate, longest)
             if not crate.is_urgent:
                 jobs = min(self.spare, jobs)
