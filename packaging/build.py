@@ -6,11 +6,13 @@ usage: build.py PROGRAM
 A crate is proved as soon as those that it needs are, many side by side on all processors. The one
 with the longest chain of crates above it goes first: it has up to as many jobs as there are
 processors, and the others run beside it by `nice`, on what it leaves idle, with two jobs if their
-chain is nearly as long, and else with one. A run of rt keeps other runs out of the folders of its
-crate and of those that this one needs. So each crate is proved in a workspace of its own,
-out/crates/NAME: copies of the sources, links to the libraries that are built, and the crate's own
-out/, which is moved there and back. rt knows one crates.txt in a repository, so no workspace is
-left behind, and `rt ci` and `rt all` are refused while crates are proved here.
+chain is nearly as long, and else with one.
+
+Each crate is one call of rattle, the prover of rt's kit, as rt itself would make it, but that a
+library is written with its statements alone (`--statements`): the crates above read no proofs of
+it, which halves what the program's own check takes. rt does so in `rt ci`, and has no word for it
+elsewhere. What was proved is kept in out/incremental of the crate, as by rt. While a crate is
+proved other runs of rt wait for its folder, and for those of the crates that it needs.
 
 The program is copied to PROGRAM in one step, so that no launch finds a part of it. The status is 1
 where a crate isn't proved or something can't be written.
@@ -18,6 +20,7 @@ where a crate isn't proved or something can't be written.
 import contextlib
 import dataclasses
 import fcntl
+import hashlib
 import os
 import pathlib
 import queue
@@ -39,6 +42,9 @@ SIZE = 40_000
 # What the check of a crate costs before its first function, as so many bytes of sources.
 OVERHEAD = 60_000
 PROCESSORS = len(os.sched_getaffinity(0))
+# The folder of the kit that rt is from.
+KIT = pathlib.Path(shutil.which("rt") or "").resolve().parent.parent
+RATTLE = KIT / "bin" / "rattle"
 
 
 class Refused(Exception):
@@ -49,7 +55,8 @@ class Refused(Exception):
 class Crate:
     """A crate of this repository, by its line of crates.txt."""
     name: str
-    line: str
+    # The libraries of the kit that it names.
+    of_kit: list
     # The crates of this repository that it needs, and all that these need, lowest first.
     needs: list
     below: list
@@ -67,12 +74,17 @@ class Crate:
         return ROOT / "crates" / self.name
 
     @property
-    def workspace(self):
-        return OUT / "crates" / self.name
+    def library(self):
+        return self.home / "out" / "rlib" / f"{self.name}.rlib"
 
     @property
-    def place(self):
-        return self.workspace / "crates" / self.name
+    def program(self):
+        return self.home / "out" / self.name
+
+    @property
+    def stamp(self):
+        """Says of what the library was built. rt removes it with a library that it builds anew."""
+        return self.library.parent / "built"
 
     @property
     def log(self):
@@ -88,11 +100,13 @@ def crates_of(text):
     def visit(name):
         if name in crates:
             return
-        needs = [it for it in listed[name].split(":")[1].split() if it in listed]
+        named = listed[name].split(":")[1].split()
+        needs = [it for it in named if it in listed]
         for it in needs:
             visit(it)
         below = list(dict.fromkeys(it for need in needs for it in [*crates[need].below, need]))
-        crates[name] = Crate(name, listed[name], needs, below)
+        of_kit = ["std", *(it for it in named if it not in listed)]
+        crates[name] = Crate(name, of_kit, needs, below)
 
     visit(TOP)
     return crates
@@ -116,38 +130,41 @@ def sources(folder):
         yield from (pathlib.Path(at, name) for name in names)
 
 
-def prepare(crate, crates):
-    """Makes the workspace of a crate: a repository of it and those below it, as they are now."""
-    with_below = [crates[name] for name in [*crate.below, crate.name]]
-    for it in with_below:
-        for file in sources(it.home):
-            copy = crate.workspace / "crates" / it.name / file.relative_to(it.home)
-            copy.parent.mkdir(parents=True, exist_ok=True)
-            shutil.copyfile(file, copy)
-    lines = "\n".join(it.line for it in with_below)
-    (crate.workspace / "crates.txt").write_text(f"{lines}\n")
-    shutil.copyfile(ROOT / "HANDLES", crate.workspace / "HANDLES")
-    for it in with_below[:-1]:
-        to = crate.workspace / "crates" / it.name / "out" / "rlib"
-        shutil.copytree(it.home / "out" / "rlib", to, copy_function=link_or_copy)
-    if (crate.home / "out").is_dir():
-        (crate.home / "out").rename(crate.place / "out")
+def words_of(crate, crates, jobs):
+    """Returns the words that prove a crate, and build its library or the program's object file."""
+    root = "main" if (crate.home / "src" / "main.rt").exists() else "lib"
+    words = [RATTLE, "build", "--crate-name", crate.name, f"src/{root}.rt"]
+    for it in crate.of_kit:
+        words += ["--extern", f"{it}={KIT}/rlibs/{it}.rlib"]
+    words += ["-L", f"dependency={KIT}/rlibs"]
+    for it in crate.needs:
+        words += ["--extern", f"{it}={crates[it].library}"]
+    for it in crate.below:
+        words += ["-L", f"dependency={crates[it].library.parent}"]
+    words += ["--antt-project", KIT / "rattle" / "logic" / "antt-project.json"]
+    words += ["--logic-built", KIT / "logic_built", "--links", f"{crate.name}="]
+    words += ["--jobs", str(jobs), "--incremental", "out/incremental"]
+    if root == "main":
+        return [*words, "--toolchain", KIT / "toolchain", "-o", f"{crate.program}.o"]
+    return [*words, "--statements", "-o", crate.library]
 
 
-def dissolve(workspace):
-    """Removes a workspace, if it is there; the out/ of its crate moves to the crate."""
-    made, home = workspace / "crates" / workspace.name / "out", ROOT / "crates" / workspace.name
-    if made.is_dir() and home.is_dir() and not (home / "out").exists():
-        made.rename(home / "out")
-    shutil.rmtree(workspace, ignore_errors=True)
+def link_words(crate):
+    """Returns the words that link the program."""
+    words = [KIT / "bin" / "rattle-link", "--target", "x86_64-unknown-linux-gnu"]
+    words += ["--toolchain", KIT / "toolchain", "-o", crate.program, f"{crate.program}.o"]
+    return [*words, KIT / "c" / "libos_c.a", KIT / "c" / "liblibc_c.a"]
 
 
-def link_or_copy(source, to):
-    """Gives a file a second name, or a copy where there are no such names."""
-    try:
-        os.link(source, to)
-    except OSError:
-        shutil.copy2(source, to)
+def sum_of(crate, crates):
+    """Returns a sum of all that a crate is proved of: its sources, those below it, and the kit."""
+    found = RATTLE.stat()
+    total = hashlib.sha256(repr([str(RATTLE), found.st_size, found.st_mtime_ns]).encode())
+    for it in [*(crates[name] for name in crate.below), crate]:
+        total.update(repr([it.name, it.of_kit, it.needs]).encode())
+        for file in sorted(sources(it.home)):
+            total.update(repr([str(file.relative_to(it.home)), file.read_bytes()]).encode())
+    return total.hexdigest()
 
 
 class Build:
@@ -193,46 +210,58 @@ class Build:
 
     def work(self, crate, jobs):
         """Proves a crate and builds what comes of it; what it says and its end are events."""
-        status, jobs = 1, ["--jobs", str(jobs)]
-        # Both prove the crate first.
-        words = ["run", *jobs, "--", "--help"] if crate.name == TOP else ["lib", *jobs]
+        status = 1
         try:
             with self.alone_in(crate), crate.log.open("w") as log:
-                try:
-                    prepare(crate, self.crates)
-                    status = self.run(crate, log, words)
-                finally:
-                    dissolve(crate.workspace)
+                total = sum_of(crate, self.crates)
+                kept = crate.stamp.read_text() if crate.stamp.exists() else ""
+                status = 0 if kept == total else self.build(crate, log, jobs, total)
         except OSError as error:
             say(error)
         finally:
             self.events.put((crate.name, status))
 
+    def build(self, crate, log, jobs, total):
+        """Proves a crate and builds its library or the program, and returns the status."""
+        crate.stamp.parent.mkdir(parents=True, exist_ok=True)
+        # rt takes a library by a stamp of its own for one that it built itself.
+        for it in (crate.stamp, crate.stamp.with_name("stamp")):
+            it.unlink(missing_ok=True)
+        status = self.run(crate, log, words_of(crate, self.crates, jobs))
+        if not status and crate.name == TOP:
+            status = self.run(crate, log, link_words(crate))
+        elif not status and total == sum_of(crate, self.crates):
+            crate.stamp.write_text(total)
+        return status
+
     @contextlib.contextmanager
     def alone_in(self, crate):
-        """Keeps other runs of rt out of the crate's folder, as these do among themselves."""
+        """Keeps runs of rt out of the folders of a crate and of those below, as they do among
+        themselves. All are locked or none, so that no two runs wait for each other."""
+        folders = [os.open(self.crates[it].home, os.O_RDONLY) for it in crate.below]
         held = os.open(crate.home, os.O_RDONLY)
         try:
-            while not self.is_ending and not has_locked(held):
+            while not self.is_ending and not have_locked(held, folders):
                 crate.state = "waits for another rt"
                 self.events.put((crate.name, None))
                 time.sleep(1)
             crate.state = ""
             yield
         finally:
-            os.close(held)
+            for it in (held, *folders):
+                os.close(it)
 
     def run(self, crate, log, words):
-        """Runs rt in the crate, with its output in the log, and returns its status."""
+        """Runs a command in the crate, with its output in the log, and returns its status."""
         how = {"stdin": subprocess.DEVNULL, "stdout": log, "stderr": subprocess.STDOUT}
-        how.update(cwd=crate.place, start_new_session=True)
-        # rt keeps the lock: after a build that was killed, the next one waits until rt ends too.
+        how.update(cwd=crate.home, start_new_session=True)
+        # It keeps the lock: after a build that was killed, the next one waits until it ends too.
         how.update(pass_fds=[self.lock.fileno()])
         with self.turn:
             if self.is_ending:
                 return 1
             nice = [] if crate.is_urgent else ["nice", "-n", "19"]
-            crate.process = subprocess.Popen([*nice, "rt", *words], **how)
+            crate.process = subprocess.Popen([*nice, *words], **how)
             if nice:
                 stand_back(crate.process)
         return crate.process.wait()
@@ -255,7 +284,7 @@ class Build:
         return f"{len(self.proved)} of {len(self.crates)} crates proved; now {', '.join(now)}"
 
     def stop(self):
-        """Ends the processes that are still at work, and waits until their workspaces are gone."""
+        """Ends the processes that are still at work, and waits until they have ended."""
         with self.turn:
             self.is_ending = True
         for crate in self.crates.values():
@@ -320,16 +349,26 @@ def say(text):
     print(f"capkit: {text}", file=sys.stderr, flush=True)
 
 
-def has_locked(file):
+def has_locked(file, how=fcntl.LOCK_EX):
     """Locks a file or folder, if nobody else has it locked."""
     try:
-        fcntl.flock(file, fcntl.LOCK_EX | fcntl.LOCK_NB)
+        fcntl.flock(file, how | fcntl.LOCK_NB)
     except BlockingIOError:
         return False
     except OSError:
         # Some file systems have no locks.
         pass
     return True
+
+
+def have_locked(own, shared):
+    """Locks a folder and, beside others who only read there, some more: all of them or none."""
+    if has_locked(own) and all(has_locked(it, fcntl.LOCK_SH) for it in shared):
+        return True
+    for it in (own, *shared):
+        with contextlib.suppress(OSError):
+            fcntl.flock(it, fcntl.LOCK_UN)
+    return False
 
 
 def lock():
@@ -349,11 +388,9 @@ def lock():
 
 
 def tidy():
-    """Removes what a build leaves that ended early: logs, workspaces, a part of a program."""
+    """Removes what a build leaves that ended early: logs, a part of a program."""
     for it in [*OUT.glob("build-*.log"), *OUT.glob("new-*")]:
         it.unlink()
-    for it in OUT.glob("crates/*"):
-        dissolve(it)
 
 
 def build(program):
@@ -367,7 +404,7 @@ def build(program):
         measure(crates)
         Build(crates, held).prove()
         new = OUT / f"new-{os.getpid()}"
-        shutil.copy2(crates[TOP].home / "out" / TOP, new)
+        shutil.copy2(crates[TOP].program, new)
         program.parent.mkdir(exist_ok=True)
         new.rename(program)
         tidy()

@@ -1,10 +1,11 @@
 #!/usr/bin/env python3
-"""Tries how ./capkit proves and builds the program, in a scratch folder with a stub for rt.
+"""Tries how ./capkit proves and builds the program, in a scratch folder with stubs for the kit.
 
 usage: check_build.py
 
 Its last line is 'N passed, M failed'; the status is 1 where something failed.
 """
+import fcntl
 import os
 import pathlib
 import shutil
@@ -22,20 +23,27 @@ middle: low_a
 capkit_main: middle low_b clap
 other_tests: low_a
 """
-# It notes when it begins and ends, and wants the library of each crate below to be there.
-RT = """#!/bin/sh
-name=${PWD##*/}
-printf 'begin %s %s\\n' "$1" "$name" >>"$NOTES"
-for below in ../*/; do
-    [ "$below" = "../$name/" ] || [ -f "$below/out/rlib/stamp" ] || exit 9
+# It notes when it begins and ends, and wants the library of each crate below to be there. Its last
+# word is what it makes.
+RATTLE = """#!/bin/sh
+name=$3
+printf 'begin %s\\n' "$name" >>"$NOTES"
+for word; do
+    case $word in
+    *=*/out/rlib/*.rlib) [ -d "${word#*=}" ] || exit 9 ;;
+    esac
 done
 sleep "${SLEEP-0.3}"
 [ "$name" != "${FAILS-}" ] || { echo 'not proved: f'; exit 1; }
-case $1 in
-lib) mkdir -p out/rlib && : >out/rlib/stamp ;;
-run) mkdir -p out && printf '#!/bin/sh\\necho "runs $*"\\n' >out/capkit_main; chmod +x out/capkit_main ;;
+case $word in
+*.rlib) mkdir -p "$word" ;;
+*) : >"$word" ;;
 esac
-printf 'end %s %s\\n' "$1" "$name" >>"$NOTES"
+printf 'end %s\\n' "$name" >>"$NOTES"
+"""
+LINK = """#!/bin/sh
+while [ "$1" != -o ]; do shift; done
+printf '#!/bin/sh\\necho "runs $*"\\n' >"$2" && chmod +x "$2"
 """
 
 
@@ -49,11 +57,13 @@ class Checkout:
             shutil.copy(ROOT / name, self.at / name)
         (self.at / "crates.txt").write_text(CRATES)
         for name in ("low_a", "low_b", "middle", "capkit_main", "other_tests"):
+            root = "main.rt" if name == "capkit_main" else "lib.rt"
             (self.at / "crates" / name / "src").mkdir(parents=True)
-            (self.at / "crates" / name / "src" / "lib.rt").write_text(f"// {name}\n")
+            (self.at / "crates" / name / "src" / root).write_text(f"// {name}\n")
         (at / "bin").mkdir()
-        (at / "bin" / "rt").write_text(RT)
-        (at / "bin" / "rt").chmod(0o755)
+        for name, text in (("rt", "#!/bin/sh\n"), ("rattle", RATTLE), ("rattle-link", LINK)):
+            (at / "bin" / name).write_text(text)
+            (at / "bin" / name).chmod(0o755)
         self.path = f"{at}/bin:{os.environ['PATH']}"
 
     def begin(self, user=None, **words):
@@ -76,9 +86,16 @@ class Checkout:
     def logs(self):
         return sorted(it.name for it in (self.at / "out").glob("build-*.log"))
 
-    def has_one_list(self):
-        """Whether the repository has one crates.txt, as rt wants it."""
-        return len([*self.at.rglob("crates.txt")]) == 1
+    def is_free(self, name):
+        """Whether a run of rt could work in a crate's folder now."""
+        held = os.open(self.at / "crates" / name, os.O_RDONLY)
+        try:
+            fcntl.flock(held, fcntl.LOCK_EX | fcntl.LOCK_NB)
+            return True
+        except BlockingIOError:
+            return False
+        finally:
+            os.close(held)
 
 
 def wait_for(condition):
@@ -94,28 +111,31 @@ def try_first(checkout):
     noted = checkout.noted()
     yield "each crate that it needs is proved once", len(noted) == 8
     yield "no crate begins before those that it needs", (
-        noted.index("end lib low_a") < noted.index("begin lib middle")
-        and noted[-2:] == ["begin run capkit_main", "end run capkit_main"]
+        noted.index("end low_a") < noted.index("begin middle")
+        and noted[-2:] == ["begin capkit_main", "end capkit_main"]
     )
     is_single = len(os.sched_getaffinity(0)) == 1
     yield "crates are proved side by side", is_single or noted[1].startswith("begin")
     yield "it says how far it is", "proved capkit_main in 0 s, 4 of 4 crates" in messages
-    yield "nothing is left of the build", checkout.logs() == [] and checkout.has_one_list()
+    yield "nothing is left of the build", checkout.logs() == []
     yield "but what is kept for the next one", (checkout.at / "crates/low_a/out/rlib").is_dir()
     status, out, messages = checkout.call()
     yield "it is built once", (status, out, messages) == (0, "runs infos\n", "")
-    yield "and rt isn't called again", checkout.noted() == []
+    yield "and nothing is proved again", checkout.noted() == []
 
 
 def try_changed(checkout):
     (checkout.at / "crates" / "low_b" / "src" / "lib.rt").write_text("// changed\n")
     first = checkout.begin(SLEEP="1")
     wait_for(checkout.notes.exists)
+    yield "runs of rt wait for what is proved", not checkout.is_free("low_b")
+    yield "and for nothing else", checkout.is_free("other_tests")
     status, out, messages = checkout.call(SLEEP="1")
     first.communicate()
     yield "a second call waits and says so", "this one waits" in messages
     yield "and runs what the first one built", (status, out) == (0, "runs infos\n")
-    yield "which is built once", checkout.noted().count("begin run capkit_main") == 1
+    begun = [it for it in checkout.noted() if it.startswith("begin")]
+    yield "which is built once, of what changed", begun == ["begin low_b", "begin capkit_main"]
     yield "one program is kept", len([*(checkout.at / "out").glob("built-*")]) == 1
 
 
@@ -130,20 +150,14 @@ def try_interrupted(checkout):
     yield "and says so", "interrupted" in messages
     checkout.noted()
     yield "its logs are there", checkout.logs() != []
-    yield "and nothing that rt refuses", checkout.has_one_list()
-    kept = checkout.at / "crates/low_a/out"
-    moved = checkout.at / "out/crates/low_a/crates/low_a/out"
-    moved.parent.mkdir(parents=True)
-    kept.rename(moved)
-    (moved / "kept").touch()
+    (checkout.at / "crates" / "low_a" / "src" / "lib.rt").write_text("// again\n")
     (checkout.at / "out" / "build-12345.log").write_text("of an older launcher\n")
     status, out, messages = checkout.call(FAILS="middle")
     yield "a crate that isn't proved ends the build", (status, out) == (1, "")
     yield "and is named", "middle wasn't built" in messages
     yield "with the end of its output", "not proved: f\n" in messages
-    yield "and what is above it isn't tried", "begin run capkit_main" not in checkout.noted()
+    yield "and what is above it isn't tried", "begin capkit_main" not in checkout.noted()
     yield "logs of earlier builds are gone", "build-12345.log" not in checkout.logs()
-    yield "what a killed one kept is the crate's again", (kept / "kept").exists()
     status, out, _ = checkout.call()
     yield "then it is built", (status, out, checkout.logs()) == (0, "runs infos\n", [])
 

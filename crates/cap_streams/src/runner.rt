@@ -1,6 +1,6 @@
 //! A command over files and standard streams.
-ghost use Rattle.std.specs.Prelude.{◌≡◌, ◌+◌, ◌≤◌, IfOk, codes, length, option_map, string_bytes};
-ghost use Rattle.std.specs.Prelude.{true, unwrap_or, vec_len};
+ghost use Rattle.std.specs.Prelude.{◌≡◌, ◌+◌, ◌≤◌, [], ◌∷◌, ◌++◌, IfOk, codes, length, map};
+ghost use Rattle.std.specs.Prelude.{option_map, string_bytes, true, unwrap_or, vec_len};
 ghost use Rattle.cap_command.specs.Command.{is_proper};
 ghost use Rattle.capkit.specs.Line.{is_ready};
 
@@ -76,7 +76,9 @@ fn with_output(
     mut names: Vec<String>,
     output: &str,
 ) -> Result<Vec<String>, AllocError>
-    ensures { IfOk result (λ all. vec_len all ≡ vec_len names + 1) }
+    ensures count { IfOk result (λ all. vec_len all ≡ vec_len names + 1) }
+    ensures names { IfOk result (λ all. map string_bytes all.items
+        ≡ map string_bytes names.items ++ output.now ∷ []) }
 {
     names.push(String::from_str(rt.alloc(), output)?)?;
     Ok(names)

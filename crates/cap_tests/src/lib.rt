@@ -1,8 +1,10 @@
-//! Tests of files, from devices to whole runs: what no contract and no command line can show.
+//! Tests of what no contract and no command line can show, from devices to whole runs.
 #![tactic(auto)]
 
 #[cfg(test)]
 mod devices;
+#[cfg(test)]
+mod filters;
 #[cfg(test)]
 mod heaps;
 #[cfg(test)]
