@@ -14,7 +14,7 @@ import re
 import sys
 
 ROOT = pathlib.Path(__file__).resolve().parent.parent
-LEFT_OUT = {"cap_cases", "cap_tests", "cap_trial", "flt_tests"}
+LEFT_OUT = {"cap_cases", "cap_tests", "cap_trial"}
 
 IMPORT = re.compile(r"ghost use Rattle\.(\w+)\.specs\.(?!declared\.)[\w.]+\.\{([^}]*)\};")
 FUNCTION = re.compile(r"^\s*pub (?:const )?(?:unsafe )?(?:extern \"C\" )?fn (\w+)", re.MULTILINE)
