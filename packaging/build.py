@@ -8,10 +8,10 @@ with the longest chain of crates above it goes first: it has up to as many jobs 
 processors, and the others run beside it by `nice`, on what it leaves idle, with two jobs if their
 chain is nearly as long, and else with one.
 
-Each crate is one call of rattle, the prover of rt's kit, as rt itself would make it, but that a
-library is written with its statements alone (`--statements`): the crates above read no proofs of
-it, which halves what the program's own check takes. rt does so in `rt ci`, and has no word for it
-elsewhere. What was proved is kept in out/incremental of the crate, as by rt. While a crate is
+Each crate is one call of rattle, the prover of rt's kit, as `rt ci` makes it: a library is written
+with its statements alone, so the crates above read no proofs of it, which halves what the
+program's own check takes. Such a call keeps nothing for the next one. So a crate for which
+`rt check` has kept work, in its out/incremental, is proved over that, as rt does. While a crate is
 proved other runs of rt wait for its folder, and for those of the crates that it needs.
 
 The program is copied to PROGRAM in one step, so that no launch finds a part of it. The status is 1
@@ -63,6 +63,8 @@ class Crate:
     # The bytes of its sources, and of the longest chain from it to the program, with the overheads.
     size: int = 0
     chain: int = 0
+    # Whether rt has kept work that its proof can begin with.
+    is_kept: bool = False
     # While it is proved: whether all wait for it, what it waits for, and the process at work on it.
     is_urgent: bool = False
     state: str = ""
@@ -113,9 +115,10 @@ def crates_of(text):
 
 
 def measure(crates):
-    """Sets the size of each crate, and of its chain."""
+    """Sets the size of each crate, and of its chain, and whether something is kept of it."""
     for crate in crates.values():
         crate.size = sum(it.stat().st_size for it in sources(crate.home))
+        crate.is_kept = any((crate.home / "out" / "incremental").glob("*"))
     for crate in reversed(crates.values()):
         crate.chain += crate.size + OVERHEAD
         for need in crate.needs:
@@ -143,10 +146,14 @@ def words_of(crate, crates, jobs):
         words += ["-L", f"dependency={crates[it].library.parent}"]
     words += ["--antt-project", KIT / "rattle" / "logic" / "antt-project.json"]
     words += ["--logic-built", KIT / "logic_built", "--links", f"{crate.name}="]
-    words += ["--jobs", str(jobs), "--incremental", "out/incremental"]
+    words += ["--jobs", str(jobs)]
+    if crate.is_kept:
+        words += ["--incremental", "out/incremental"]
+    elif root == "lib":
+        words += ["--statements"]
     if root == "main":
         return [*words, "--toolchain", KIT / "toolchain", "-o", f"{crate.program}.o"]
-    return [*words, "--statements", "-o", crate.library]
+    return [*words, "-o", crate.library]
 
 
 def link_words(crate):
@@ -161,7 +168,7 @@ def sum_of(crate, crates):
     found = RATTLE.stat()
     total = hashlib.sha256(repr([str(RATTLE), found.st_size, found.st_mtime_ns]).encode())
     for it in [*(crates[name] for name in crate.below), crate]:
-        total.update(repr([it.name, it.of_kit, it.needs]).encode())
+        total.update(repr([it.name, it.of_kit, it.needs, it.is_kept]).encode())
         for file in sorted(sources(it.home)):
             total.update(repr([str(file.relative_to(it.home)), file.read_bytes()]).encode())
     return total.hexdigest()
