@@ -5,8 +5,8 @@ usage: build.py PROGRAM
 
 A crate is proved as soon as those that it needs are, many side by side on all processors. The one
 with the longest chain of crates above it goes first: it has up to as many jobs as there are
-processors, and the others run beside it by `nice`, on what it leaves idle, with two jobs if their
-chain is nearly as long, and else with one.
+processors, and the others stand back for it by `nice`, the more the shorter their chain is, with
+two jobs if it is nearly as long, and else with one.
 
 Each crate is one call of rattle, the prover of rt's kit, as `rt ci` makes it: a library is written
 with its statements alone, so the crates above read no proofs of it, which halves what the
@@ -37,10 +37,13 @@ OUT = ROOT / "out"
 TOP = "capkit_main"
 # What a job of a check takes of memory, in bytes.
 MEMORY = 2_000_000_000
-# How many bytes of sources are worth one more job.
-SIZE = 40_000
-# What the check of a crate costs before its first function, as so many bytes of sources.
-OVERHEAD = 60_000
+# A byte of code costs as much to check as so many bytes of definitions and proofs. That and what
+# follows was fitted to what 22 crates took.
+CODE = 13
+# How many bytes of definitions and proofs are worth one more job.
+SIZE = 150_000
+# What the check of a crate costs before its first function, as so many bytes.
+OVERHEAD = 140_000
 PROCESSORS = len(os.sched_getaffinity(0))
 # The folder of the kit that rt is from.
 KIT = pathlib.Path(shutil.which("rt") or "").resolve().parent.parent
@@ -60,13 +63,15 @@ class Crate:
     # The crates of this repository that it needs, and all that these need, lowest first.
     needs: list
     below: list
-    # The bytes of its sources, and of the longest chain from it to the program, with the overheads.
+    # What it costs, in bytes of definitions and proofs, and what the longest chain from it to the
+    # program does, with the overheads.
     size: int = 0
     chain: int = 0
     # Whether rt has kept work that its proof can begin with.
     is_kept: bool = False
-    # While it is proved: whether all wait for it, what it waits for, and the process at work on it.
-    is_urgent: bool = False
+    # While it is proved: how much it stands back, from 0 on, what it waits for, and the process at
+    # work on it.
+    niceness: int = 0
     state: str = ""
     process: subprocess.Popen = None
     worker: threading.Thread = None
@@ -115,9 +120,10 @@ def crates_of(text):
 
 
 def measure(crates):
-    """Sets the size of each crate, and of its chain, and whether something is kept of it."""
+    """Sets the cost of each crate, and of its chain, and whether something is kept of it."""
     for crate in crates.values():
-        crate.size = sum(it.stat().st_size for it in sources(crate.home))
+        for it in sources(crate.home):
+            crate.size += it.stat().st_size * (CODE if it.suffix == ".rt" else 1)
         crate.is_kept = any((crate.home / "out" / "incremental").glob("*"))
     for crate in reversed(crates.values()):
         crate.chain += crate.size + OVERHEAD
@@ -203,9 +209,9 @@ class Build:
         is_ready = lambda crate: all(self.crates[it] in self.proved for it in crate.needs)
         longest = max((it.chain for it in self.crates.values() if it not in self.proved), default=0)
         for crate in [it for it in self.waiting if is_ready(it)]:
-            crate.is_urgent = crate.chain == longest
+            crate.niceness = niceness_of(crate, longest)
             jobs = jobs_of(crate, longest)
-            if not crate.is_urgent:
+            if crate.niceness:
                 jobs = min(self.spare, jobs)
                 self.spare -= jobs
             if not jobs:
@@ -267,16 +273,15 @@ class Build:
         with self.turn:
             if self.is_ending:
                 return 1
-            nice = [] if crate.is_urgent else ["nice", "-n", "19"]
+            nice = ["nice", "-n", str(crate.niceness)]
             crate.process = subprocess.Popen([*nice, *words], **how)
-            if nice:
-                stand_back(crate.process)
+            stand_back(crate.process, crate.niceness)
         return crate.process.wait()
 
     def end(self, crate, status):
         """Notes that the work on a crate has ended."""
         jobs, begun = self.running.pop(crate.name)
-        if not crate.is_urgent:
+        if crate.niceness:
             self.spare += jobs
         if status:
             raise Refused(f"{crate.name} wasn't built; the whole output is in {crate.log}", crate)
@@ -307,16 +312,24 @@ def jobs_of(crate, longest):
     """Returns how many jobs the check of a crate has, given the longest chain that is left. A small
     crate has one, since each job loads what the crate stands on anew."""
     most = 1 + crate.size // SIZE
-    if crate.is_urgent:
+    if crate.chain == longest:
         return min(most, PROCESSORS)
     return min(most, 2) if 4 * crate.chain >= 3 * longest else 1
 
 
-def stand_back(process):
-    """Gives the session of a process what other sessions leave idle. Linux shares its processors
-    among sessions, and `nice` alone counts within one."""
+def niceness_of(crate, longest):
+    """Returns how much a crate stands back for others: 0 if all wait for it, and up to 19 the
+    shorter its chain is beside the longest."""
+    if crate.chain == longest:
+        return 0
+    return min(19, 1 + 30 * (longest - crate.chain) // longest)
+
+
+def stand_back(process, niceness):
+    """Has the session of a process stand back for others. Linux shares its processors among
+    sessions, and `nice` alone counts within one."""
     with contextlib.suppress(OSError):
-        pathlib.Path(f"/proc/{process.pid}/autogroup").write_text("19")
+        pathlib.Path(f"/proc/{process.pid}/autogroup").write_text(str(niceness))
 
 
 def jobs_beside():
