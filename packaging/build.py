@@ -132,11 +132,9 @@ def measure(crates):
 
 
 def sources(folder):
-    """Yields the files of a crate, without what is made of them."""
-    for at, folders, names in os.walk(folder):
-        if at == str(folder):
-            folders[:] = [it for it in folders if it != "out"]
-        yield from (pathlib.Path(at, name) for name in names)
+    """Yields the files of a crate that its proof reads."""
+    for part in ("src", "specs", "proofs"):
+        yield from (it for it in (folder / part).rglob("*") if it.is_file())
 
 
 def words_of(crate, crates, jobs):
@@ -418,6 +416,8 @@ def build(program):
     with lock() as held:
         if program.exists():
             return
+        if not RATTLE.exists():
+            raise Refused(f"the prover of rt's kit is looked for at {RATTLE}, and isn't there")
         say("proving and building the program: once, most of an hour of processor time")
         crates = crates_of((ROOT / "crates.txt").read_text())
         tidy()
