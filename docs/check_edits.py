@@ -53,7 +53,7 @@ def list_stale():
 
 
 def try_edits(crate, names):
-    """Tries a crate's edits of these names, or all of them, and returns how many weren't refused."""
+    """Tries a crate's edits of these names, or all of them, and returns the status of `rt must-fail`."""
     edits = {name: edit for name, edit in edits_of(crate).items() if not names or name in names}
     files = [crate / "must-fail" / f"{name}.edit" for name in edits]
     try:
