@@ -316,11 +316,12 @@ def jobs_of(crate, longest):
 
 
 def niceness_of(crate, longest):
-    """Returns how much a crate stands back for others: 0 if all wait for it, and up to 19 the
-    shorter its chain is beside the longest."""
+    """Returns how much a crate stands back for others: 0 if all wait for it, and 1 to 8 the shorter
+    its chain is beside the longest. With more it would get nothing while others work, and those at
+    the end of its chain would begin late."""
     if crate.chain == longest:
         return 0
-    return min(19, 1 + 30 * (longest - crate.chain) // longest)
+    return 1 + 8 * (longest - crate.chain) // longest
 
 
 def stand_back(process, niceness):
