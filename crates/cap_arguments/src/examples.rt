@@ -4,7 +4,7 @@
 //! `packaging/pages.py` reads them so for the manual pages. No line has more than 80 columns.
 
 /// The version of the program, as in `packaging/version`, and of the toolchain that proves it.
-pub const VERSION: &str = "0.1.0 (rattle-kit-13b logic dac8208d650f15bf)";
+pub const VERSION: &str = "0.1.0 (rattle-kit-13f logic dac8208d650f15bf)";
 
 pub const LINE_HELP: &str = "\
 capkit COMMAND --help has the options and examples of a command.

@@ -1,10 +1,9 @@
 -- One input among others.
-use Rattle.std.proofs.Common.{◌≡◌, ℕ, zero, suc, ◌+◌, ◌<◌, List, [], ◌∷◌, ◌++◌, length, max, Option, None, Some, refl, sym, ◌∙◌, ap, arith, get_or, drop, Bool, true, false, Result, Ok, Err}
-use Rattle.std.specs.Option.{option_or}
+use Rattle.std.proofs.Common.{◌≡◌, ℕ, zero, suc, ◌+◌, ◌<◌, List, [], ◌∷◌, ◌++◌, length, max, Option, Some, refl, sym, ◌∙◌, ap, arith, get_or, Bool, true, false, Result, Ok, Err}
 use Rattle.std.proofs.Math.Nat.{max_comm}
 use Rattle.std.proofs.lemmas.List.{append-nil}
 use Rattle.cap_octet.specs.Packet.{Captured}
-use Rattle.cap_io.specs.Capture.{Placed, first_link_of}
+use Rattle.cap_io.specs.Capture.{Placed}
 use Rattle.std.specs.List.{slice_set}
 use Rattle.cap_octet.specs.declared.fault.Fault.{Fault}
 use Rattle.cap_io.specs.Source.{Advances, SectionFits, Phase, Reading, Ended, Failed, SourceView, Steps, phase_after}
@@ -12,7 +11,7 @@ use Rattle.cap_inputs.specs.declared.inputs.Schedule.{Schedule}
 use Rattle.cap_inputs.specs.declared.inputs.Schedule.TheVariants.{Turn, Merge}
 use Rattle.cap_inputs.specs.Cursor.{ordering_of, schedule_after, schedule_behind}
 use Rattle.cap_inputs.specs.Inputs.{never_failing}
-use Rattle.cap_inputs.specs.Inputs.{InputView, InputsView, InputPast, AreInputsBehind, KnowGreatest, IsInput, ReadsInput, ReadSteps, greatest_of, input_after, first_declared_link, input_behind, packet_time, with_cursor}
+use Rattle.cap_inputs.specs.Inputs.{InputView, InputsView, InputPast, AreInputsBehind, KnowGreatest, IsInput, ReadsInput, ReadSteps, greatest_of, input_after, input_behind, packet_time, with_cursor}
 
 pub get-among : (cursors : List InputView) (i : ℕ) (h d : InputView) → i < length cursors → h ≡ get_or cursors i d → IsInput cursors i h
 get-among [] i h d within is = absurd (omega (arith, within))
@@ -55,17 +54,6 @@ fetches-by inputs i r old new within value advances steps is = record {
   steps = steps;
   is = ap (with_cursor inputs i) is;
 }
-
-pub first-drop : (cursors : List InputView) (i : ℕ) (h d : InputView) → i < length cursors → h ≡ get_or cursors i d → first_declared_link (drop i cursors) ≡ option_or (first_link_of h.source.declared) (first_declared_link (drop (i + 1) cursors))
-first-drop [] i h d within is = absurd (omega (arith, within))
-first-drop (x ∷ xs) zero h d within is = rw is refl
-first-drop (x ∷ xs) (suc i) h d within is =
-    let e : suc i + 1 ≡ suc (i + 1) = omega arith in
-    rw e (first-drop xs i h d (omega (arith, within)) is)
-
-pub first-none : (cursors : List InputView) → None ≡ first_declared_link (drop (length cursors) cursors)
-first-none [] = refl
-first-none (x ∷ xs) = first-none xs
 
 pub read_input-steps-by : (inputs : InputsView) (i : ℕ) (r : Result Bool Fault) (old new : InputView) → i < length inputs.cursors → old ≡ get_or inputs.cursors i old
     → Steps old.source.phase old.source r new.source → new.source.phase ≡ phase_after r → SectionFits new.source.declared → new ≡ input_after old r new.source

@@ -290,9 +290,6 @@ from-at k (h ∷ hs) t zero from e =
     omega (arith, less, key)
 from-at k (h ∷ hs) t (suc j) from e = from-at k hs t j from.1 e
 
-front-bound : (xs : List InputView) (t j : ℕ) → waits_with xs t j ≡ true → j < length xs
-front-bound xs t j e = (waits-front xs [] t j e).0
-
 -- an entry that no other precedes is that of the least input
 same-input : (front back : List InputView) (h : InputView) (w : Waiting) → h.waiting ≡ true → KeysOver (key_of h) front → KeysFrom (key_of h) back
     → waits_with (front ++ h ∷ back) w.time w.input ≡ true → (w.time < key_of h) ⊎ ((w.time ≡ key_of h) × (w.input ≤ length front)) → w.input ≡ length front

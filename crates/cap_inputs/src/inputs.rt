@@ -67,10 +67,7 @@ pub enum Next {
 fn time_in<I: Input, A: Allocator>(source: &Source<I, A>) -> u64
     ensures { result ≡ packet_time source.now.packet }
 {
-    match source.time() {
-        Some(time) => time,
-        None => 0,
-    }
+    source.time().unwrap_or(0)
 }
 
 impl<I: Input, A: Allocator> InputCursor<I, A> {
@@ -195,8 +192,8 @@ impl<I: Input, A: Allocator> Inputs<I, A> {
             (map (fresh_input I.Input) inputs.items)) }
     {
         let cursors = cursors_of(alloc, inputs)?;
-        let schedule = schedule_at_first(&cursors, merges);
         let queue = queue_for(alloc, merges, cursors.len())?;
+        let schedule = schedule_at_first(&cursors, merges);
         Some(Inputs {
             cursors,
             schedule,
@@ -273,11 +270,13 @@ impl<I: Input, A: Allocator> Inputs<I, A> {
     {
         let cursor = &mut self.cursors[input];
         let result = cursor.advance();
-        let entry = Waiting {
-            time: cursor.key(),
-            input,
-        };
-        go_on(&mut self.queue, &mut self.schedule, entry, result);
+        let time = cursor.key();
+        go_on(
+            &mut self.queue,
+            &mut self.schedule,
+            Waiting { time, input },
+            result,
+        );
         result
     }
 }
@@ -338,19 +337,21 @@ fn go_on<A: Allocator>(
         queue.new }
     ensures schedule { schedule.new ≡ schedule_after schedule.old entry.input read }
 {
+    let Ok(found) = read else {
+        return;
+    };
     match schedule {
-        Schedule::Turn(turn) => match read {
-            Ok(true) | Err(_) => {}
-            Ok(false) => *turn = entry.input + 1,
-        },
-        Schedule::Merge(next, _) => match read {
-            Ok(true) => {
-                *next = entry.input + 1;
+        Schedule::Turn(turn) => {
+            if !found {
+                *turn = entry.input + 1;
+            }
+        }
+        Schedule::Merge(next, _) => {
+            *next = entry.input + 1;
+            if found {
                 queue.add(entry);
             }
-            Ok(false) => *next = entry.input + 1,
-            Err(_) => {}
-        },
+        }
     }
 }
 
@@ -396,10 +397,9 @@ where
 {
     let mut cursors = Vec::new(alloc);
     for input in inputs {
-        let cursor = InputCursor::new(Source::new(alloc, input));
-        if cursors.push(cursor).is_err() {
-            return None;
-        }
+        cursors
+            .push(InputCursor::new(Source::new(alloc, input)))
+            .ok()?;
     }
     Some(cursors)
 }

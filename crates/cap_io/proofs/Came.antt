@@ -11,13 +11,13 @@ use Rattle.cap_pcap.specs.declared.header.Head.{Head}
 use Rattle.cap_pcap.specs.declared.header.RecordHead.{RecordHead}
 use Rattle.cap_pcap.specs.Header.{form_in, header_fault, header_in}
 use Rattle.cap_pcap.specs.Record.{captured_len, field_checks, record_header_in, record_size, record_packet}
-use Rattle.cap_pcap.proofs.Headers.{header_fault-few, form_in-append, header_fault-append, header_fault-no_magic, header_fault-short}
-use Rattle.cap_pcap.proofs.Records.{field_checks-append, record_header_in-append, captured_len-append, record_fault-few, record_fault-fields, record_fault-short, IsRecord-came}
+use Rattle.cap_pcap.proofs.Headers.{form_in-append, header_fault-append, header_fault-no_magic, header_fault-short}
+use Rattle.cap_pcap.proofs.Records.{field_checks-append, record_header_in-append, captured_len-append, record_fault-fields, record_fault-short, IsRecord-came}
 use Rattle.cap_pcapng.specs.Frame.{is_section}
 use Rattle.cap_pcapng.proofs.Units as block
 use Rattle.cap_io.specs.Capture.{Declared, Nothing, PcapFile, Front, a_pcap_record, front_of, is_pcapng}
-use Rattle.cap_io.specs.Reading.{most_in_unit, most_taken, length_by_front, decisive_length, IsTaken, NoUnitCame, RestMissing, FrontMissing, HeaderCame, PacketCame}
-use Rattle.cap_io.proofs.Fronts.{front_of-no_header, front_of-no_record, front_of-pcapng, is_section-append, is_pcapng-append, is_pcapng-few, most_taken-block, most_taken-header, most_taken-record, most_taken-front, decisive_length-file, decisive_length-front, decisive_length-header}
+use Rattle.cap_io.specs.Reading.{most_in_unit, most_taken, length_by_front, decisive_length, IsTaken, NoUnitCame, RestMissing, HeaderCame, PacketCame}
+use Rattle.cap_io.proofs.Fronts.{front_of-no_header, front_of-no_record, front_of-pcapng, is_section-append, is_pcapng-append, most_taken-block, most_taken-header, most_taken-record, most_taken-front, decisive_length-header}
 use Rattle.cap_io.proofs.OwnFaults.{fields-not_failed, header-not_failed}
 
 -- bytes that came, and some more behind them
@@ -51,18 +51,6 @@ most_taken-file text count upper_bound = by_kind (is_pcapng text) refl
         subst P (sym (front_of-pcapng text is))
         (most_taken-block None None text count (λ none. omega (arith, upper_bound, (block.passes None text none).least)) (omega (arith, upper_bound)))
     by_kind false is = most_taken-header text count is (omega (arith, upper_bound))
-
-pub too_few : (unread unread' : List ℕ) (count : ℕ) → length unread < 4 → count ≤ length unread → unread' ≡ drop count unread → NoUnitCame Nothing unread unread' NotACaptureFile
-too_few unread unread' count upper_bound there rest = record {
-  why = inl (front_of-no_header unread NotACaptureFile (is_pcapng-few unread upper_bound) (header_fault-few unread upper_bound));
-  taken = record { count = count; within = most_taken-file unread count (omega arith); unfinished = λ failed. (cc); there = there; rest = rest };
-}
-
-pub first_failed : (unread unread' : List ℕ) (count : ℕ) → count < 4 → count ≤ length unread → unread' ≡ drop count unread → NoUnitCame Nothing unread unread' ReadFailed
-first_failed unread unread' count upper_bound there rest = record {
-  why = inr (inl refl);
-  taken = record { count = count; within = most_taken-file unread count (omega arith); unfinished = λ failed. decisive_length-file unread count upper_bound; there = there; rest = rest };
-}
 
 -- what is refused behind the first four bytes is refused with them
 pub NoUnitCame-behind : (unread unread1 unread2 first : List ℕ) (fault : Fault) → unread ≡ first ++ unread1 → NoUnitCame Nothing (first ++ unread1) unread2 fault → NoUnitCame Nothing unread unread2 fault
@@ -144,24 +132,6 @@ header_refused exact unread unread2 bytes (Ok head) splits size other is = tt
 header_refused exact unread unread2 bytes (Err fault) splits size other is = λ t. header_wrong unread unread2 bytes fault (splits t) size other is
 
 -- ---- a record
-
-pub record_front : (head : Head) (unread unread' : List ℕ) (fault : Fault) → FrontMissing 16 unread unread' fault → NoUnitCame (PcapFile head) unread unread' fault
-record_front head unread unread' fault m = record {
-  why = elim m.missing.why [
-    | inl short ↦ elim m.some [
-      | inl some ↦ inl (rw short.0 (front_of-no_record head unread Truncated some (record_fault-few head unread (omega (arith, short.1)))))
-      | inr failed ↦ inr (inl failed)
-    ]
-    | inr failed ↦ inr (inl failed)
-  ];
-  taken = record {
-    count = m.missing.count;
-    within = most_taken-front head unread m.missing.count (omega (arith, m.missing.within));
-    unfinished = λ failed. decisive_length-front head unread m.missing.count (omega (arith, m.missing.within));
-    there = m.missing.there;
-    rest = m.missing.rest;
-  };
-}
 
 pub record FieldsCame (head : Head) (front : List ℕ) (found : RecordHead) : Type 0 where
   pub none : first_failing (field_checks head front) ≡ None

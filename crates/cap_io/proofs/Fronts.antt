@@ -1,6 +1,6 @@
 -- What a text begins with, told by its first bytes.
 use Rattle.std.proofs.Common.{◌≡◌, ℕ, ◌<◌, ◌≤◌, Bool, List, [], ◌∷◌, ◌++◌, length, take, Option, Some, None, true, false, refl, sym, ap, ◌∙◌, subst, arith, ◌&&◌}
-use Rattle.std.proofs.lemmas.Bool.{le-leb, lt-leb}
+use Rattle.std.proofs.lemmas.Bool.{le-leb}
 use Rattle.std.proofs.lemmas.List.{length-append}
 use Rattle.cap_octet.specs.declared.fault.Fault.{Fault}
 use Rattle.cap_octet.specs.declared.number.Order.TheVariants.{Little}
@@ -8,7 +8,7 @@ use Rattle.cap_octet.proofs.Numbers.{number_in-append}
 use Rattle.cap_pcap.specs.declared.header.Head.{Head}
 use Rattle.cap_octet.specs.Checks.{first_failing}
 use Rattle.cap_pcap.specs.Header.{form_in, header_fault, header_in}
-use Rattle.cap_pcap.specs.Record.{field_checks, record_size, record_fault, record_packet}
+use Rattle.cap_pcap.specs.Record.{record_size, record_fault, record_packet}
 use Rattle.cap_pcap.proofs.Records.{passes}
 use Rattle.cap_pcapng.specs.Frame.{frame_checks, is_section}
 use Rattle.cap_pcapng.specs.Unit.{Section, block_size, order_before, packets_in, unit_fault}
@@ -27,9 +27,6 @@ pub is_pcapng-append : (front more : List ℕ) → 4 ≤ length front → is_pca
 is_pcapng-append front more enough =
     ap (λ (b : Bool). b && is_section (front ++ more)) (le-leb 4 (length (front ++ more)) (omega (arith, length-append front more)))
     ∙ is_section-append front more enough
-
-pub is_pcapng-few : (text : List ℕ) → length text < 4 → is_pcapng text ≡ false
-is_pcapng-few text upper_bound = ap (λ (b : Bool). b && is_section text) (lt-leb 4 (length text) upper_bound)
 
 pub front_of-pcap : (text : List ℕ) → is_pcapng text ≡ false → front_of Nothing text ≡ front_of_header (header_fault text) text
 front_of-pcap text other = ap (λ (b : Bool). front_of_file b text) other
@@ -116,18 +113,3 @@ decisive_length-pcapng text is = ap (λ (b : Bool). if b then decisive_block_len
 pub decisive_length-header : (text : List ℕ) → is_pcapng text ≡ false → is_some (form_in text) ≡ true → decisive_length Nothing text ≡ 24
 decisive_length-header text other some =
     ap (λ (b : Bool). if b then decisive_block_length None text else (if is_some (form_in text) then 24 else 4)) other ∙ ap (λ (b : Bool). if b then 24 else 4) some
-
-pub decisive_length-file : (text : List ℕ) (count : ℕ) → count < 4 → count < decisive_length Nothing text
-decisive_length-file text count upper_bound = by_kind (is_pcapng text) (is_some (form_in text))
-  where
-    by_kind : (section magic : Bool) → count < (if section then decisive_block_length None text else (if magic then 24 else 4))
-    by_kind true magic = decisive_block_length-few None text count (omega (arith, upper_bound))
-    by_kind false true = omega (arith, upper_bound)
-    by_kind false false = upper_bound
-
-pub decisive_length-front : (head : Head) (text : List ℕ) (count : ℕ) → count < 16 → count < decisive_length (PcapFile head) text
-decisive_length-front head text count upper_bound = by_fault (first_failing (field_checks head text))
-  where
-    by_fault : (fault : Option Fault) → count < length_by_front fault 16 (record_size head text)
-    by_fault None = omega (arith, upper_bound)
-    by_fault (Some fault) = upper_bound

@@ -1,18 +1,13 @@
 -- A record that a device had at hand.
-use Rattle.std.proofs.Common.{◌≡◌, ℕ, Bool, true, IsTrue, is_some, ◌+◌, ◌^◌, ◌<◌, ◌≤◌, List, [], ◌++◌, length, take, drop, Result, Ok, Err, refl, sym, subst, ap, ap₂, ◌∙◌, arith, add-zero}
+use Rattle.std.proofs.Common.{◌≡◌, ℕ, Bool, true, IsTrue, is_some, ◌+◌, ◌^◌, ◌<◌, ◌≤◌, List, ◌++◌, length, take, drop, Ok, refl, sym, ap, ap₂, ◌∙◌, arith, add-zero}
 use Rattle.std.proofs.lemmas.List.{length-take-le, take-take, take-append-le, take-append-drop, append_assoc}
 use Rattle.cap_octet.specs.Device.{Passes}
 use Rattle.cap_octet.specs.Checks.{checked, first_failing}
 use Rattle.cap_pcap.specs.declared.header.Head.{Head}
 use Rattle.cap_pcap.specs.declared.header.RecordHead.{RecordHead}
 use Rattle.cap_pcap.specs.Record.{field_checks, most_captured, record_header_in}
-use Rattle.cap_octet.specs.declared.fault.Fault.{Fault}
-use Rattle.cap_octet.specs.declared.device.Input.{Ghosts}
-use Rattle.cap_pcapng.specs.Interface.{Described}
-use Rattle.cap_io.specs.declared.file_state.NextUnit.{NextUnit}
 use Rattle.cap_io.specs.declared.file_state.PacketSpans.{PacketSpans}
-use Rattle.cap_io.specs.declared.file_state.FileState.{FileState}
-use Rattle.cap_io.specs.Reading.{NothingTaken, PacketCame, ReadsUnit, NoUnitCame, UnitCame, declared_by, read_failures, record_spans, packet_in_unit}
+use Rattle.cap_io.specs.Reading.{PacketCame, record_spans, packet_in_unit}
 use Rattle.cap_io.specs.Capture.{Declared, PcapFile}
 use Rattle.cap_io.specs.Source.{SourceView, Reading, IsBetween, TakesNext}
 use Rattle.cap_io.proofs.Passing.{FindsPacket-next}
@@ -44,52 +39,6 @@ record-taken head unread unread' buffer found says there splits =
     let parts : unread ≡ front ++ (drop 16 unit ++ unread') = splits ∙ ap (λ (l : List ℕ). l ++ unread') joined ∙ append_assoc front (drop 16 unit) unread' in
     record_came head unread (drop 16 unit ++ unread') unread' front unit buffer found size parts upper_bound (fields_came head front (Ok found) found (sym says) refl) refl whole
     (ap (λ (n : ℕ). take n unit) upper_bound ∙ first) (ap (λ (n : ℕ). drop n unit ++ unread') (sym upper_bound)) refl
-
--- a device that gave nothing is read as it was
-pub reads-behind : {I : Type 0} (device : Ghosts I) (old mid new : I) (file : FileState) (interfaces : List Described) (r : Result NextUnit Fault) (buffer : List ℕ) (spans : PacketSpans) → NothingTaken device old mid
-    → ReadsUnit device mid [] file interfaces r new buffer spans file interfaces → ReadsUnit device old [] file interfaces r new buffer spans file interfaces
-reads-behind device old mid new file interfaces (Ok came) buffer spans nothing reads =
-    let U : List ℕ → Type 0 = λ l. UnitCame (declared_by file interfaces) l buffer spans came (declared_by file interfaces) (device.unread new) in
-    let same = nothing.counted in
-    let counted = reads.moves.counted in
-    let grown = reads.moves.grown in
-    record {
-      moves = record {
-        counted = omega (arith, same, counted);
-        grown = omega (arith, same, grown);
-        bounded = reads.moves.bounded;
-        at_most = tt;
-        failed = reads.moves.failed ∙ ap (λ (n : ℕ). n + 0) nothing.failed;
-        never = reads.moves.never ∙ nothing.never;
-      };
-      sized = reads.sized;
-      consistent = reads.consistent;
-      known = reads.known;
-      ok = λ t. subst U (nothing.rest t) (reads.ok t);
-      err = tt;
-      kept = tt;
-    }
-reads-behind device old mid new file interfaces (Err fault) buffer spans nothing reads =
-    let R : List ℕ → Type 0 = λ l. NoUnitCame (declared_by file interfaces) l (device.unread new) fault in
-    let same = nothing.counted in
-    let upper_bound = reads.moves.at_most in
-    let grown = reads.moves.grown in
-    record {
-      moves = record {
-        counted = tt;
-        grown = omega (arith, same, grown);
-        bounded = tt;
-        at_most = omega (arith, same, upper_bound);
-        failed = reads.moves.failed ∙ ap (λ (n : ℕ). n + read_failures {X = NextUnit} (Err fault)) nothing.failed;
-        never = reads.moves.never ∙ nothing.never;
-      };
-      sized = tt;
-      consistent = tt;
-      known = tt;
-      ok = tt;
-      err = λ t. subst R (nothing.rest t) (reads.err t);
-      kept = reads.kept;
-    }
 
 -- a source that stood between units took the next one, which has a packet
 pub takes-next : (tells : Bool) (head : Head) (found : RecordHead) (buffer : List ℕ) (old new : SourceView) → IsBetween old

@@ -1,5 +1,5 @@
 -- From one place in a file to a later one.
-use Rattle.std.proofs.Common.{◌≡◌, ℕ, ◌+◌, ◌-◌, ◌≤◌, List, [], ◌++◌, length, take, drop, Bool, Option, Some, None, Result, Ok, Err, is_some, true, false, refl, sym, ap, ap₂, ◌∙◌, subst, arith}
+use Rattle.std.proofs.Common.{◌≡◌, ℕ, ◌+◌, ◌-◌, ◌≤◌, List, [], ◌++◌, length, take, drop, Option, Some, None, is_some, true, refl, sym, ap, ap₂, ◌∙◌, subst, arith}
 use Rattle.std.specs.List.{slice_get}
 use Rattle.std.specs.Option.{option_map}
 use Rattle.std.proofs.lemmas.List.{append_assoc, drop-take, take-take, length-append, length-take-le}
@@ -17,7 +17,7 @@ use Rattle.cap_io.specs.Capture.{Declared, Nothing, PcapFile, PcapngFile, AreUni
 use Rattle.cap_io.proofs.Items.{AreUnits-append}
 use Rattle.cap_io.proofs.Units.{one_unit}
 use Rattle.cap_io.specs.Reading.{EndCame, HasInterface, PacketCame, NoUnitCame, UnitPassed, packet_in_unit, span_bytes}
-use Rattle.cap_io.specs.Source.{SourceView, Continues, Reading, Ended, SkipsUnits, IsBetween, IsBroken, FindsPacket, FindsEnd, HoldsIfAny, end_offset, block_at, past_unit, phase_at}
+use Rattle.cap_io.specs.Source.{SourceView, Reading, Ended, SkipsUnits, IsBetween, IsBroken, FindsPacket, FindsEnd, HoldsIfAny, block_at, phase_at}
 
 -- ---- no unit is gone over
 
@@ -70,24 +70,6 @@ FindsPacket-next old new spans buffer between came block packet place phase =
     }
 
 -- ---- units after the unit in hand, and after others
-
-pub SkipsUnits-left : (old mid : SourceView) → mid ≡ past_unit old → SkipsUnits old mid mid.unread
-SkipsUnits-left old mid is = record {
-  passed = [];
-  splits = ap (λ (s : SourceView). s.unread) (sym is);
-  units = rw (ap (λ (s : SourceView). s.declared) is) no_unit;
-  offset = ap (λ (s : SourceView). s.offset) is ∙ omega arith;
-}
-
-pub IsBetween-left : (old mid : SourceView) → old.phase ≡ Reading → mid ≡ past_unit old → IsBetween mid
-IsBetween-left old mid phase is = record {
-  phase = ap (λ (s : SourceView). s.phase) is ∙ phase;
-  block = ap (λ (s : SourceView). s.block) is;
-  packet = ap (λ (s : SourceView). s.packet) is;
-}
-
-pub leaves-counted : (old mid : SourceView) → mid ≡ past_unit old → mid.given + end_offset old ≡ old.given + end_offset mid
-leaves-counted old mid is = rw is (omega arith)
 
 pub SkipsUnits-then : (old mid new : SourceView) (rest : List ℕ) → SkipsUnits old mid mid.unread → mid.block ≡ [] → SkipsUnits mid new rest → SkipsUnits old new rest
 SkipsUnits-then old mid new rest first none more =
@@ -174,16 +156,3 @@ stage_between stage.Ended spans buffer phase none holds = (cc)
 stage_between (stage.Failed fault) spans buffer phase none holds = (cc)
 
 -- ---- nothing is taken
-
-pub SkipsUnits-same : (old mid new : SourceView) → SkipsUnits old mid mid.unread → new.declared ≡ mid.declared → new.offset ≡ mid.offset → new.unread ≡ mid.unread → SkipsUnits old new new.unread
-SkipsUnits-same old mid new passes declared offset unread = record {
-  passed = passes.passed;
-  splits = rw unread passes.splits;
-  units = rw declared passes.units;
-  offset = offset ∙ passes.offset;
-}
-
-pub Continues-then : (old mid new : SourceView) (r : Result Bool Fault) → SkipsUnits old mid mid.unread → mid.block ≡ [] → Continues mid r new → Continues old r new
-Continues-then old mid new (Ok true) passes block goes = FindsPacket-then old mid new passes block goes
-Continues-then old mid new (Ok false) passes block goes = FindsEnd-then old mid new passes block goes
-Continues-then old mid new (Err fault) passes block goes = IsBroken-then old mid new fault passes block goes

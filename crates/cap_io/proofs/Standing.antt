@@ -1,11 +1,11 @@
 -- Where a source stands in its text, from one call to the next.
-use Rattle.std.proofs.Common.{◌≡◌, ℕ, ◌+◌, ◌⊎◌, inl, inr, Bool, true, false, List, [], ◌∷◌, ◌++◌, length, Option, None, Some, refl, sym, ◌∙◌, ap, arith, add-zero, zero-add, Result, Ok}
+use Rattle.std.proofs.Common.{◌≡◌, ℕ, ◌+◌, ◌⊎◌, inl, inr, Bool, true, false, List, [], ◌∷◌, ◌++◌, length, Option, Some, refl, sym, ◌∙◌, ap, arith, add-zero, zero-add, Result, Ok}
 use Rattle.std.proofs.lemmas.List.{append_assoc, append-nil, length-append}
 use Rattle.cap_octet.specs.declared.fault.Fault.{Fault}
 use Rattle.cap_octet.specs.declared.fault.Fault.TheVariants.{ReadFailed, NoMemory}
 use Rattle.cap_io.specs.Capture.{Declared, Nothing, Placed, placed_at, AreUnits, no_unit, items, items_from, after_packets, ending_by, FaultAt, End, front_of, Stops}
 use Rattle.cap_io.specs.Source.{SourceView, Phase, Reading, Ended, Failed, source_at, SkipsUnits, FindsPacket, FindsEnd, FindsFault, Advances, Finds}
-use Rattle.cap_io.specs.Position.{HasPacket, IsAt, IsCutShort}
+use Rattle.cap_io.specs.Position.{IsAt, IsCutShort}
 use Rattle.cap_io.proofs.Items.{AreUnits-append, items_from-units, items_from-stops}
 use Rattle.cap_io.proofs.Units.{one_unit}
 
@@ -25,10 +25,6 @@ IsAt-start text given failures never_fails = record {
   ended = λ e. absurd (ended_twice e);
   sound = λ fault e. failed_twice fault e;
 }
-
--- the packet in hand, at its place
-pub waiting_packet : (s : SourceView) → HasPacket s → Placed
-waiting_packet s has = record { offset = s.offset; packet = has.packet }
 
 -- the packet in hand is decided
 pub IsAt-decided : (text done : List ℕ) (packets : List Placed) (s : SourceView) (at : IsAt text done packets true s)
@@ -131,12 +127,6 @@ items-stops done rest packets declared why units stops =
 pub items-begin : (done rest : List ℕ) (packets : List Placed) (declared : Declared) → AreUnits Nothing 0 done packets declared
     → items (done ++ rest) ≡ after_packets packets (items_from declared (length done) rest)
 items-begin done rest packets declared units = items_from-units units rest ∙ rw zero-add refl
-
-pub IsAt-end : (text done : List ℕ) (packets : List Placed) (s s' : SourceView) → IsAt text done packets false s → FindsEnd s s'
-    → items text ≡ record { packets = packets; declared = s'.declared; ending = End }
-IsAt-end text done packets s s' at finds =
-    rw (passed-whole text done packets s s' [] at finds.passes)
-    (items-stops (done ++ finds.passes.passed) [] packets s'.declared None (passed-units text done packets s s' [] at finds.passes) finds.ends)
 
 -- the first packets of the whole text are those that are done, and the one that waits
 pub IsAt-items : (text done : List ℕ) (packets : List Placed) (s : SourceView) (at : IsAt text done packets true s)

@@ -105,13 +105,6 @@ front_of-unit (a_block first section bytes is) more =
     front_of-behind first section (bytes ++ more) (omega (arith, length-append bytes more, block-sized (Some section) bytes is))
     ∙ block-front first (Some section) bytes more is
 
--- a unit has a byte at least
-pub unit-sized : {b : Declared} {u : List ℕ} {qs : List Captured} {c : Declared} → IsUnit b u qs c → 0 < length u
-unit-sized (a_pcap_header bytes head is) = omega (arith, is.whole)
-unit-sized (a_pcap_record head bytes is) = omega (arith, is.whole)
-unit-sized (a_first_block bytes is) = omega (arith, block-sized None bytes is)
-unit-sized (a_block first section bytes is) = omega (arith, block-sized (Some section) bytes is)
-
 -- a text that begins with a whole unit
 pub record IsFront (declared : Declared) (text : List ℕ) (size : ℕ) (packets : List Captured) (after : Declared) : Type 0 where
   pub unit : IsUnit declared (take size text) packets after

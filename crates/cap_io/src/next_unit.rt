@@ -47,13 +47,13 @@ fn first_unit<I: Input, A: Allocator>(
         buffer.new.items spans.new file.new table.new }
 {
     let first = read_first(input)?;
-    if begins_section(&first) {
-        let mut front = [0; BLOCK_FRONT];
-        read_rest(input, &first, &mut front, BLOCK_FRONT)?;
-        return read_block(input, file, &front, buffer, table, spans);
+    if !begins_section(&first) {
+        *file = FileState::Pcap(read_header(input, &first)?);
+        return Ok(NextUnit::Other(FILE_HEADER));
     }
-    *file = FileState::Pcap(read_header(input, &first)?);
-    Ok(NextUnit::Other(FILE_HEADER))
+    let mut front = [0; BLOCK_FRONT];
+    read_rest(input, &first, &mut front, BLOCK_FRONT)?;
+    read_block(input, file, &front, buffer, table, spans)
 }
 
 /// Reads the next unit of a file of which this much is known, or finds the clean end. A packet

@@ -47,7 +47,9 @@ fn enhanced_packet<A: Allocator>(
         (PacketFound
         block.now.order table.now (parts_of (a.Enhanced block.now)) 28 size block.now.rest.now) }
 {
-    let interface = table.get(block.interface).ok_or(Fault::UnknownInterface)?;
+    let Some(interface) = table.get(block.interface) else {
+        return Err(Fault::UnknownInterface);
+    };
     block.data()?;
     let time = interface.clock.time(block.ticks)?;
     let options = block.options().rest.len() as u32;
@@ -72,7 +74,9 @@ fn simple_packet<A: Allocator>(
         (λ spans. (order : Order) → PacketFound order table.now (parts_of (a.Simple block.now)) 12
         size block.now.rest.now spans) }
 {
-    let interface = table.get(0).ok_or(Fault::UnknownInterface)?;
+    let Some(interface) = table.get(0) else {
+        return Err(Fault::UnknownInterface);
+    };
     block.data(interface.snap)?;
     Ok(PacketSpans {
         size,
@@ -108,8 +112,8 @@ fn apply_block<A: Allocator>(
             table.push(&found.interface)?;
             Ok(None)
         }
-        Ok(Block::Enhanced(found)) => Ok(Some(enhanced_packet(table, &found, frame.length)?)),
-        Ok(Block::Simple(found)) => Ok(Some(simple_packet(table, &found, frame.length)?)),
+        Ok(Block::Enhanced(found)) => enhanced_packet(table, &found, frame.length).map(Some),
+        Ok(Block::Simple(found)) => simple_packet(table, &found, frame.length).map(Some),
         Ok(Block::Skipped) => Ok(None),
         Err(fault) => Err(fault_in_full_table(table, fault)),
     }
@@ -142,15 +146,16 @@ pub(crate) fn read_block<I: Input, A: Allocator>(
     let size = found.length as usize;
     make_room(buffer, size)?;
     read_rest(input, front, buffer.as_mut_slice(), size)?;
-    match apply_block(table, &found, &buffer[..size])? {
-        Some(packet) => {
+    match apply_block(table, &found, &buffer[..size]) {
+        Ok(Some(packet)) => {
             *spans = packet;
             Ok(NextUnit::Packet)
         }
-        None => {
+        Ok(None) => {
             *file = FileState::Pcapng(found.order, first_link_type(file.first_link(), table));
             Ok(NextUnit::Other(size))
         }
+        Err(fault) => Err(fault),
     }
 }
 

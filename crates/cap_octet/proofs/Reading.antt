@@ -1,13 +1,12 @@
 -- One read after another, and one write after another.
-use Rattle.std.proofs.Common.{◌≡◌, ℕ, ◌+◌, ◌-◌, ◌<◌, ◌≤◌, min, Bool, true, false, if◌then◌else◌, List, [], ◌++◌, length, take, drop, sym, ◌∙◌, ap, arith, subst, Option, None, Some, Result, Ok, Err, IfOk}
+use Rattle.std.proofs.Common.{◌≡◌, ℕ, ◌+◌, ◌-◌, ◌<◌, ◌≤◌, min, Bool, true, false, if◌then◌else◌, List, [], ◌++◌, length, take, drop, sym, ◌∙◌, ap, arith, subst, Option, None, Some}
 use Rattle.std.specs.Io.KnownBytes.{Consumes, prepend_known}
 use Rattle.std.specs.Io.BufRead.{DropsConsumable}
-use Rattle.std.proofs.lemmas.List.{length-take, length-drop, drop-drop, drop_at, take_at, append-nil, append_assoc, take-take, take_all, length-take-le, drop-append-le, take-append-drop}
+use Rattle.std.proofs.lemmas.List.{length-take, length-drop, drop-drop, drop_at, take_at, append-nil, append_assoc, take-take, take_all, drop-append-le, take-append-drop}
 use Rattle.std.proofs.Math.Seq.{take-add}
 use Rattle.std.proofs.Math.ListN.{drop_of_length-le}
 use borrow.Rule.Slice.PartMut.{put_mid, mid_of}
-use Rattle.cap_octet.specs.Device.{Takes, TakesSome, TakesFull, TakesFront, Reads}
-use Rattle.cap_octet.specs.declared.device.DeviceFault.{DeviceFault}
+use Rattle.cap_octet.specs.Device.{Takes, TakesSome, TakesFull, TakesFront}
 
 -- what is behind the first c bytes of the buffer after the first c came
 behind : (u b : List ℕ) (c : ℕ) → c ≤ length u → drop c (take c u ++ drop c b) ≡ drop c b
@@ -79,30 +78,6 @@ Takes-nothing u b u1 b1 c k n u2 p first next e pos zero same =
 pub written-again : (w b w1 w2 : List ℕ) (c n k : ℕ) → w1 ≡ w ++ take c b → w2 ≡ w1 ++ take n (take k (drop c b)) → n ≤ k → w2 ≡ w ++ take (c + n) b
 written-again w b w1 w2 c n k first next le =
     next ∙ (rw (first, take-take n k (drop c b) le, take-add c n b) (simp append_assoc))
-
--- a read into the front of a buffer is a read into the buffer
-pub TakesSome-front : (u b : List ℕ) (most n : ℕ) (u' p : List ℕ) → most ≤ length b → (0 < length b → 0 < most) → n ≤ length (take most b)
-    → TakesSome u (take most b) n u' p → TakesSome u b n u' (p ++ drop most b)
-TakesSome-front u b most n u' p within some upper_bound came =
-    let size : length (take most b) ≡ most = length-take-le most b within in
-    record {
-      taken = record {
-        there = came.taken.there;
-        bytes =
-            ap (λ (x : List ℕ). x ++ drop most b) came.taken.bytes
-            ∙ append_assoc (take n u) (drop n (take most b)) (drop most b)
-            ∙ ap (λ (x : List ℕ). take n u ++ x)
-            (sym (drop-append-le n (take most b) (drop most b) (omega (arith, size))) ∙ ap (λ (x : List ℕ). drop n x) (take-append-drop most b));
-        rest = came.taken.rest;
-      };
-      at_end = λ none room. came.at_end none (let more : 0 < most = some room in omega (arith, size));
-    }
-
-pub Reads-front : (u b : List ℕ) (most : ℕ) (result : Result ℕ DeviceFault) (u' p : List ℕ) → most ≤ length b → (0 < length b → 0 < most)
-    → IfOk result (λ n. n ≤ length (take most b)) → Reads u (take most b) result u' p → Reads u b result u' (p ++ drop most b)
-Reads-front u b most (Ok n) u' p within some upper_bound came = TakesSome-front u b most n u' p within some upper_bound came
-Reads-front u b most (Err fault) u' p within some upper_bound came =
-    (came.0, ap (λ (x : List ℕ). x ++ drop most b) came.1 ∙ take-append-drop most b)
 
 -- A read that takes bytes which a reader holds takes them of what is left of it: of nothing that is known where it has no
 -- room for any.

@@ -1,16 +1,14 @@
 -- What a selector returns.
-use Rattle.std.proofs.Common.{◌≡◌, ℕ, ◌+◌, ◌^◌, ◌<◌, ◌≤◌, nat_le, Bool, true, false, length, if◌then◌else◌, List, Option, None, Some, Result, Ok, Err, refl, sym, ◌∙◌, ap, arith}
+use Rattle.std.proofs.Common.{◌≡◌, ℕ, ◌+◌, ◌^◌, ◌<◌, ◌≤◌, nat_le, Bool, true, false, length, if◌then◌else◌, List, Option, None, Some, Ok, refl, sym, ◌∙◌, ap, arith}
 use Rattle.std.proofs.lemmas.Bool.Decides.{nat_tests}
 use Rattle.cap_octet.specs.Packet.{Captured}
-use Rattle.cap_octet.specs.declared.fault.Fault.{Fault}
 use Rattle.cap_octet.specs.declared.fault.Fault.TheVariants.{TooManyPackets}
-use Rattle.cap_filter.specs.Decisions.{Decision, Keep, Refuse, ReturnsDecision}
-use Rattle.cap_filter.specs.Decisions as chosen
+use Rattle.cap_filter.specs.Decisions.{Keep}
 use Rattle.flt_bpf.specs.Content.{Content}
 use Rattle.cap_window.specs.View.{WindowView}
 use Rattle.cap_window.specs.declared.mark.Mark.{Mark}
 use Rattle.cap_packets.specs.declared.selector.Verdict as code
-use Rattle.cap_packets.specs.Verdict.{Policy, Edit, Filter, KeepAll, Count, SelectorState, Judgement, Pass, PassLast, Skip, judge, judge_by, refuses, filters, is_last}
+use Rattle.cap_packets.specs.Verdict.{Policy, Edit, Filter, KeepAll, Count, SelectorState, Judgement, Pass, PassLast, Skip, judge, judge_by, refuses, is_last}
 use Rattle.cap_packets.specs.Reports.{Tally}
 use Rattle.cap_packets.specs.Reports.{FitsTally, tally_with}
 use Rattle.cap_inputs.specs.Inputs.{most_steps}
@@ -74,21 +72,6 @@ pub tells-passed : (policy policy' : Policy) (state after : SelectorState) (numb
 tells-passed policy policy' state after number p q v judges less keeps same is =
     rw (upper_bound policy state number p judges less) (tells-some (count_limit policy) (judge_by policy state number p) after q v keeps
     (is ∙ ap (λ (a : Policy). verdict_if q (is_last (count_limit a) (after.passed + 1))) same))
-
--- a filter's answer
-pub filters-keeps : (d : Decision) (count : Option ℕ) (state : SelectorState) (p : Captured) (passes : Bool) → ReturnsDecision d (Ok passes) → ReturnsVerdict count (filters d count state p) (Ok passes) p state
-filters-keeps Keep count state p passes answers = rw answers refl
-filters-keeps chosen.Skip count state p passes answers = rw answers (refl, refl)
-filters-keeps (Refuse fault) count state p passes answers = (cc)
-
-pub filters-refuses : (d : Decision) (count : Option ℕ) (state state' : SelectorState) (p p' : Captured) (fault : Fault) → ReturnsDecision d (Err fault) → ReturnsVerdict count (filters d count state p) (Err fault) p' state'
-filters-refuses Keep count state state' p p' fault answers = absurd answers
-filters-refuses chosen.Skip count state state' p p' fault answers = absurd answers
-filters-refuses (Refuse refusal) count state state' p p' fault answers = let e : fault ≡ refusal = (cc) in rw e refl
-
-pub filters-answers : (d : Decision) (count : Option ℕ) (state : SelectorState) (p : Captured) (r : Result Bool Fault) → ReturnsDecision d r → ReturnsVerdict count (filters d count state p) r p state
-filters-answers d count state p (Ok passes) answers = filters-keeps d count state p passes answers
-filters-answers d count state p (Err fault) answers = filters-refuses d count state state p p fault answers
 
 -- ---- the window
 

@@ -88,7 +88,7 @@ fn is_last(count: Option<u64>, passed: u64) -> bool
 /// How many marks a window has for so many packets in a row, the last among them.
 fn window_for<A: Allocator>(alloc: A, packets: u32) -> Result<Window<A>, AllocError>
 where
-    A: Clone,
+    A: Copy,
     ensures { IfOk result (λ w. w ≡ window [] (packets - 1)) }
 {
     Window::new(alloc, packets.saturating_sub(1))
@@ -130,7 +130,7 @@ impl<A: Allocator> Policy<A> {
     /// The window that is asked for, which is empty.
     fn window(&self, alloc: A) -> Result<Option<Window<A>>, AllocError>
     where
-        A: Clone,
+        A: Copy,
         ensures window { IfOk result (IsWindowFor (window_of (policy_of self.now))) }
         ensures empty { IfOk result (λ window. marks_in window ≡ []) }
     {

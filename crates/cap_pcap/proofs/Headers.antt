@@ -40,9 +40,6 @@ header_fault-append front more enough =
 pub header_fault-no_magic : (text : List ℕ) → form_in text ≡ None → header_fault text ≡ Some NotACaptureFile
 header_fault-no_magic text none = rw none (grind arith)
 
-pub header_fault-few : (text : List ℕ) → length text < 4 → header_fault text ≡ Some NotACaptureFile
-header_fault-few text upper_bound = rw (lt-leb 4 (length text) upper_bound) refl
-
 pub header_fault-short : (text : List ℕ) → is_some (form_in text) ≡ true → 4 ≤ length text → length text < 24 → header_fault text ≡ Some Truncated
 header_fault-short text some enough short = rw (le-leb 4 (length text) enough, some, lt-leb 24 (length text) short) refl
 

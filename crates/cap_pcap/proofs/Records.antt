@@ -37,9 +37,6 @@ behind_first : (head : Head) (text : List ℕ) → 16 ≤ length text → record
 unfolding missing
 behind_first head text enough = rw (le-leb 16 (length text) enough) refl
 
-pub record_fault-few : (head : Head) (text : List ℕ) → length text < 16 → record_fault head text ≡ Some Truncated
-record_fault-few head text upper_bound = rw (lt-leb 16 (length text) upper_bound) refl
-
 pub record_fault-fields : (head : Head) (text : List ℕ) (fault : Fault) → 16 ≤ length text → first_failing (field_checks head text) ≡ Some fault → record_fault head text ≡ Some fault
 record_fault-fields head text fault enough fails =
     behind_first head text enough ∙ failing_front (field_checks head text) (missing head text) fault fails

@@ -1,9 +1,9 @@
 -- Options of an interface, read one after another.
-use Rattle.std.proofs.Common.{◌≡◌, ℕ, Bool, true, false, List, [], ◌∷◌, ◌++◌, cond, refl, sym, ap, ◌∙◌, subst, eqb-true, Option, Some, None, Result, Ok, Err, ◌<◌, ◌≤◌, ◌^◌, ◌-◌, nat_lt, unwrap_or, arith}
+use Rattle.std.proofs.Common.{◌≡◌, ℕ, Bool, true, false, List, [], ◌∷◌, ◌++◌, cond, refl, sym, ap, ◌∙◌, eqb-true, Option, Some, None, Result, Ok, ◌<◌, ◌≤◌, ◌^◌, ◌-◌, nat_lt, unwrap_or, arith}
 use Rattle.std.specs.Prelude.{is_some, if◌then◌else◌, ◌==◌, slice_index}
 use Rattle.std.specs.Option.{option_copied, option_map, option_or}
 use Rattle.std.proofs.Math.Nat.{one-le-pow}
-use Rattle.std.proofs.lemmas.List.{append_assoc, append-nil}
+use Rattle.std.proofs.lemmas.List.{append_assoc}
 use Rattle.std.specs.Borrow.{Bor}
 use Rattle.cap_octet.proofs.Checks.{met_front, failing_front}
 use Rattle.cap_octet.specs.Checks.{first_failing}
@@ -84,15 +84,6 @@ checks_behind-found order before o found is =
 
 -- ---- one item of the iterator
 
-pub HasRead-none : (order : Order) (all : List (Result CodedValue Fault)) (found : Found) → found.name ≡ None → found.units ≡ None
-    → found.offset ≡ None → HasRead order all all found
-HasRead-none order all found name units offset = record {
-  before = [];
-  checks = refl;
-  joined = refl;
-  is_found = record { name = ap option_copied name; units = units; offset = offset; short = rw name tt };
-}
-
 pub HasRead-more : (order : Order) (all left rest : List (Result CodedValue Fault)) (o : CodedValue) (found more : Found)
     → HasRead order all left found → left ≡ Ok o ∷ rest
     → Adds order found o more
@@ -114,20 +105,6 @@ pub HasRead-refused : (order : Order) (all left rest : List (Result CodedValue F
 HasRead-refused order all left rest o found fault read is refused =
     read.checks ∙ ap (λ items. first_failing (list_checks read.before items)) is
     ∙ failing_front (checks_behind read.before o) _ fault (ap first_failing (checks_behind-found order read.before o found read.is_found) ∙ refused)
-
-pub HasRead-misfit : (order : Order) (all rest : List (Result CodedValue Fault)) (found : Found) (fault : Fault)
-    → HasRead order all (Err fault ∷ rest) found → first_failing (list_checks [] all) ≡ Some fault
-HasRead-misfit order all rest found fault read = read.checks
-
-pub HasRead-passes : (order : Order) (all rest : List (Result CodedValue Fault)) (found : Found) → HasRead order all rest found → rest ≡ []
-    → first_failing (list_checks [] all) ≡ None
-HasRead-passes order all rest found read over = read.checks ∙ ap (λ items. first_failing (list_checks read.before items)) over
-
-pub HasRead-found : (order : Order) (all rest : List (Result CodedValue Fault)) (found : Found) → HasRead order all rest found → rest ≡ []
-    → IsFound order (fitting_options all) found
-HasRead-found order all rest found read over =
-    let P : List CodedValue → Type 0 = λ options. IsFound order options found in
-    subst P (sym (read.joined ∙ ap (λ items. read.before ++ fitting_options items) over ∙ append-nil read.before)) read.is_found
 
 -- ---- a second has some ticks
 

@@ -4,10 +4,6 @@ use Rattle.cap_octet.specs.Checks.{first_failing}
 use Rattle.cap_octet.specs.declared.fault.Fault.{Fault}
 use Rattle.cap_pcapng.specs.Answer.{ChecksGive}
 
-pub judged-value : {X : Type 0} → (checks : List (Bool × Fault)) (result : Result X Fault) (Holds : X → Type 0) → ChecksGive checks result Holds → IfOk result Holds
-judged-value checks (Ok value) Holds judged = judged.1
-judged-value checks (Err fault) Holds judged = tt
-
 pub judged-passes : {X : Type 0} → (checks : List (Bool × Fault)) (result : Result X Fault) (Holds : X → Type 0) → ChecksGive checks result Holds
     → IfOk result (λ _. first_failing checks ≡ None)
 judged-passes checks (Ok value) Holds judged = judged.0

@@ -63,14 +63,11 @@ fn body_of<'a>(frame: &Frame, body: &'a [u8]) -> Result<Block<'a>, Fault>
     ensures described { IfOk result IsDescribedIfAny }
 {
     match frame.block_type {
-        BlockType::Section => {
-            check_section(frame.order, body)?;
-            Ok(Block::Section)
-        }
-        BlockType::Interface => Ok(Block::Interface(InterfaceBlock::of(frame.order, body)?)),
+        BlockType::Section => check_section(frame.order, body).map(|()| Block::Section),
+        BlockType::Interface => InterfaceBlock::of(frame.order, body).map(Block::Interface),
         BlockType::ObsoletePacket => Err(Fault::ObsoletePacketBlock),
-        BlockType::SimplePacket => Ok(Block::Simple(SimpleBlock::of(frame.order, body)?)),
-        BlockType::EnhancedPacket => Ok(Block::Enhanced(EnhancedBlock::of(frame.order, body)?)),
+        BlockType::SimplePacket => SimpleBlock::of(frame.order, body).map(Block::Simple),
+        BlockType::EnhancedPacket => EnhancedBlock::of(frame.order, body).map(Block::Enhanced),
         BlockType::Other => Ok(Block::Skipped),
     }
 }

@@ -16,13 +16,13 @@ ipv4_text p at =
     (decimal (slice_index p (at + 1))
     ++ 46 ∷ (decimal (slice_index p (at + 2)) ++ 46 ∷ decimal (slice_index p (at + 3))))
 
--- four groups of an IPv6 address, in the eight bytes from a place
+-- two groups of an IPv6 address, in the four bytes from a place
+unfoldable pub two_groups : List ℕ → ℕ → List ℕ
+two_groups p at = hex_group (u16_of p at) ++ 58 ∷ hex_group (u16_of p (at + 2))
+
+-- four groups, in the eight bytes from a place
 unfoldable pub four_groups : List ℕ → ℕ → List ℕ
-four_groups p at =
-    hex_group (u16_of p at)
-    ++ 58 ∷
-    (hex_group (u16_of p (at + 2))
-    ++ 58 ∷ (hex_group (u16_of p (at + 4)) ++ 58 ∷ hex_group (u16_of p (at + 6))))
+four_groups p at = two_groups p at ++ 58 ∷ two_groups p (at + 4)
 
 -- the IPv6 address in the sixteen bytes from a place: eight groups, never shortened
 unfoldable pub ipv6_text : List ℕ → ℕ → List ℕ
@@ -33,10 +33,12 @@ abbrev pub port_text : Option ℕ → List ℕ
 port_text None = []
 port_text (Some port) = 46 ∷ decimal port
 
+-- three bytes of an Ethernet address, from a place
+unfoldable pub three_bytes : List ℕ → ℕ → List ℕ
+three_bytes p at =
+    hex_two (slice_index p at)
+    ++ 58 ∷ (hex_two (slice_index p (at + 1)) ++ 58 ∷ hex_two (slice_index p (at + 2)))
+
 -- the Ethernet address in the six bytes from a place
 unfoldable pub mac_text : List ℕ → ℕ → List ℕ
-mac_text p at =
-    hex_two (slice_index p at)
-    ++ 58 ∷ (hex_two (slice_index p (at + 1)) ++ 58 ∷ (hex_two (slice_index p (at + 2)) ++ 58 ∷
-    (hex_two (slice_index p (at + 3))
-    ++ 58 ∷ (hex_two (slice_index p (at + 4)) ++ 58 ∷ hex_two (slice_index p (at + 5))))))
+mac_text p at = three_bytes p at ++ 58 ∷ three_bytes p (at + 3)

@@ -1,7 +1,7 @@
 //! Addresses and ports.
 ghost use Rattle.std.specs.Prelude.{◌≡◌, ◌+◌, ◌≤◌, ◌<◌, ◌++◌, length};
 ghost use Rattle.cap_print.specs.Addresses.{four_groups, ipv4_text, ipv6_text, mac_text, port_text};
-ghost use Rattle.cap_print.specs.Addresses.{u16_of};
+ghost use Rattle.cap_print.specs.Addresses.{three_bytes, two_groups, u16_of};
 
 use crate::hexadecimal::{push_hex_group, push_hex_two};
 use crate::text::Text;
@@ -34,6 +34,19 @@ pub fn push_ipv4(text: &mut Text, bytes: &[u8], at: usize)
     text.push_decimal(bytes[at + 3] as u32);
 }
 
+/// Appends two groups of an IPv6 address, in the four bytes from place `at`.
+#[tactic(auto, unfolding(crate::specs::Addresses::two_groups))]
+fn push_two_groups(text: &mut Text, bytes: &[u8], at: usize)
+    requires room { length text.old + 9 ≤ 256 }
+    requires there { at + 4 ≤ length bytes.now }
+    ensures value { text.new ≡ text.old ++ two_groups bytes.now at }
+    ensures bound { length text.new ≤ length text.old + 9 }
+{
+    push_hex_group(text, u16_of(bytes, at));
+    text.push(b':');
+    push_hex_group(text, u16_of(bytes, at + 2));
+}
+
 /// Appends four groups of an IPv6 address, in the eight bytes from place `at`.
 #[tactic(auto, unfolding(crate::specs::Addresses::four_groups))]
 fn push_four_groups(text: &mut Text, bytes: &[u8], at: usize)
@@ -42,13 +55,9 @@ fn push_four_groups(text: &mut Text, bytes: &[u8], at: usize)
     ensures value { text.new ≡ text.old ++ four_groups bytes.now at }
     ensures bound { length text.new ≤ length text.old + 19 }
 {
-    push_hex_group(text, u16_of(bytes, at));
+    push_two_groups(text, bytes, at);
     text.push(b':');
-    push_hex_group(text, u16_of(bytes, at + 2));
-    text.push(b':');
-    push_hex_group(text, u16_of(bytes, at + 4));
-    text.push(b':');
-    push_hex_group(text, u16_of(bytes, at + 6));
+    push_two_groups(text, bytes, at + 4);
 }
 
 /// Appends the IPv6 address in the sixteen bytes from place `at`.
@@ -76,6 +85,21 @@ pub fn push_port(text: &mut Text, port: Option<u16>)
     }
 }
 
+/// Appends three bytes of an Ethernet address, from place `at`.
+#[tactic(auto, unfolding(crate::specs::Addresses::three_bytes))]
+fn push_three_bytes(text: &mut Text, bytes: &[u8], at: usize)
+    requires room { length text.old + 8 ≤ 256 }
+    requires there { at + 3 ≤ length bytes.now }
+    ensures value { text.new ≡ text.old ++ three_bytes bytes.now at }
+    ensures bound { length text.new ≡ length text.old + 8 }
+{
+    push_hex_two(text, bytes[at]);
+    text.push(b':');
+    push_hex_two(text, bytes[at + 1]);
+    text.push(b':');
+    push_hex_two(text, bytes[at + 2]);
+}
+
 /// Appends the Ethernet address in the six bytes from place `at`.
 #[tactic(auto, unfolding(crate::specs::Addresses::mac_text))]
 pub fn push_mac(text: &mut Text, bytes: &[u8], at: usize)
@@ -84,15 +108,7 @@ pub fn push_mac(text: &mut Text, bytes: &[u8], at: usize)
     ensures value { text.new ≡ text.old ++ mac_text bytes.now at }
     ensures bound { length text.new ≡ length text.old + 17 }
 {
-    push_hex_two(text, bytes[at]);
+    push_three_bytes(text, bytes, at);
     text.push(b':');
-    push_hex_two(text, bytes[at + 1]);
-    text.push(b':');
-    push_hex_two(text, bytes[at + 2]);
-    text.push(b':');
-    push_hex_two(text, bytes[at + 3]);
-    text.push(b':');
-    push_hex_two(text, bytes[at + 4]);
-    text.push(b':');
-    push_hex_two(text, bytes[at + 5]);
+    push_three_bytes(text, bytes, at + 3);
 }

@@ -1,7 +1,7 @@
 //! What a line says of a packet's network header.
-ghost use Rattle.std.specs.Prelude.{◌≡◌, ◌+◌, ◌*◌, ◌≤◌, ◌<◌, ◌++◌, length};
-ghost use Rattle.cap_print.specs.Network.{address_text, arp_part, has_ports, header_end};
-ghost use Rattle.cap_print.specs.Network.{header_part, ip_ends, ip_name, ip_part};
+ghost use Rattle.std.specs.Prelude.{◌≡◌, ◌+◌, ◌*◌, ◌≤◌, ◌<◌, ◌++◌, decimal, length};
+ghost use Rattle.cap_print.specs.Network.{address_text, arp_part, end_text, has_ports};
+ghost use Rattle.cap_print.specs.Network.{header_end, header_part, ip_ends, ip_name, ip_part};
 ghost use Rattle.cap_print.specs.Network.{is_later_fragment, layout_of, least_end, network_part};
 ghost use Rattle.cap_print.specs.Network.{ports_at, protocol_text};
 
@@ -65,6 +65,17 @@ fn push_name(text: &mut Text, ip: Ip)
     }
 }
 
+/// Appends what a number is called, and the number.
+#[inline(always)]
+fn push_named(text: &mut Text, name: &[u8], number: u32)
+    requires { length text.old + length name.now + 10 ≤ 256 }
+    ensures value { text.new ≡ text.old ++ (name.now ++ decimal number) }
+    ensures bound { length text.new ≤ length text.old + length name.now + 10 }
+{
+    text.push_all(name);
+    text.push_decimal(number);
+}
+
 #[inline(always)]
 #[tactic(auto, unfolding(crate::specs::Network::protocol_text))]
 fn push_protocol(text: &mut Text, ip: Ip, protocol: u8)
@@ -78,8 +89,7 @@ fn push_protocol(text: &mut Text, ip: Ip, protocol: u8)
         (Ip::V4, IPPROTO_ICMP) => text.push_all(b"ICMP"),
         (Ip::V6, IPPROTO_ICMPV6) => text.push_all(b"ICMP6"),
         _ => {
-            text.push_all(b"proto ");
-            text.push_decimal(protocol as u32);
+            push_named(text, b"proto ", protocol as u32);
         }
     }
 }
@@ -95,6 +105,18 @@ fn push_address(text: &mut Text, ip: Ip, bytes: &[u8], at: usize)
         Ip::V4 => push_ipv4(text, bytes, at),
         Ip::V6 => push_ipv6(text, bytes, at),
     }
+}
+
+/// Appends the address at place `at`, and its port if there is one.
+#[inline(always)]
+fn push_end(text: &mut Text, ip: Ip, bytes: &[u8], at: usize, port: Option<u16>)
+    requires room { length text.old + 54 ≤ 256 }
+    requires there { at + (layout_of ip).address_length ≤ length bytes.now }
+    ensures value { text.new ≡ text.old ++ end_text ip bytes.now at port }
+    ensures bound { length text.new ≤ length text.old + 54 }
+{
+    push_address(text, ip, bytes, at);
+    push_port(text, port);
 }
 
 /// Appends `IP A > B: ` or `IP6 A > B: ` of the header at place `l`, each address with its port if
@@ -115,11 +137,9 @@ fn push_ends(text: &mut Text, ip: Ip, bytes: &[u8], l: usize, ports: Option<(u16
     };
     push_name(text, ip);
     text.push(b' ');
-    push_address(text, ip, bytes, source);
-    push_port(text, from);
+    push_end(text, ip, bytes, source, from);
     text.push_all(b" > ");
-    push_address(text, ip, bytes, source + header.address_length);
-    push_port(text, to);
+    push_end(text, ip, bytes, source + header.address_length, to);
     text.push_all(b": ");
 }
 
@@ -207,8 +227,7 @@ fn push_arp_part(text: &mut Text, bytes: &[u8], l: usize)
         text.push_all(b" [short]");
         return;
     }
-    text.push_all(b" op ");
-    text.push_decimal(u16_of(bytes, l + 6) as u32);
+    push_named(text, b" op ", u16_of(bytes, l + 6) as u32);
     text.push_all(b" ");
     push_ipv4(text, bytes, l + 14);
     text.push_all(b" > ");
@@ -238,14 +257,8 @@ fn push_header_part(text: &mut Text, header: NetworkHeader, bytes: &[u8], l: usi
             text.push_all(b"type 0x");
             push_hex_four(text, ethertype);
         }
-        NetworkHeader::OtherVersion(version) => {
-            text.push_all(b"version ");
-            text.push_decimal(version as u32);
-        }
-        NetworkHeader::OtherLink(link) => {
-            text.push_all(b"link ");
-            text.push_decimal(link as u32);
-        }
+        NetworkHeader::OtherVersion(version) => { push_named(text, b"version ", version as u32) }
+        NetworkHeader::OtherLink(link) => { push_named(text, b"link ", link as u32) }
         NetworkHeader::Short => text.push_all(b"[short]"),
     }
 }

@@ -12,7 +12,7 @@ is_request DisplayHelp = true
 is_request DisplayVersion = true
 is_request _ = false
 
--- of a request 0 if the answer could be written, else 1; 1 if memory ran out, else 2
+-- Of a request 0, done, if the answer could be written, else 1, a failure; 1 too if memory ran out; else 2, refused.
 abbrev pub status_of : Usage → (is_written : Bool) → ℕ
 status_of (Refused error) is_written =
     if is_request (kind_of error) then (if is_written then 0 else 1) else 2

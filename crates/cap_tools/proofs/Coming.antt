@@ -1,12 +1,12 @@
 -- What has come when an input is read on, or its packet is decided.
-use Rattle.std.proofs.Common.{◌≡◌, ℕ, suc, ◌+◌, Bool, true, false, List, [], ◌∷◌, ◌++◌, length, drop, map, Option, None, Some, Result, Ok, refl, sym, ◌∙◌, ap, arith, subst, add-zero}
+use Rattle.std.proofs.Common.{◌≡◌, ℕ, suc, ◌+◌, Bool, true, false, List, [], ◌∷◌, ◌++◌, length, drop, map, None, Some, Result, Ok, refl, sym, ◌∙◌, ap, arith, subst, add-zero}
 use Rattle.std.proofs.lemmas.List.{append_assoc, append-nil, length-append}
 use Rattle.cap_octet.specs.Packet.{Captured}
 use Rattle.cap_octet.specs.declared.fault.Fault.{Fault}
 use Rattle.cap_io.specs.Capture.{Declared, Placed, Items, Ending, End, FaultAt, Stops, items, items_from, after_packets, no_items, front_of, kind_of}
-use Rattle.cap_io.specs.Source.{SourceView, Phase, Ended, FindsPacket, FindsEnd, Finds, Advances, SkipsUnits}
+use Rattle.cap_io.specs.Source.{SourceView, Phase, Ended, FindsPacket, FindsEnd, Finds, Advances}
 use Rattle.cap_io.specs.Position.{IsAt, pending}
-use Rattle.cap_io.proofs.Items.{items_from-units, items_from-stops}
+use Rattle.cap_io.proofs.Items.{items_from-stops}
 use Rattle.cap_io.proofs.Standing.{IsAt-items, items-begin, Advances-sound}
 use Rattle.cap_inputs.specs.Sequence.{InputItems, Event, Packet, InputEnd, FaultIn, Sequence, sequence_of, sequence_in_turn, input_sequence, with_front, whole_input, PacketOrder}
 use Rattle.cap_inputs.specs.Inputs.{InputView, InputsView, Future, InputPast, AreInputsBehind, AreFutures, AreSettled, actual_future, waiting_packets, packets_at, input_items, inputs_with, items_left, inputs_left, sequence_left, no_future, input_after, input_behind}
@@ -91,20 +91,6 @@ carries-decided s xs ys h i order bytes p waits held lefts f' fit =
     }
 
 -- ---- a clean end is met
-
-later-stops : (s s' : SourceView) (rest : List ℕ) (why : Option Fault) → (passes : SkipsUnits s s' rest) → front_of s'.declared rest ≡ Stops why
-    → (actual_future s).items ≡ no_items s'.declared why s'.offset
-later-stops s s' rest why passes stops =
-    ap (items_from s.declared (s.offset + length s.block)) passes.splits
-    ∙ items_from-units passes.units rest
-    ∙ ap (after_packets []) (items_from-stops s'.declared (s.offset + length s.block + length passes.passed) rest why stops)
-    ∙ ap (λ n. no_items s'.declared why n) (sym passes.offset)
-
-pub later-size : (s s' : SourceView) (rest : List ℕ) → (passes : SkipsUnits s s' rest) → (actual_future s).size ≡ s'.offset + length rest
-later-size s s' rest passes =
-    ap (λ (l : List ℕ). s.offset + length s.block + length l) passes.splits
-    ∙ ap (λ n. s.offset + length s.block + n) (length-append passes.passed rest)
-    ∙ omega (arith, passes.offset)
 
 pub turn-closes : (turn g g' : ℕ) (declared : Declared) (size : ℕ) (r' : InputItems) (rs qs : List InputItems) → length rs ≡ turn
     → from_turn turn (rs ++ record { greatest = g; items = no_items declared None 0; size = size } ∷ qs)

@@ -14,9 +14,9 @@ use denote.Builtin.{bool}
 use denote.Steps.{nothing, only}
 use denote.Triple.Statement.{Contract}
 use denote.Triple.Spec.{triple_of}
-use Rattle.cap_trial.specs.declared.Plan.{Plan}
-use Rattle.cap_trial.specs.contracts.Plan as P
-use Rattle.cap_trial.specs.contracts.admits as F
+use Rattle.cap_trial.specs.declared.allocator.Plan.{Plan}
+use Rattle.cap_trial.specs.contracts.allocator.Plan as P
+use Rattle.cap_trial.specs.contracts.allocator.admits as F
 
 module _ {M : Type 1} {𝓤 : Ura M} (𝓛 : Logic 𝓤) (at_mem : Memory → SProp 𝓤) (run : Routine → Fun 𝓤) where
   abbrev pub Admits : Contract 𝓤

@@ -53,12 +53,12 @@ impl<A: Allocator> Window<A> {
     /// most.
     pub fn new(alloc: A, capacity: u32) -> Result<Self, AllocError>
     where
-        A: Clone,
+        A: Copy,
         requires { capacity + 1 < 2 ^ 32 }
         ensures { IfOk result (λ w. w ≡ window [] capacity) }
     {
-        let marks = HeapCircularBuffer::with_capacity(alloc.clone()?, capacity as usize)?;
-        let links = HeapCircularBuffer::with_capacity(alloc.clone()?, capacity as usize)?;
+        let marks = HeapCircularBuffer::with_capacity(alloc, capacity as usize)?;
+        let links = HeapCircularBuffer::with_capacity(alloc, capacity as usize)?;
         let mask = mask_for(capacity);
         let heads = Vec::from_elem(alloc, 0u32, mask as usize + 1)?;
         Ok(Window {

@@ -65,7 +65,7 @@ impl fmt::Display for CheckFault {
     ghost output = { λ fault. Some (check_text fault) };
 
     fn fmt<W: fmt::Write>(&self, f: &mut fmt::Formatter<W>) -> fmt::Result {
-        write!(f, "{}", self.text())
+        f.write_str(self.text())
     }
 }
 
@@ -112,7 +112,7 @@ impl fmt::Display for ListingFault {
         let text = self.text();
         match self.line() {
             Some(line) => write!(f, "{text} at line {line}"),
-            None => write!(f, "{text}"),
+            None => f.write_str(text),
         }
     }
 }

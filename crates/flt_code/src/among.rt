@@ -9,7 +9,7 @@ ghost use Rattle.flt_code.specs.Emits.{HasRoom, Emits, EmitsFormula};
 use crate::code::{Code, Targets};
 use crate::context::Context;
 use crate::elementary::{Elementary, Fact, MaskedField, Offset, Sides};
-use crate::emit::{emit_elementary, emit_field, emit_mask};
+use crate::emit::{emit_elementary, emit_masked};
 use crate::table::compares_at;
 use flt_bpf::operation::{Operand, Test, Width};
 use flt_tree::Direction;
@@ -82,8 +82,7 @@ fn emit_among<A: Allocator>(
         no: code.target(known, field.offset, always, to.no),
     };
     emit_search(code, LEVELS, values, to)?;
-    emit_mask(code, field.mask)?;
-    emit_field(code, field.offset, field.width)?;
+    emit_masked(code, field.mask, field.offset, field.width)?;
     Ok(code.top())
 }
 

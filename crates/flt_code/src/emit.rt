@@ -44,6 +44,19 @@ pub fn emit_mask<A: Allocator>(code: &mut Code<A>, mask: Option<u32>) -> Result<
     }
 }
 
+/// The bits of a mask of a field go into A.
+pub fn emit_masked<A: Allocator>(
+    code: &mut Code<A>,
+    mask: Option<u32>,
+    offset: Offset,
+    width: Width,
+) -> Result<(), AllocError>
+    ensures { OnOk result (code.new ≡ emit_field offset width (emit_mask mask code.old)) }
+{
+    emit_mask(code, mask)?;
+    emit_field(code, offset, width)
+}
+
 /// A comparison of A with an operand. The machine has three of the six; the others exchange the
 /// targets.
 pub fn emit_comparison<A: Allocator>(
@@ -79,8 +92,7 @@ fn emit_test<A: Allocator>(
     ensures room { OnOk result (length code.new ≤ length code.old + 6) }
 {
     emit_comparison(code, test.comparison, Operand::Constant, test.value, to)?;
-    emit_mask(code, test.mask)?;
-    emit_field(code, test.offset, test.width)
+    emit_masked(code, test.mask, test.offset, test.width)
 }
 
 /// One test. What the link type alone decides takes no code. The result is where the test begins.

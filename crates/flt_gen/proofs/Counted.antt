@@ -83,19 +83,6 @@ ip6_tests_are link (direction.One Destination) prefix a = refl
 ip6_tests_are link (direction.Both Or) prefix a = refl
 ip6_tests_are link (direction.Both And) prefix a = refl
 
--- one test a side
-one_a_side : (d : Direction) (s t : Elementary) → tests (sides d (s ∷ []) (t ∷ [])) ≡ count.side_tests d 1
-one_a_side (direction.One Source) s t = refl
-one_a_side (direction.One Destination) s t = refl
-one_a_side (direction.Both Or) s t = refl
-one_a_side (direction.Both And) s t = refl
-
-two_a_side : (d : Direction) (s s' t t' : Elementary) → tests (sides d (s ∷ s' ∷ []) (t ∷ t' ∷ [])) ≡ count.side_tests d 2
-two_a_side (direction.One Source) s s' t t' = refl
-two_a_side (direction.One Destination) s s' t t' = refl
-two_a_side (direction.Both Or) s s' t t' = refl
-two_a_side (direction.Both And) s s' t t' = refl
-
 kind_tests_fit : (link : Link) (k : FrameKind) (d : Direction) (mask : Option ℕ) (a : ℕ) → tests (hosts_of_kind link k (hosts.Net (net_test d mask a)) []) ≤ 1 + count.side_tests d 1
 kind_tests_fit link k (direction.One Source) mask a = omega arith
 kind_tests_fit link k (direction.One Destination) mask a = omega arith

@@ -9,7 +9,7 @@ ghost use Rattle.flt_code.specs.Code.{block};
 ghost use Rattle.flt_code.specs.Emits.{HasRoom};
 ghost use Rattle.flt_gen.specs.Walk.{start_walk, finish_truth, finish_relation, finish_number};
 ghost use Rattle.flt_gen.specs.Walk.{is_number_node, is_truth_node, begin_operands, begin_right};
-ghost use Rattle.flt_gen.specs.Walk.{flush_group};
+ghost use Rattle.flt_gen.specs.Walk.{emit_number, flush_group};
 ghost use Rattle.flt_gen.specs.Walk.{finish_group, emit_value, emit_join, emit_truth_node};
 ghost use Rattle.flt_gen.specs.Walk.{emit_node, insns_of, emit_applied, emit_compared};
 ghost use Rattle.flt_gen.specs.Walk.{emit_both_nodes, emit_nodes};
@@ -127,6 +127,16 @@ impl<A: Allocator> Walk<A> {
         self.numbers.push(Waiting::Left(slot))
     }
 
+    /// A number, or the length of the packet.
+    fn emit_number(&mut self, link: Link, source: Source, number: u32) -> Result<(), AllocError>
+        requires { length (emit_number link source number self.old).code < 2 ^ 30 }
+        ensures { OnOk result (self.new ≡ emit_number link source number self.old) }
+    {
+        self.code
+            .emit_plain(Operation::Load(Register::Accumulator, source), number)?;
+        self.finish_number(link)
+    }
+
     /// A node of arithmetic.
     fn emit_number_node(&mut self, link: Link, node: &Node) -> Result<(), AllocError>
         requires upper_bound { self.old.slot < 2 ^ 31 }
@@ -135,18 +145,8 @@ impl<A: Allocator> Walk<A> {
         ensures { OnOk result (self.new ≡ emit_node link self.old node.now) }
     {
         match node {
-            Node::Literal(n) | Node::Named(n) => {
-                self.code.emit_plain(
-                    Operation::Load(Register::Accumulator, Source::Immediate),
-                    *n,
-                )?;
-                self.finish_number(link)
-            }
-            Node::Len => {
-                self.code
-                    .emit_plain(Operation::Load(Register::Accumulator, Source::Length), 0)?;
-                self.finish_number(link)
-            }
+            Node::Literal(n) | Node::Named(n) => self.emit_number(link, Source::Immediate, *n),
+            Node::Len => self.emit_number(link, Source::Length, 0),
             Node::Load(protocol, size) => {
                 emit_accessor(&mut self.code, link, *protocol, width_of(*size))?;
                 self.numbers.push(Waiting::Index(*protocol))
@@ -263,10 +263,10 @@ impl<A: Allocator> Walk<A> {
         let (code, to) = (&mut self.code, self.to);
         let context = Context::new(link, to);
         let entry = match node {
-            Node::Check(protocol) => emit_check(code, context, *protocol)?,
-            Node::Cast(protocol, cast) => emit_cast(code, context, *protocol, *cast)?,
-            Node::Sized(size, number) => emit_sized(code, context, *size, *number)?,
-            Node::Bare(_) | Node::Valued(_, _) => to.no,
+            Node::Check(protocol) => emit_check(code, context, *protocol),
+            Node::Cast(protocol, cast) => emit_cast(code, context, *protocol, *cast),
+            Node::Sized(size, number) => emit_sized(code, context, *size, *number),
+            Node::Bare(_) | Node::Valued(_, _) => Ok(to.no),
             Node::Not => {
                 self.to = to.exchanged();
                 return Ok(());
@@ -277,7 +277,7 @@ impl<A: Allocator> Walk<A> {
             }
             _ => unreachable!(),
         };
-        self.finish_truth(entry);
+        self.finish_truth(entry?);
         Ok(())
     }
 
@@ -402,15 +402,11 @@ impl<A: Allocator> Walk<A> {
     }
 }
 
-impl<A: Allocator + Clone> Walk<A> {
+impl<A: Allocator + Copy> Walk<A> {
     /// The two returns: a packet is kept, or it isn't.
     pub fn new(alloc: A) -> Result<Self, AllocError>
         ensures { IfOk result (λ walk. walk ≡ start_walk) }
     {
-        let truths = Stack::new(alloc.clone()?);
-        let numbers = Stack::new(alloc.clone()?);
-        let accessors = Vec::new(alloc.clone()?);
-        let group = Group::new(alloc.clone()?);
         let mut code = Code::new(alloc);
         code.emit_plain(Operation::ReturnConstant, 0)?;
         code.emit_plain(Operation::ReturnConstant, KEEP)?;
@@ -418,10 +414,10 @@ impl<A: Allocator + Clone> Walk<A> {
             code,
             to: Targets { yes: 2, no: 1 },
             slot: 0,
-            truths,
-            numbers,
-            accessors,
-            group,
+            truths: Stack::new(alloc),
+            numbers: Stack::new(alloc),
+            accessors: Vec::new(alloc),
+            group: Group::new(alloc),
             pending: Pending::Nothing,
         })
     }

@@ -48,16 +48,16 @@ impl<A: Allocator> Model for Reader<A> {
 
 impl<A: Allocator> Reader<A> {
     /// Nothing is read yet.
-    pub fn new(alloc: A) -> Result<Self, AllocError>
+    pub fn new(alloc: A) -> Self
     where
-        A: Clone,
-        ensures frames { IfOk result (λ reader. reader.frames ≡ []) }
-        ensures nodes { IfOk result (λ reader. reader.nodes ≡ []) }
+        A: Copy,
+        ensures frames { result.frames ≡ [] }
+        ensures nodes { result.nodes ≡ [] }
     {
-        Ok(Reader {
-            frames: Vec::new(alloc.clone()?),
+        Reader {
+            frames: Vec::new(alloc),
             nodes: Vec::new(alloc),
-        })
+        }
     }
 
     /// Adds a node.

@@ -1,13 +1,13 @@
 //! Whether a program does what an old one does: instruction by instruction, with what is read.
 
-ghost use Rattle.std.specs.Prelude.{◌≡◌, ◌≢◌, ◌↔◌, length, IsTrue, All};
+ghost use Rattle.std.specs.Prelude.{◌≡◌, ◌≢◌, ◌↔◌, ◌-◌, ◌==◌, ◌&&◌, nat_lt, length, IsTrue, All};
 ghost use Rattle.flt_bpf.specs.Instructions.{operation_of};
 ghost use Rattle.flt_short.specs.Alike.{Replaces, reads_accumulator, reads_index};
 ghost use Rattle.flt_short.specs.Alike.{sets_accumulator, sets_index, implies, landing_fits};
 ghost use Rattle.flt_short.specs.Alike.{goes_on};
 ghost use Rattle.flt_short.specs.Alike.{same_step, one_test, direct_code, is_number, direct_load};
 ghost use Rattle.flt_short.specs.Alike.{is_indirect, adds_header, loads_alike, header_load};
-ghost use Rattle.flt_short.specs.Alike.{stands, are_alike, begins};
+ghost use Rattle.flt_short.specs.Alike.{stands, are_alike, begins, MASK, EQUAL, ANY_BIT};
 ghost use Rattle.flt_short.specs.Layout.{JUMP};
 
 use flt_bpf::insn::Insn;
@@ -93,6 +93,14 @@ struct Way {
     pub place: usize,
 }
 
+/// The way in the new program leads to a place.
+fn leads_to(way: Way, place: usize) -> bool
+    ensures { result ≡ ((nat_lt 0 place && nat_lt place way.place)
+        && way.place - place - 1 == way.new) }
+{
+    (0 < place && place < way.place) && way.place - place - 1 == way.new
+}
+
 /// Both ways lead to one landing, and what is read there is the same in both programs.
 fn fits(behind: &[Landing], way: Way, accumulator: bool, index: bool) -> bool
     ensures { result ≡ landing_fits behind.now way.old way.new way.place accumulator index }
@@ -100,11 +108,8 @@ fn fits(behind: &[Landing], way: Way, accumulator: bool, index: bool) -> bool
     match behind.get(way.old) {
         None => false,
         Some(landing) => {
-            0 < landing.place
-                && landing.place < way.place
-                && way.place - landing.place - 1 == way.new
-                && implied(landing.accumulator, accumulator)
-                && implied(landing.index, index)
+            leads_to(way, landing.place)
+                && (implied(landing.accumulator, accumulator) && implied(landing.index, index))
         }
     }
 }
@@ -155,13 +160,24 @@ fn same_step(new: Insn, landing: Landing, old: Insn, behind: &[Landing]) -> bool
     match decode(old.code) {
         None => false,
         Some(operation) => {
-            old.code == new.code
-                && old.k == new.k
-                && implied(reads_accumulator(operation), landing.accumulator)
-                && implied(reads_index(operation), landing.index)
+            (old.code == new.code && old.k == new.k)
+                && (implied(reads_accumulator(operation), landing.accumulator)
+                    && implied(reads_index(operation), landing.index))
                 && goes_on(operation, new, landing, old, behind)
         }
     }
+}
+
+/// A test of bits stands for a mask, and a test of what is left for 0.
+fn tests_bits(new: Insn, mask: Insn, test: Insn) -> bool
+    ensures { result ≡ ((mask.code == MASK && test.code == EQUAL)
+        && (test.k == 0 && (new.code == ANY_BIT && mask.k == new.k))) }
+{
+    (mask.code == Operation::Compute(AluOperation::And, Operand::Constant).code()
+        && test.code == Operation::JumpIf(Test::Equal, Operand::Constant).code())
+        && (test.k == 0
+            && (new.code == Operation::JumpIf(Test::AnyBit, Operand::Constant).code()
+                && mask.k == new.k))
 }
 
 /// It is one test of bits for a mask and a test of what is left for 0.
@@ -169,9 +185,6 @@ fn same_step(new: Insn, landing: Landing, old: Insn, behind: &[Landing]) -> bool
 fn one_test(new: Insn, landing: Landing, old: Insn, after: &[Insn], behind: &[Landing]) -> bool
     ensures { result ≡ one_test new landing old after.now behind.now }
 {
-    let mask = Operation::Compute(AluOperation::And, Operand::Constant).code();
-    let equal = Operation::JumpIf(Test::Equal, Operand::Constant).code();
-    let any_bit = Operation::JumpIf(Test::AnyBit, Operand::Constant).code();
     match after {
         [] => false,
         [test, ..] => {
@@ -186,11 +199,10 @@ fn one_test(new: Insn, landing: Landing, old: Insn, after: &[Insn], behind: &[La
                 new: usize::from(new.jt),
                 place,
             };
-            (old.code == mask && test.code == equal)
-                && (test.k == 0 && (new.code == any_bit && old.k == new.k))
-                && landing.accumulator
-                && fits(behind, zero, false, landing.index)
-                && fits(behind, other, false, landing.index)
+            tests_bits(new, old, *test)
+                && (landing.accumulator
+                    && (fits(behind, zero, false, landing.index)
+                        && fits(behind, other, false, landing.index)))
         }
     }
 }

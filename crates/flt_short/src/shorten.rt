@@ -40,6 +40,15 @@ fn landing_before(operation: Operation, place: usize, next: Landing) -> Landing 
     }
 }
 
+/// What is read behind a test that goes on at one of two landings.
+fn next_of_test(yes: Landing, no: Landing) -> Landing {
+    Landing {
+        place: 0,
+        accumulator: yes.accumulator || no.accumulator,
+        index: yes.index || no.index,
+    }
+}
+
 /// So many instructions behind the next one.
 fn behind(at: usize, offset: usize) -> usize {
     at.saturating_add(offset).saturating_add(1)
@@ -254,31 +263,29 @@ impl Shortening<'_> {
         None
     }
 
-    /// A test that goes on where two instructions of the old code land.
-    fn emit_test(&mut self, at: usize, insn: Insn, yes: usize, no: usize) {
-        let (yes, no) = (self.landing_at(yes), self.landing_at(no));
-        let Some(operation) = decode(insn.code) else {
-            return;
-        };
-        if yes.place == 0 || no.place == 0 {
-            return;
+    /// The place of a test with such targets, which is put there if it can't share one.
+    fn place_test(&mut self, insn: Insn, yes: usize, no: usize) -> Option<usize> {
+        if yes == 0 || no == 0 {
+            return None;
         }
-        let next = Landing {
-            place: 0,
-            accumulator: yes.accumulator || no.accumulator,
-            index: yes.index || no.index,
-        };
         if self.merges {
-            if let Some(place) = self.same_test(insn, yes.place, no.place) {
-                self.land(at, landing_before(operation, place, next));
-                return;
+            if let Some(place) = self.same_test(insn, yes, no) {
+                return Some(place);
             }
         }
         let top = self.len;
-        let offsets = (top.saturating_sub(yes.place), top.saturating_sub(no.place));
-        if let Some(test) = reaching(insn, offsets.0, offsets.1) {
-            self.push(test);
-            self.land(at, landing_before(operation, behind(top, 0), next));
+        let test = reaching(insn, top.saturating_sub(yes), top.saturating_sub(no))?;
+        self.push(test);
+        Some(behind(top, 0))
+    }
+
+    /// A test, whose targets stand so far behind the instruction `last` of the old code.
+    fn emit_test(&mut self, at: usize, insn: Insn, last: usize) {
+        let yes = self.landing_at(behind(last, usize::from(insn.jt)));
+        let no = self.landing_at(behind(last, usize::from(insn.jf)));
+        let place = self.place_test(insn, yes.place, no.place);
+        if let (Some(operation), Some(place)) = (decode(insn.code), place) {
+            self.land(at, landing_before(operation, place, next_of_test(yes, no)));
         }
     }
 
@@ -348,38 +355,38 @@ impl Shortening<'_> {
         self.land(at, landing_before(operation, place, landing));
     }
 
-    /// One more instruction of the old code is read.
-    fn read(&mut self, at: usize) {
-        let Some(insn) = self.insn_at(at) else {
-            return;
-        };
-        let is_reached = self.landing_at(at).place > 0;
-        self.land(at, NOWHERE);
-        if !is_reached || self.is_joined(at) {
-            return;
-        }
-        if let Some(test) = self.bits_at(at) {
-            let (yes, no) = (1 + usize::from(test.jt), 1 + usize::from(test.jf));
-            return self.emit_test(at, test, behind(at, yes), behind(at, no));
-        }
-        if let Some(load) = self.load_at(at) {
-            return self.emit_plain(at, load, behind(at, 2));
-        }
-        if let Some((length, load)) = self.header_load_at(at) {
-            self.emit_plain(at, load, behind(at, 4));
-            return self.emit_plain(at, length, at);
-        }
+    /// An instruction of the old code that no other one joins.
+    fn emit_alone(&mut self, at: usize, insn: Insn) {
         match decode(insn.code) {
-            Some(Operation::JumpIf(_, _)) => {
-                let (yes, no) = (usize::from(insn.jt), usize::from(insn.jf));
-                self.emit_test(at, insn, behind(at, yes), behind(at, no))
-            }
+            Some(Operation::JumpIf(_, _)) => self.emit_test(at, insn, at),
             Some(operation @ (Operation::ReturnConstant | Operation::ReturnAccumulator)) => {
                 self.push(insn);
-                let place = self.len;
-                self.land(at, landing_before(operation, place, NOWHERE));
+                self.land(at, landing_before(operation, self.len, NOWHERE));
             }
             _ => self.emit_plain(at, insn, behind(at, 0)),
+        }
+    }
+
+    /// An instruction of the old code, in one with those behind it where that is shorter.
+    fn emit(&mut self, at: usize) {
+        if let Some(test) = self.bits_at(at) {
+            self.emit_test(at, test, behind(at, 0));
+        } else if let Some(load) = self.load_at(at) {
+            self.emit_plain(at, load, behind(at, 2));
+        } else if let Some((length, load)) = self.header_load_at(at) {
+            self.emit_plain(at, load, behind(at, 4));
+            self.emit_plain(at, length, at);
+        } else if let Some(insn) = self.insn_at(at) {
+            self.emit_alone(at, insn);
+        }
+    }
+
+    /// One more instruction of the old code is read.
+    fn read(&mut self, at: usize) {
+        let is_reached = self.landing_at(at).place > 0;
+        self.land(at, NOWHERE);
+        if is_reached && !self.is_joined(at) {
+            self.emit(at);
         }
     }
 
@@ -393,8 +400,41 @@ impl Shortening<'_> {
     }
 }
 
+/// Shortens the code into the space given for it, from its last instruction on. Returns how many
+/// instructions the new one has.
+fn shorten(
+    insns: &[Insn],
+    landings: &mut [Landing],
+    backwards: &mut [Insn],
+    merges: bool,
+) -> usize {
+    let mut shortening = Shortening {
+        insns,
+        landings,
+        backwards,
+        len: 0,
+        merges,
+    };
+    shortening.read_all()
+}
+
+/// The shorter program, made in the space given for it, if it replaces the old one.
+fn replacement<A: Allocator>(
+    insns: &[Insn],
+    landings: &mut [Landing],
+    mut backwards: Vec<Insn, A>,
+    merges: bool,
+) -> Option<Vec<Insn, A>>
+    ensures { IfSome result (λ short. Replaces short.items insns.now) }
+{
+    let len = shorten(insns, landings, &mut backwards, merges);
+    backwards.truncate(len);
+    backwards.reverse();
+    replaces(&backwards, insns, landings).then_some(backwards)
+}
+
 /// The shorter program, if what was made replaces the old one.
-fn attempt<A: Allocator + Clone>(
+fn attempt<A: Allocator + Copy>(
     alloc: A,
     insns: &[Insn],
     merges: bool,
@@ -402,35 +442,21 @@ fn attempt<A: Allocator + Clone>(
     ensures { IfOk result
         (λ outcome. IfSome outcome (λ short. Replaces short.items insns.now)) }
 {
-    let mut landings = vec![in alloc.clone()?; NOWHERE; insns.len()]?;
-    let mut backwards = vec![in alloc; EMPTY; insns.len()]?;
-    let mut shortening = Shortening {
-        insns,
-        landings: &mut landings,
-        backwards: &mut backwards,
-        len: 0,
-        merges,
-    };
-    let len = shortening.read_all();
-    backwards.truncate(len);
-    backwards.reverse();
-    if replaces(&backwards, insns, &landings) {
-        Ok(Some(backwards))
-    } else {
-        Ok(None)
-    }
+    let mut landings = vec![in alloc; NOWHERE; insns.len()]?;
+    let backwards = vec![in alloc; EMPTY; insns.len()]?;
+    Ok(replacement(insns, &mut landings, backwards, merges))
 }
 
 /// A program that replaces an old one: it gives the same answers, in no more instructions. Where
 /// blocks that are put once are too far for some jump, they are put where they were, and where that
 /// fails, as it does for a program with a jump (`ja`), it is the old program.
-pub fn shortened<A: Allocator + Clone>(
+pub fn shortened<A: Allocator + Copy>(
     alloc: A,
     insns: Vec<Insn, A>,
 ) -> Result<Vec<Insn, A>, AllocError>
     ensures { IfOk result (λ short. Replaces short.items insns.items) }
 {
-    if let Some(short) = attempt(alloc.clone()?, &insns, true)? {
+    if let Some(short) = attempt(alloc, &insns, true)? {
         return Ok(short);
     }
     if let Some(short) = attempt(alloc, &insns, false)? {

@@ -107,7 +107,7 @@ impl fmt::Display for ExprFault {
         let text = self.text();
         match self.place() {
             Some(place) => write!(f, "{text} at {place}"),
-            None => write!(f, "{text}"),
+            None => f.write_str(text),
         }
     }
 }

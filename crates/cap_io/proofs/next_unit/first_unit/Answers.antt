@@ -14,17 +14,17 @@ returns-in_err-read_rest g c =
       known = tt;
       ok = tt;
       err = λ t. NoUnitCame-behind _ _ _ c.in_ok-first.first _ (c.in_ok-first.ensures.ok t)
-          (rest_of_front c.in_ok-first.first _ _ _ 12 refl (search rules) (sym c.begins_section.ensures ∙ c.if-begins_section.true) (c.in_err-read_rest.ensures.err t));
+          (rest_of_front c.in_ok-first.first _ _ _ 12 refl (search rules) (sym c.begins_section.ensures ∙ c.if-not-begins_section.false) (c.in_err-read_rest.ensures.err t));
       kept = (refl, refl);
     })
 
 pub read_block-requires-clause-begins : goal.read_block-requires-clause-begins
 read_block-requires-clause-begins g c =
     rw c.requires.unknown (section_of_bytes c.read_rest.new.buffer c.in_ok-first.first (first_of c.in_ok-first.first c.read_rest.new.buffer 12 (search rules) c.in_ok-read_rest.ensures.same) (search rules)
-    ∙ sym c.begins_section.ensures ∙ c.if-begins_section.true)
+    ∙ sym c.begins_section.ensures ∙ c.if-not-begins_section.false)
 
-pub returns-then-begins_section : goal.returns-then-begins_section
-returns-then-begins_section g c =
+pub returns : goal.returns
+returns g c =
     let first = c.in_ok-first.ensures.moves in
     let rest = c.in_ok-read_rest.ensures.moves in
     ReadsUnit-behind g.I.Input _ c.read_rest.new.input c.read_rest.new.buffer _ _ _ _ _ _ _ _
@@ -32,8 +32,8 @@ returns-then-begins_section g c =
     (λ t. joined_front _ _ _ c.in_ok-first.first c.read_rest.new.buffer 12 (search rules) (c.in_ok-first.ensures.ok t) c.in_ok-read_rest.ensures.same (c.in_ok-read_rest.ensures.ok t))
     c.read_block.ensures
 
-pub returns : goal.returns
-returns g c = rw c.requires.unknown (record {
+pub returns-then-not-begins_section : goal.returns-then-not-begins_section
+returns-then-not-begins_section g c = rw c.requires.unknown (record {
   moves = search rules;
   sized = search rules;
   consistent = tt;

@@ -55,12 +55,11 @@ returns-in_err-read_rest g c =
 pub apply_block-requires-clause-section : goal.apply_block-requires-clause-section
 apply_block-requires-clause-section g c = section-fits c.args.file.now c.args.table.now c.args.front.now c.requires.begins c.requires.consistent
 
-pub returns-in_err-packet : goal.returns-in_err-packet
-returns-in_err-packet g c =
-    let p = err_from_is_err_and c.from_residual-in_err-packet.result c.from_residual-in_err-packet.ensures.1 in
+pub returns-in-Err : goal.returns-in-Err
+returns-in-Err g c =
     let moves = c.in_ok-read_rest.ensures.moves in
-    let own = entry-own _ _ _ c.in_err-packet.field-0.0 c.in_err-packet.ensures.err in
-    rw (p.1, p.2) (record {
+    let own = entry-own _ _ _ c.in-Err.fault c.in-Err.ensures.err in
+    record {
       moves = record {
         counted = tt;
         grown = moves.grown;
@@ -80,16 +79,16 @@ returns-in_err-packet g c =
           (whole_came c.order.result c.args.front.now _ _ (take c.in_ok-found.found.length c.read_rest.new.buffer) _ c.in_ok-found.found (search rules)
           (front_says c.order.result c.args.front.now _ c.in_ok-found.found c.frame.ensures.answer c.in_ok-found.was)
           (rw (take_at c.read_rest.new.buffer _ c.make_room.new.buffer.len (search rules)) refl) c.in_ok-read_rest.ensures.same (c.in_ok-read_rest.ensures.ok t))
-          (ap (take c.in_ok-found.found.length) c.deref.ensures.value) c.in_err-packet.ensures.err);
-      kept = (refl, c.in_err-packet.ensures.kept);
-    })
+          (ap (take c.in_ok-found.found.length) c.deref.ensures.value) c.in-Err.ensures.err);
+      kept = (refl, c.in-Err.ensures.kept);
+    }
 
-pub returns-in-Some : goal.returns-in-Some
-returns-in-Some g c =
+pub returns-in-Ok-Some : goal.returns-in-Ok-Some
+returns-in-Ok-Some g c =
     let moves = c.in_ok-read_rest.ensures.moves in
     let frame = c.in_ok-found.found in
-    let enters = rw c.in-Some.is at c.in_ok-packet.ensures.ok in
-    let stays = interfaces-kept frame c.args.table.now c.apply_block.new.table _ c.in-Some.packet enters in
+    let enters = rw c.in-Ok-Some.field-0-is at c.in-Ok-Some.ensures.ok in
+    let stays = interfaces-kept frame c.args.table.now c.apply_block.new.table _ c.in-Ok-Some.packet enters in
     let says = front_says c.order.result c.args.front.now _ frame c.frame.ensures.answer c.in_ok-found.was in
     let small = small-behind _ _ (length c.args.front.now) frame.length (search rules) moves.counted c.in_ok-found.ensures.shortest moves.bounded c.requires.bounded in
     record {
@@ -113,8 +112,8 @@ returns-in-Some g c =
         small,
       );
       consistent = rw stays c.requires.consistent;
-      known = has-section c.args.file.now c.args.front.now _ frame c.args.table.now c.apply_block.new.table c.in-Some.packet c.requires.begins (ap (λ o. frame_in o c.args.front.now) (sym c.order.ensures) ∙ says.says) enters enters.known;
-      ok = λ t. packet-block c.args.file.now c.args.table.now c.apply_block.new.table c.args.front.now _ _ _ frame.order frame.length c.in-Some.packet c.requires.begins
+      known = has-section c.args.file.now c.args.front.now _ frame c.args.table.now c.apply_block.new.table c.in-Ok-Some.packet c.requires.begins (ap (λ o. frame_in o c.args.front.now) (sym c.order.ensures) ∙ says.says) enters enters.known;
+      ok = λ t. packet-block c.args.file.now c.args.table.now c.apply_block.new.table c.args.front.now _ _ _ frame.order frame.length c.in-Ok-Some.packet c.requires.begins
           (omega (arith, c.in_ok-make_room.ensures.room, c.deref.ensures.len, ap length c.deref.ensures.value)) c.requires.consistent enters.fits.0 stays
           (block_came (section_before c.args.file.now c.args.table.now) c.order.result c.args.table.now c.apply_block.new.table _ _ _ _ frame _ (order-held c.args.file.now c.args.table.now ∙ sym c.order.ensures)
           (interfaces-held c.args.file.now c.args.table.now c.args.front.now c.requires.begins c.requires.consistent) c.in_ok-found.ensures.shortest
@@ -126,11 +125,11 @@ returns-in-Some g c =
       kept = tt;
     }
 
-pub returns-in-None : goal.returns-in-None
-returns-in-None g c =
+pub returns-in-Ok-None : goal.returns-in-Ok-None
+returns-in-Ok-None g c =
     let moves = c.in_ok-read_rest.ensures.moves in
     let frame = c.in_ok-found.found in
-    let enters = rw c.in-None.is at c.in_ok-packet.ensures.ok in
+    let enters = rw c.in-Ok-None.field-0-is at c.in-Ok-None.ensures.ok in
     let says = front_says c.order.result c.args.front.now _ frame c.frame.ensures.answer c.in_ok-found.was in
     let small = small-behind _ _ (length c.args.front.now) frame.length (search rules) moves.counted c.in_ok-found.ensures.shortest moves.bounded c.requires.bounded in
     rw (c.first_link_type.ensures frame.order, c.first_link.ensures) (record {
@@ -143,7 +142,7 @@ returns-in-None g c =
         never = moves.never;
       };
       sized = (omega (arith, c.in_ok-found.ensures.shortest), small);
-      consistent = (first-again (known_first_link c.args.file.now) (section_of frame.order c.apply_block.new.table), c.in_ok-packet.ensures.section);
+      consistent = (first-again (known_first_link c.args.file.now) (section_of frame.order c.apply_block.new.table), c.in-Ok-None.ensures.section);
       known = tt;
       ok = λ t. passed-block c.args.file.now c.args.table.now c.apply_block.new.table c.args.front.now _ _ _ frame.order frame.length c.requires.begins
           (omega (arith, c.in_ok-make_room.ensures.room, c.deref.ensures.len, ap length c.deref.ensures.value))

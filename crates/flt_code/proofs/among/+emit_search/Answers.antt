@@ -35,3 +35,24 @@ returns g t c =
           ∙ ap (λ n. block c.emit_branch.new.self n) (sym c.top.ensures);
       room = omega (arith, length-drop (length vs / 2) vs, length-take (length vs / 2) vs);
     }
+
+pub emit_chain-requires : goal.emit_chain-requires
+emit_chain-requires g t c = grind (arith, common_steps)
+
+pub emit_search-requires : goal.emit_search-requires
+emit_search-requires g t c = grind (arith, common_steps)
+
+pub emit_search-requires-2 : goal.emit_search-requires-2
+emit_search-requires-2 g t c = grind (arith, common_steps)
+
+pub emit_branch-requires : goal.emit_branch-requires
+emit_branch-requires g t c = grind (arith, common_steps)
+
+pub returns-in_err-yes : goal.returns-in_err-yes
+returns-in_err-yes g t c = grind (arith, common_steps)
+
+pub returns-in_err-no : goal.returns-in_err-no
+returns-in_err-no g t c = grind (arith, common_steps)
+
+pub returns-in_err-emit_branch : goal.returns-in_err-emit_branch
+returns-in_err-emit_branch g t c = grind (arith, common_steps)

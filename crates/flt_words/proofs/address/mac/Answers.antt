@@ -1,5 +1,6 @@
 -- Six groups are 48 bits.
 use Rattle.std.proofs.Common.{◌^◌, arith, ◌<◌, length, ap, subst}
+use Rattle.std.proofs.lemmas.Grind.{common_steps}
 use Rattle.flt_words.specs.declared.address.Group.TheVariants as group
 use Rattle.flt_words.proofs.AddressValues.{reads_below, same_groups}
 use Rattle.flt_words.proofs.address.mac.Goals as goal
@@ -12,3 +13,9 @@ overflow_cast-result c =
     let below = reads_below group.Byte c.args.word.now c.in_ok-joined.joined c.in_ok-joined.ensures in
     let small : c.in_ok-joined.joined.value < 256 ^ 6 = subst (λ k. c.in_ok-joined.joined.value < 256 ^ k) c.if-joined-ne6.false below in
     omega arith
+
+pub returns-in_err-joined : goal.returns-in_err-joined
+returns-in_err-joined c = grind (arith, common_steps)
+
+pub returns : goal.returns
+returns c = grind (arith, common_steps)

@@ -1,6 +1,7 @@
 -- The loop's steps.
 use Rattle.std.proofs.Common.{◌≡◌, ◌+◌, ◌==◌, arith, sym, ◌∙◌, subst, length-drop, Err}
 use Rattle.std.proofs.lemmas.Result.{err_from_is_err_and}
+use Rattle.std.proofs.lemmas.Grind.{common_steps}
 use Rattle.flt_words.specs.Tokens.{IsRefused, IsToken, Tokens}
 use Rattle.flt_words.specs.Tokens.Tokens.{short, too_long}
 use Rattle.flt_words.proofs.BracketCounts.{closes_none, closings, openings, opens_none, token_has}
@@ -66,3 +67,21 @@ loop-at-preserved g c =
 
 pub returns-clause-ok : goal.returns-clause-ok
 returns-clause-ok g c = rw (← c.as_bytes-bytes.ensures.value) (short (omega arith) (cut_end c.loop-at.invariant.cut (omega arith)))
+
+pub loop-at-init : goal.loop-at-init
+loop-at-init g c = grind (arith, common_steps)
+
+pub returns-in_err-push-clause-err : goal.returns-in_err-push-clause-err
+returns-in_err-push-clause-err g c = grind (arith, common_steps)
+
+pub returns-in_err-push-clause-too_long : goal.returns-in_err-push-clause-too_long
+returns-in_err-push-clause-too_long g c = grind (arith, common_steps)
+
+pub returns-in_err-kind-clause-too_long : goal.returns-in_err-kind-clause-too_long
+returns-in_err-kind-clause-too_long g c = grind (arith, common_steps)
+
+pub returns-clause-too_long : goal.returns-clause-too_long
+returns-clause-too_long g c = grind (arith, common_steps)
+
+pub token_at-requires : goal.token_at-requires
+token_at-requires g c = omega arith

@@ -55,7 +55,7 @@ invariant_of-self g c =
     let Q : Schedule → Type 0 = λ p. IsScheduled p cursors' in (
       subst P (sym c.go_on.ensures.schedule)
           (queue-read c.self.inside.schedule c.self.inside.cursors.items c.args.input c.index_mut-cursor.result.now c.advance-result.new.self c.advance-result.result c.self.inside.queue c.go_on.new.queue
-          a at waits (subst K c.key.ensures c.go_on.ensures.queue) c.self.invariant.0),
+          a at waits (subst K c.key-time.ensures c.go_on.ensures.queue) c.self.invariant.0),
       subst Q (sym c.go_on.ensures.schedule)
           (placed-read c.self.inside.schedule c.self.inside.cursors.items c.args.input c.index_mut-cursor.result.now c.advance-result.new.self c.advance-result.result
           a at waits (ap (λ (h : InputView). h.source.phase) c.advance-result.ensures.is ∙ c.advance-result.ensures.phase) c.self.invariant.1),

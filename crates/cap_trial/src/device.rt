@@ -1,12 +1,11 @@
-//! Devices for tests: over memory, a few bytes a call, failing where they are told to, counting
-//! what was asked.
+//! Devices over memory that move a few bytes a call, fail where they are told to, and count what
+//! was asked.
 ghost use Rattle.std.specs.Prelude.{◌≡◌, ℕ, ◌+◌, ◌-◌, ◌≤◌, ◌<◌, ◌^◌, IsTrue, List, [], length};
 ghost use Rattle.std.specs.Prelude.{Some, None, true, IfOk, IsErr, OnErr, OnOk, min, not, is_some};
 ghost use Rattle.cap_octet.specs.Device.{Reads, Writes, count_of, failures_of};
 
-use crate::device::{DeviceFault, Input, Output};
-use crate::failures::FailureCount;
 use crate::memory::{MemInput, MemOutput};
+use cap_octet::{DeviceFault, FailureCount, Input, Output};
 
 /// Gives the bytes of a slice, at most `piece` a read, and fails at its read number `at`, counted
 /// from 1.

@@ -33,10 +33,10 @@ use denote.Triple.Call.{calls_at}
 use denote.Triple.Clauses.{Ended, Clauses}
 use denote.Triple.Statement.{Triple}
 use denote.Triple.Walked.{Stays, stay_dropped, walk_of, ends_at, Goes-dropped}
-use Rattle.cap_trial.specs.contracts.Trial as T
-use Rattle.cap_trial.specs.contracts.TrialAllocator.deallocate as F
-use Rattle.cap_trial.proofs.TrialAllocator.deallocate.Statement.{statement}
-use Rattle.cap_trial.proofs.TrialAllocator.deallocate.Code as code
+use Rattle.cap_trial.specs.contracts.allocator.Trial as T
+use Rattle.cap_trial.specs.contracts.allocator.TrialAllocator.deallocate as F
+use Rattle.cap_trial.proofs.allocator.TrialAllocator.deallocate.Statement.{statement}
+use Rattle.cap_trial.proofs.allocator.TrialAllocator.deallocate.Code as code
 
 module _ (Z : Al) where
   abbrev args : Args

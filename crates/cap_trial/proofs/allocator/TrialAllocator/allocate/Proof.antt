@@ -37,13 +37,13 @@ use denote.Triple.Clauses.{Ended, Clauses}
 use denote.Triple.Statement.{Triple}
 use denote.Triple.Table.{cited}
 use denote.Triple.Walked.{Stays, stay_dropped, walk_of, ends_at, Goes-dropped}
-use Rattle.cap_trial.specs.contracts.Plan as P
-use Rattle.cap_trial.specs.contracts.Trial as T
-use Rattle.cap_trial.specs.contracts.TrialAllocator.allocate as F
-use Rattle.cap_trial.proofs.TrialAllocator.allocate.Statement.{statement}
-use Rattle.cap_trial.proofs.TrialAllocator.allocate.Code as code
-use Rattle.cap_trial.proofs.admits.Symbol as symbol
-use Rattle.cap_trial.proofs.admits.Met as admits
+use Rattle.cap_trial.specs.contracts.allocator.Plan as P
+use Rattle.cap_trial.specs.contracts.allocator.Trial as T
+use Rattle.cap_trial.specs.contracts.allocator.TrialAllocator.allocate as F
+use Rattle.cap_trial.proofs.allocator.TrialAllocator.allocate.Statement.{statement}
+use Rattle.cap_trial.proofs.allocator.TrialAllocator.allocate.Code as code
+use Rattle.cap_trial.proofs.allocator.admits.Symbol as symbol
+use Rattle.cap_trial.proofs.allocator.admits.Met as admits
 use Rattle.cap_trial.proofs.Counting.{Admits, at_plan, Admits-goes, Admits-gives}
 
 module _ (Z : Al) where
@@ -131,5 +131,5 @@ allocate_spec 𝓤 𝓛 𝓜 𝓡 wired Y laws g d drops met _ =
     (F.Key.name (args Z)) (body Z) (code.unfolded 𝓤 𝓛.H 𝓜 𝓡 wired (Y, tt) d drops)
     (λ κs. (shr_vals, (uint_vals w64, (uint_vals w64, tt)))) (λ κs. ((λ r vs s. s.0), (uint_Tells w64, (uint_Tells w64, tt)))) (λ κs qs bounds a τ are.
     walk Z 𝓛 𝓜.mem 𝓡.returns 𝓣 (met.allocate drops)
-    (cited 𝓤 𝓛.H _ 𝓜 𝓡 𝓡.env symbol.name (𝓡.env symbol.name) refl (admits.met 𝓤 𝓛 𝓜 𝓡 (code.calls-cap_trial::admits 𝓡.env wired)))
+    (cited 𝓤 𝓛.H _ 𝓜 𝓡 𝓡.env symbol.name (𝓡.env symbol.name) refl (admits.met 𝓤 𝓛 𝓜 𝓡 (code.calls-cap_trial::allocator::admits 𝓡.env wired)))
     κs.0 κs.1.0 qs.0 qs.1.0 bounds.0 a.0 a.1.0 a.1.1.0 τ are.1.0.1 are.1.1.0.1)
