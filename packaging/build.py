@@ -419,7 +419,7 @@ def build(program):
             return
         if not RATTLE.exists():
             raise Refused(f"the prover of rt's kit is looked for at {RATTLE}, and isn't there")
-        say("proving and building the program: once, most of an hour of processor time")
+        say("proving and building the program: once, some 40 minutes of processor time")
         crates = crates_of((ROOT / "crates.txt").read_text())
         tidy()
         measure(crates)
