@@ -3,8 +3,9 @@
 use crate::case::Case;
 use crate::shown::Difference;
 use cap_command::{Command, Compile, Edit, Print};
+use cap_octet::{TrialInput, TrialOutput};
 use cap_tools::{Job, Turn, run};
-use cap_trial::{Trial, TrialInput, TrialOutput};
+use cap_trial::Trial;
 use capkit::Line;
 use std::alloc::{AllocError, Global};
 

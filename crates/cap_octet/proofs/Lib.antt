@@ -1,6 +1,7 @@
 pub mod Checks
 pub mod Dates
 pub mod Days
+pub mod Fronts
 pub mod Numbers
 pub mod Numerals
 pub mod Reading

@@ -1,7 +1,6 @@
 //! Tests of cap_print: the rows of a packet of over 65,536 bytes.
-use cap_octet::Packet;
+use cap_octet::{Packet, TrialOutput};
 use cap_print::{Options, Text, print_packet};
-use cap_trial::TrialOutput;
 use std::alloc::{AllocError, Global};
 use std::test::Fail;
 

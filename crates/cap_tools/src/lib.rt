@@ -7,5 +7,6 @@ mod messages;
 mod start;
 mod step;
 
+pub use cap_command::{Command, Compile, Edit, Merge, Print, Shift};
 pub use job::{Job, Turn, run};
 pub use jobs::Jobs;

@@ -1,11 +1,6 @@
-//! What tests run on: devices over memory, devices that fail where they are told to, and an
-//! allocator that counts.
+//! What tests run on: an allocator that counts what is asked of it, and refuses what it is told to.
 #![tactic(auto)]
 
 mod allocator;
-mod device;
-mod memory;
 
 pub use allocator::Trial;
-pub use device::{TrialInput, TrialOutput};
-pub use memory::{MemInput, MemOutput};

@@ -13,4 +13,5 @@ mod waiting;
 mod walk;
 mod wanted;
 
+pub use cap_octet::Link;
 pub use program::generate;

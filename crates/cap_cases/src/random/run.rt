@@ -3,9 +3,8 @@
 use crate::random::choices::Random;
 use crate::random::packets::{Packets, packets_of};
 use cap_command::{Command, Compile, Edit, Print, Shift};
-use cap_octet::{Format, Link};
+use cap_octet::{Format, Link, MemInput, MemOutput};
 use cap_tools::run;
-use cap_trial::{MemInput, MemOutput};
 use std::alloc::{AllocError, Global};
 use std::fmt::Write;
 use std::str;

@@ -1,9 +1,8 @@
 //! Runs of commands in a heap of a fixed size.
 
 use cap_command::{Command, Edit, Merge, Print, Shift};
-use cap_octet::Format;
+use cap_octet::{Format, MemInput, MemOutput};
 use cap_tools::run;
-use cap_trial::{MemInput, MemOutput};
 use linked_list_allocator::LocalHeap;
 use std::alloc::{AllocError, Global};
 use std::test::Fail;

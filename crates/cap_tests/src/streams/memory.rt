@@ -1,8 +1,8 @@
 //! How often a source and a sink take memory.
 use crate::streams::captures::{HEADER, capture, joined, packet, read_on, returns};
 use cap_io::{Sink, Source};
-use cap_octet::{Fault, Format};
-use cap_trial::{MemInput, MemOutput, Trial};
+use cap_octet::{Fault, Format, MemInput, MemOutput};
+use cap_trial::Trial;
 use std::alloc::Global;
 use std::test::Fail;
 

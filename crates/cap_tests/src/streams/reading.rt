@@ -3,8 +3,7 @@ ghost use Rattle.std.specs.Prelude.{refl, true};
 
 use crate::streams::captures::{PACKET, SECTION, capture, joined, read_on};
 use cap_io::Source;
-use cap_octet::{DeviceFault, Fault, Input};
-use cap_trial::MemInput;
+use cap_octet::{DeviceFault, Fault, Input, MemInput};
 use std::alloc::Global;
 use std::cell::Cell;
 use std::test::Fail;

@@ -1,8 +1,7 @@
 //! What a sink refuses, in which order, and that it stays refused.
 use crate::streams::captures::packet;
 use cap_io::Sink;
-use cap_octet::{Fault, Format, Output, Packet};
-use cap_trial::MemOutput;
+use cap_octet::{Fault, Format, MemOutput, Output, Packet};
 use std::alloc::Global;
 use std::test::Fail;
 

@@ -1,7 +1,7 @@
 //! Which texts are read as listings, and what is written.
 
 use super::{IPV4, insn, program_of};
-use cap_trial::TrialOutput;
+use cap_octet::TrialOutput;
 use flt_bpf::{Insn, Program, read_listing, write_listing};
 use std::alloc::Global;
 use std::test::Fail;

@@ -4,8 +4,9 @@ ghost use Rattle.std.specs.Prelude.{◌≡◌, ℕ, ◌+◌, ◌-◌, ◌≤◌,
 ghost use Rattle.std.specs.Prelude.{Some, None, true, IfOk, IsErr, OnErr, OnOk, min, not, is_some};
 ghost use Rattle.cap_octet.specs.Device.{Reads, Writes, count_of, failures_of};
 
+use crate::device::{DeviceFault, Input, Output};
+use crate::failures::FailureCount;
 use crate::memory::{MemInput, MemOutput};
-use cap_octet::{DeviceFault, FailureCount, Input, Output};
 
 /// Gives the bytes of a slice, at most `piece` a read, and fails at its read number `at`, counted
 /// from 1.

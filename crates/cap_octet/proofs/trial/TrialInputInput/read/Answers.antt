@@ -1,6 +1,6 @@
 use Rattle.std.proofs.Common.{arith}
-use Rattle.cap_trial.proofs.Fronts.{Reads-front}
-use Rattle.cap_trial.proofs.device.TrialInputInput.read.Goals as goal
+use Rattle.cap_octet.proofs.Fronts.{Reads-front}
+use Rattle.cap_octet.proofs.trial.TrialInputInput.read.Goals as goal
 
 pub returns-clause-exact : goal.returns-clause-exact
 returns-clause-exact c = λ exact. Reads-front _ _ _ _ _ _ (omega arith) (λ room. omega arith) c.read.ensures.within (c.read.ensures.exact exact)

@@ -5,7 +5,8 @@ ghost use Rattle.std.specs.Prelude.{drop, true, IfOk, OnErr, IsOk, refl};
 ghost use Rattle.std.specs.Io.{StartsWith};
 ghost use Rattle.cap_octet.specs.Device.{Passes, Reads, Writes, count_of, failures_of};
 
-use cap_octet::{DeviceFault, FailureCount, Input, Output};
+use crate::device::{DeviceFault, Input, Output};
+use crate::failures::FailureCount;
 
 /// Gives the bytes of a slice, and never fails.
 #[derive(Drop)]
