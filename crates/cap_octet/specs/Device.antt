@@ -1,5 +1,5 @@
 -- What the calls of a device do to its bytes and to the counts that contracts see.
-use Rattle.std.specs.Prelude.{◌≡◌, ℕ, ◌+◌, ◌<◌, ◌≤◌, Bool, true, false, List, [], ◌++◌, length, take, drop, Result, Ok, Err, min}
+use Rattle.std.specs.Prelude.{◌≡◌, ℕ, ◌+◌, ◌<◌, ◌≤◌, Bool, true, false, List, [], ◌++◌, length, take, drop, Option, None, Some, Result, Ok, Err, min}
 use Rattle.cap_octet.specs.declared.device.DeviceFault.{DeviceFault}
 use Rattle.cap_octet.specs.declared.device.Stopped.{Stopped}
 
@@ -12,6 +12,11 @@ count_of (Err fault) = 0
 abbrev pub failures_of : {X E : Type 0} → Result X E → ℕ
 failures_of (Ok value) = 0
 failures_of (Err fault) = 1
+
+-- A device that may fail once it gave so many bytes, or never, gave enough to fail.
+abbrev pub HasGiven : Option ℕ → ℕ → Type 0
+HasGiven None given = ⊥
+HasGiven (Some sure) given = sure ≤ given
 
 -- The first n unread bytes went to the start of the buffer.
 pub record Takes (unread buf : List ℕ) (n : ℕ) (unread' buf' : List ℕ) : Type 0 where

@@ -1,6 +1,6 @@
 -- What the answer of a device over a reader or a writer of std has to do with that one's.
-use Rattle.std.specs.Prelude.{◌≡◌, ℕ, ◌+◌, ◌^◌, ◌≤◌, ◌<◌, Bool, true, false, List, length, take, Option, Some, Result, Ok, Err}
-use Rattle.std.specs.Io.{ReadsAtMost, WritesAtMost}
+use Rattle.std.specs.Prelude.{◌≡◌, ◌⊎◌, ℕ, ◌+◌, ◌^◌, ◌≤◌, ◌<◌, Bool, true, false, List, length, take, Option, Some, Result, Ok, Err}
+use Rattle.std.specs.Io.{ReadsAtMost, StartsWith, WritesAtMost}
 use Rattle.std.specs.Io.KnownBytes.{Consumes, ReadConsumes, WriteAppends}
 use Rattle.std.specs.IoError.{error_kind}
 use Rattle.std.specs.declared.io.Error.{Error}
@@ -16,10 +16,20 @@ HandsOver given (Ok n) (Err fault) = 2 ^ 63 ≤ given + n
 HandsOver given (Err e) (Ok count) = ⊥
 HandsOver given (Err e) (Err fault) = Unit {0}
 
+-- The reader was read once in this call; but not for a buffer that its own buffer can fill. So a
+-- failure is the reader's.
+abbrev pub ReadsOnce : (held : List ℕ) (calls : ℕ) → Result ℕ DeviceFault → (buf' : List ℕ)
+    (calls' : ℕ) → Type 0
+ReadsOnce held calls (Ok n) buf' calls' =
+    (calls' ≡ calls + 1) ⊎ ((calls' ≡ calls) × (n ≡ length buf') × StartsWith held buf')
+ReadsOnce held calls (Err fault) buf' calls' = calls' ≡ calls + 1
+
 -- One read of a reader into this buffer, and what the device makes of its answer. What std says of
 -- a read is known of it: so of a reader whose bytes are known no byte is lost.
-pub record IsOneRead (remaining : Option (List ℕ)) (given : ℕ) (result : Result ℕ DeviceFault)
-    (remaining' : Option (List ℕ)) (buf' : List ℕ) : Type 0 where
+pub record IsOneRead (held : List ℕ) (remaining : Option (List ℕ)) (given calls : ℕ)
+    (result : Result ℕ DeviceFault) (remaining' : Option (List ℕ)) (buf' : List ℕ)
+    (calls' : ℕ) : Type 0 where
+  pub once : ReadsOnce held calls result buf' calls'
   pub answer : Result ℕ Error
   pub bound : ReadsAtMost answer buf'
   pub bytes : ReadConsumes remaining remaining' answer buf'
@@ -48,9 +58,10 @@ cause_after cause (Ok n) (Err fault) = Some WriteZero
 cause_after cause (Err e) (Err fault) = Some (error_kind e)
 
 -- one write of these bytes to a writer, and what the device makes of its answer
-pub record IsOneWrite (contents : Option (List ℕ)) (cause : Option ErrorKind) (buf : List ℕ)
-    (result : Result ℕ DeviceFault) (contents' : Option (List ℕ))
-    (cause' : Option ErrorKind) : Type 0 where
+pub record IsOneWrite (contents : Option (List ℕ)) (cause : Option ErrorKind) (calls : ℕ)
+    (buf : List ℕ) (result : Result ℕ DeviceFault) (contents' : Option (List ℕ))
+    (cause' : Option ErrorKind) (calls' : ℕ) : Type 0 where
+  pub once : calls' ≡ calls + 1
   pub answer : Result ℕ Error
   pub bound : WritesAtMost answer buf
   pub bytes : WriteAppends contents contents' answer buf

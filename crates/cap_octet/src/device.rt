@@ -1,9 +1,10 @@
 //! Devices: what a contract sees of bytes that come and go.
 ghost use Rattle.std.specs.Prelude.{◌≡◌, ℕ, ◌+◌, ◌^◌, ◌<◌, ◌≤◌, Bool, IsTrue, List, length, IfOk};
-ghost use Rattle.std.specs.Prelude.{IfErr, false, if◌then◌else◌};
+ghost use Rattle.std.specs.Prelude.{IfErr, Option, Some, if◌then◌else◌};
 ghost use Rattle.std.specs.List.{flat_map};
 ghost use Rattle.std.specs.Io.{StartsWith};
-ghost use Rattle.cap_octet.specs.Device.{AppendsOrStops, Passes, Reads, Fills, Writes, WritesAll};
+ghost use Rattle.cap_octet.specs.Device.{AppendsOrStops, HasGiven, Passes, Reads, Fills, Writes};
+ghost use Rattle.cap_octet.specs.Device.{WritesAll};
 ghost use Rattle.cap_octet.specs.Device.{count_of, failures_of};
 
 /// The device failed in this call.
@@ -31,9 +32,9 @@ pub trait Input {
     /// How often it failed. Contracts alone see this, and it has no greatest value.
     ghost failures: { Self → ℕ };
 
-    /// Whether it never fails, whatever is read. No call changes that. Where a device doesn't give
-    /// this it may fail.
-    ghost never_fails: { Self → Bool } = { λ _. false };
+    /// How many bytes in all it gives at least before it fails; `None` where it never fails. No
+    /// call changes that. Where a device doesn't give this it may fail at once.
+    ghost sure: { Self → Option ℕ } = { λ _. Some 0 };
 
     /// Reads into the start of the buffer and returns how many bytes came. None for a buffer that
     /// isn't empty means the end. An error is a failure of the device in this call: it gave nothing
@@ -43,7 +44,7 @@ pub trait Input {
         ensures counted { given self.new ≡ given self.old + count_of result }
         ensures bounded { given self.new < 2 ^ 63 }
         ensures failed { failures self.new ≡ failures self.old + failures_of result }
-        ensures never { never_fails self.new ≡ never_fails self.old }
+        ensures sure { sure self.new ≡ sure self.old }
         ensures exact { IsTrue tells
             → Reads (unread self.old) buf.old result (unread self.new) buf.new };
 
@@ -61,16 +62,16 @@ pub trait Input {
         ensures counted { given self.new ≡ given self.old + (if result then count else 0) }
         ensures bounded { IsTrue result → given self.new < 2 ^ 63 }
         ensures failed { failures self.new ≡ failures self.old }
-        ensures never { never_fails self.new ≡ never_fails self.old }
+        ensures sure { sure self.new ≡ sure self.old }
         ensures exact { IsTrue tells
             → Passes (unread self.old) count result (unread self.new) }
     {
         false
     }
 
-    /// A device that never fails did not fail before. `Prim.search rules` proves it of one that may
-    /// fail.
-    ghost unfailed: { (s : Self) → IsTrue (never_fails s) → failures s ≡ 0 };
+    /// A device that failed had given as many bytes as it was sure to. `Prim.search rules` proves it
+    /// of one that may fail at once.
+    ghost unfailed: { (s : Self) → 0 < failures s → HasGiven (sure s) (given s) };
 }
 
 /// A device that takes bytes.
@@ -118,7 +119,7 @@ pub fn read_full<I: Input>(input: &mut I, buf: &mut [u8]) -> Result<usize, Devic
     ensures upper_bound { IfErr result (λ _. I.given input.new < I.given input.old
         + length buf.old) }
     ensures failed { I.failures input.new ≡ I.failures input.old + failures_of result }
-    ensures never { I.never_fails input.new ≡ I.never_fails input.old }
+    ensures sure { I.sure input.new ≡ I.sure input.old }
     ensures exact { IsTrue I.tells
         → Fills (I.unread input.old) buf.old (I.given input.old) result (I.unread input.new) buf.new
         (I.given input.new) }
@@ -148,7 +149,7 @@ fn read_in_turns<I: Input>(input: &mut I, buf: &mut [u8]) -> Result<usize, Devic
     ensures upper_bound { IfErr result (λ _. I.given input.new < I.given input.old
         + length buf.old) }
     ensures failed { I.failures input.new ≡ I.failures input.old + failures_of result }
-    ensures never { I.never_fails input.new ≡ I.never_fails input.old }
+    ensures sure { I.sure input.new ≡ I.sure input.old }
     ensures exact { IsTrue I.tells
         → Fills (I.unread input.old) buf.old (I.given input.old) result (I.unread input.new) buf.new
         (I.given input.new) }

@@ -4,11 +4,12 @@
 #![tactic(auto)]
 
 pub mod assigned;
+mod asked;
 mod calendar;
+mod count;
 pub mod date;
 mod device;
 pub mod digits;
-mod failures;
 mod fault;
 mod format;
 pub mod laws;

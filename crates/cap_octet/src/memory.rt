@@ -1,12 +1,13 @@
 //! Devices over memory, which tell their bytes.
 ghost use Rattle.std.specs.Prelude.{◌≡◌, ℕ, ◌+◌, ◌≤◌, ◌<◌, ◌^◌, IsTrue, List, [], length, take};
 ghost use Rattle.std.specs.Prelude.{if◌then◌else◌};
-ghost use Rattle.std.specs.Prelude.{drop, true, IfOk, OnErr, IsOk, refl};
+ghost use Rattle.std.specs.Prelude.{drop, true, IfOk, None, OnErr, Option, IsOk};
+ghost use Rattle.std.proofs.Common.{rules};
 ghost use Rattle.std.specs.Io.{StartsWith};
 ghost use Rattle.cap_octet.specs.Device.{Passes, Reads, Writes, count_of, failures_of};
 
 use crate::device::{DeviceFault, Input, Output};
-use crate::failures::FailureCount;
+use crate::count::ContractCount;
 
 /// Gives the bytes of a slice, and never fails.
 #[derive(Drop)]
@@ -45,7 +46,7 @@ impl Input for MemInput<'_> {
 
     ghost failures = { λ _. 0 };
 
-    ghost never_fails = { λ _. true };
+    ghost sure = { λ _. None };
 
     /// Never fails.
     fn read(&mut self, buf: &mut [u8]) -> Result<usize, DeviceFault>
@@ -53,7 +54,7 @@ impl Input for MemInput<'_> {
         ensures counted { self.new.given ≡ self.old.given + count_of result }
         ensures bounded { self.new.given < 2 ^ 63 }
         ensures failed { 0 ≡ 0 + failures_of result }
-        ensures never { true ≡ true }
+        ensures sure { ◌≡◌ {A = Option ℕ} None None }
         ensures exact { IsTrue true
             → Reads self.old.rest.now buf.old result self.new.rest.now buf.new }
         ensures never_fails { IsOk result }
@@ -79,7 +80,7 @@ impl Input for MemInput<'_> {
         ensures counted { self.new.given ≡ self.old.given + (if result then count else 0) }
         ensures bounded { IsTrue result → self.new.given < 2 ^ 63 }
         ensures failed { ◌≡◌ {A = ℕ} 0 0 }
-        ensures never { true ≡ true }
+        ensures sure { ◌≡◌ {A = Option ℕ} None None }
         ensures exact { IsTrue true → Passes self.old.rest.now count result self.new.rest.now }
         ensures passes { count ≤ length self.old.rest.now → result ≡ true }
     {
@@ -91,7 +92,7 @@ impl Input for MemInput<'_> {
         true
     }
 
-    ghost unfailed = { λ _ _. refl };
+    ghost unfailed = { Prim.search rules };
 }
 
 /// Writes into a slice that it was lent, and fails only where that is full.
@@ -99,7 +100,7 @@ impl Input for MemInput<'_> {
 pub struct MemOutput<'a> {
     bytes: &'a mut [u8],
     len: usize,
-    failures: FailureCount,
+    failures: ContractCount,
     ghost inside: { len ≤ length bytes.now },
     ghost filled: { 0 < failures.count → length bytes.now ≤ length (take len bytes.now) },
 }
@@ -114,7 +115,7 @@ impl<'a> MemOutput<'a> {
         MemOutput {
             bytes,
             len: 0,
-            failures: FailureCount::new(),
+            failures: ContractCount::new(),
         }
     }
 

@@ -1,5 +1,5 @@
 //! Devices over std's buffered readers and writers.
-ghost use Rattle.std.specs.Prelude.{◌≡◌, ℕ, ◌+◌, ◌≤◌, ◌<◌, ◌^◌, ◌||◌, IsTrue, IfOk, None, false};
+ghost use Rattle.std.specs.Prelude.{◌≡◌, ℕ, ◌+◌, ◌≤◌, ◌<◌, ◌^◌, ◌||◌, IsTrue, IfOk, None, Option, Some, false};
 ghost use Rattle.std.specs.Prelude.{[]};
 ghost use Rattle.std.specs.Prelude.{if◌then◌else◌, is_err, is_some, length};
 ghost use Rattle.std.proofs.Common.{rules};
@@ -9,8 +9,9 @@ ghost use Rattle.cap_octet.specs.Device.{Passes, Reads, Writes, count_of, failur
 ghost use Rattle.cap_octet.specs.Stream.{HandsOver, IsOneRead, IsOneWrite, IsPassed, TakesOver};
 
 use crate::device::{DeviceFault, Input, Output};
-use crate::failures::FailureCount;
-use std::io::{BufRead, BufReader, BufWriter, ErrorKind, Read, Write};
+use crate::asked::{AskedReader, AskedWriter};
+use crate::count::ContractCount;
+use std::io::{BufReader, BufWriter, ErrorKind, Read, Write};
 
 /// Fewer bytes than this are read from one input.
 const MOST_GIVEN: u64 = 0x8000_0000_0000_0000;
@@ -19,23 +20,24 @@ const MOST_GIVEN: u64 = 0x8000_0000_0000_0000;
 /// failure.
 #[derive(Drop)]
 pub struct StdInput<R> {
-    reader: BufReader<R>,
+    reader: AskedReader<R>,
     given: u64,
-    failures: FailureCount,
+    failures: ContractCount,
     ghost bounded: { given < 2 ^ 63 },
 }
 
 impl<R: Read> StdInput<R> {
     /// An input that has given nothing yet.
     pub fn new(reader: BufReader<R>) -> Self
-        ensures reader { result.reader ≡ reader }
+        ensures reader { result.reader.reader ≡ reader }
+        ensures calls { result.reader.calls.count ≡ 0 }
         ensures given { ⟦<StdInput<R> as Input>⟧.given result ≡ 0 }
         ensures failures { ⟦<StdInput<R> as Input>⟧.failures result ≡ 0 }
     {
         StdInput {
-            reader,
+            reader: AskedReader::new(reader),
             given: 0,
-            failures: FailureCount::new(),
+            failures: ContractCount::new(),
         }
     }
 
@@ -47,8 +49,11 @@ impl<R: Read> StdInput<R> {
         ensures counted { self.new.given ≡ self.old.given + count_of result }
         ensures bounded { self.new.given < 2 ^ 63 }
         ensures failed { self.new.failures.count ≡ self.old.failures.count + failures_of result }
-        ensures passes { IsOneRead (reader_remaining R.remaining self.old.reader) self.old.given
-            result (reader_remaining R.remaining self.new.reader) buf.new }
+        ensures passes { IsOneRead (reader_buffer self.old.reader.reader)
+            (reader_remaining R.remaining self.old.reader.reader) self.old.given
+            self.old.reader.calls.count result
+            (reader_remaining R.remaining self.new.reader.reader) buf.new
+            self.new.reader.calls.count }
     {
         match self.reader.read(buf) {
             Ok(count) if (count as u64) < MOST_GIVEN - self.given => {
@@ -81,10 +86,13 @@ impl<R: Read> Input for StdInput<R> {
         ensures counted { self.new.given ≡ self.old.given + count_of result }
         ensures bounded { self.new.given < 2 ^ 63 }
         ensures failed { self.new.failures.count ≡ self.old.failures.count + failures_of result }
-        ensures never { false ≡ false }
+        ensures sure { ◌≡◌ {A = Option ℕ} (Some 0) (Some 0) }
         ensures exact { IsTrue false → Reads [] buf.old result [] buf.new }
-        ensures passes { IsOneRead (reader_remaining R.remaining self.old.reader) self.old.given
-            result (reader_remaining R.remaining self.new.reader) buf.new }
+        ensures passes { IsOneRead (reader_buffer self.old.reader.reader)
+            (reader_remaining R.remaining self.old.reader.reader) self.old.given
+            self.old.reader.calls.count result
+            (reader_remaining R.remaining self.new.reader.reader) buf.new
+            self.new.reader.calls.count }
     {
         let room = buf.len();
         let given = self.given + room as u64;
@@ -106,7 +114,7 @@ impl<R: Read> Input for StdInput<R> {
     #[inline(always)]
     fn at_hand(&self) -> &[u8]
         ensures exact { IsTrue false → StartsWith [] result.now }
-        ensures shows { result.now ≡ reader_buffer self.now.reader }
+        ensures shows { result.now ≡ reader_buffer self.now.reader.reader }
     {
         self.reader.buffer()
     }
@@ -117,11 +125,12 @@ impl<R: Read> Input for StdInput<R> {
         ensures counted { self.new.given ≡ self.old.given + (if result then count else 0) }
         ensures bounded { IsTrue result → self.new.given < 2 ^ 63 }
         ensures failed { self.new.failures.count ≡ self.old.failures.count }
-        ensures never { false ≡ false }
+        ensures sure { ◌≡◌ {A = Option ℕ} (Some 0) (Some 0) }
         ensures exact { IsTrue false → Passes [] count result [] }
-        ensures passes { IsPassed (reader_buffer self.old.reader)
-            (reader_remaining R.remaining self.old.reader) count result
-            (reader_remaining R.remaining self.new.reader) }
+        ensures passes { IsPassed (reader_buffer self.old.reader.reader)
+            (reader_remaining R.remaining self.old.reader.reader) count result
+            (reader_remaining R.remaining self.new.reader.reader) }
+        ensures calls { self.new.reader.calls.count ≡ self.old.reader.calls.count }
     {
         if count > self.reader.buffer().len() || self.given + count as u64 >= MOST_GIVEN {
             return false;
@@ -138,29 +147,30 @@ impl<R: Read> Input for StdInput<R> {
 /// failure.
 #[derive(Drop)]
 pub struct StdOutput<W: Write + Drop> {
-    writer: BufWriter<W>,
+    writer: AskedWriter<W>,
     /// Why it failed last.
     cause: Option<ErrorKind>,
-    failures: FailureCount,
+    failures: ContractCount,
 }
 
 impl<W: Write + Drop> StdOutput<W> {
     /// An output to which nothing was written yet.
     pub fn new(writer: BufWriter<W>) -> Self
-        ensures writer { result.writer ≡ writer }
+        ensures writer { result.writer.writer ≡ writer }
+        ensures calls { result.writer.calls.count ≡ 0 }
         ensures cause { result.cause ≡ None }
         ensures failures { ⟦<StdOutput<W> as Output>⟧.failures result ≡ 0 }
     {
         StdOutput {
-            writer,
+            writer: AskedWriter::new(writer),
             cause: None,
-            failures: FailureCount::new(),
+            failures: ContractCount::new(),
         }
     }
 
     /// The writer, as to flush it, and why it failed last.
     pub fn into_inner(self) -> (BufWriter<W>, Option<ErrorKind>)
-        ensures writer { result.0 ≡ self.writer }
+        ensures writer { result.0 ≡ self.writer.writer }
         ensures cause { result.1 ≡ self.cause }
     {
         let StdOutput {
@@ -168,7 +178,7 @@ impl<W: Write + Drop> StdOutput<W> {
             cause,
             failures: _,
         } = self;
-        (writer, cause)
+        (writer.into_inner(), cause)
     }
 
     /// One write of the writer with these bytes, whose answer it hands over.
@@ -177,8 +187,10 @@ impl<W: Write + Drop> StdOutput<W> {
         ensures within { IfOk result (λ n. n ≤ length buf.now) }
         ensures some { IfOk result (λ n. 0 < length buf.now → 0 < n) }
         ensures failed { self.new.failures.count ≡ self.old.failures.count + failures_of result }
-        ensures passes { IsOneWrite (writer_contents W.contents self.old.writer) self.old.cause
-            buf.now result (writer_contents W.contents self.new.writer) self.new.cause }
+        ensures passes { IsOneWrite (writer_contents W.contents self.old.writer.writer)
+            self.old.cause self.old.writer.calls.count buf.now result
+            (writer_contents W.contents self.new.writer.writer) self.new.cause
+            self.new.writer.calls.count }
     {
         let cause = match self.writer.write(buf) {
             Ok(count) if 0 < count || buf.is_empty() => return Ok(count),
@@ -197,8 +209,10 @@ impl<W: Write + Drop> StdOutput<W> {
         ensures within { IfOk result (λ n. n ≤ length buf.now) }
         ensures some { IfOk result (λ n. 0 < length buf.now → 0 < n) }
         ensures failed { self.new.failures.count ≡ self.old.failures.count + failures_of result }
-        ensures passes { IsOneWrite (writer_contents W.contents self.old.writer) self.old.cause
-            buf.now result (writer_contents W.contents self.new.writer) self.new.cause }
+        ensures passes { IsOneWrite (writer_contents W.contents self.old.writer.writer)
+            self.old.cause self.old.writer.calls.count buf.now result
+            (writer_contents W.contents self.new.writer.writer) self.new.cause
+            self.new.writer.calls.count }
     {
         self.write_once(buf)
     }
@@ -221,10 +235,12 @@ impl<W: Write + Drop> Output for StdOutput<W> {
         ensures failed { self.new.failures.count ≡ self.old.failures.count + failures_of result }
         ensures room { ◌≡◌ {A = ℕ} 0 0 }
         ensures exact { IsTrue false → Writes [] buf.now result [] }
-        ensures passes { IsOneWrite (writer_contents W.contents self.old.writer) self.old.cause
-            buf.now result (writer_contents W.contents self.new.writer) self.new.cause }
+        ensures passes { IsOneWrite (writer_contents W.contents self.old.writer.writer)
+            self.old.cause self.old.writer.calls.count buf.now result
+            (writer_contents W.contents self.new.writer.writer) self.new.cause
+            self.new.writer.calls.count }
     {
-        if buf.len() < self.writer.capacity() - self.writer.buffer().len() {
+        if self.writer.has_room(buf.len()) {
             return self.write_once(buf);
         }
         // Taken apart as in a read.

@@ -1,11 +1,15 @@
 //! Devices over memory that move a few bytes a call, fail where they are told to, and count what
 //! was asked.
 ghost use Rattle.std.specs.Prelude.{◌≡◌, ℕ, ◌+◌, ◌-◌, ◌≤◌, ◌<◌, ◌^◌, IsTrue, List, [], length};
-ghost use Rattle.std.specs.Prelude.{Some, None, true, IfOk, IsErr, OnErr, OnOk, min, not, is_some};
-ghost use Rattle.cap_octet.specs.Device.{Reads, Writes, count_of, failures_of};
+ghost use Rattle.std.proofs.Common.{rules};
+ghost use Rattle.std.specs.Prelude.{Some, None, true, IfOk, IsErr, OnErr, OnOk, min, is_some};
+ghost use Rattle.std.specs.Prelude.{if◌then◌else◌, take};
+ghost use Rattle.std.specs.Option.{option_map};
+ghost use Rattle.std.specs.Io.{StartsWith};
+ghost use Rattle.cap_octet.specs.Device.{Passes, Reads, Writes, count_of, failures_of};
 
 use crate::device::{DeviceFault, Input, Output};
-use crate::failures::FailureCount;
+use crate::count::ContractCount;
 use crate::memory::{MemInput, MemOutput};
 
 /// Gives the bytes of a slice, at most `piece` a read, and fails at its read number `at`, counted
@@ -16,9 +20,9 @@ pub struct TrialInput<'a> {
     piece: usize,
     at: Option<u64>,
     reads: u64,
-    failures: FailureCount,
+    failures: ContractCount,
     ghost moves: { 0 < piece },
-    ghost unfailed: { IsTrue (not (is_some at)) → failures.count ≡ 0 },
+    ghost unfailed: { 0 < failures.count → is_some at ≡ true },
 }
 
 impl<'a> TrialInput<'a> {
@@ -35,7 +39,7 @@ impl<'a> TrialInput<'a> {
             piece,
             at,
             reads: 0,
-            failures: FailureCount::new(),
+            failures: ContractCount::new(),
         }
     }
 
@@ -63,8 +67,8 @@ impl Input for TrialInput<'_> {
 
     ghost failures = { λ s. s.failures.count };
 
-    /// Where no read is to fail.
-    ghost never_fails = { λ s. not (is_some s.at) };
+    /// It may fail at its first read, or never.
+    ghost sure = { λ s. option_map {U = ℕ} (λ _. 0) s.at };
 
     /// Fails at its read number `at`, and there alone.
     fn read(&mut self, buf: &mut [u8]) -> Result<usize, DeviceFault>
@@ -73,7 +77,7 @@ impl Input for TrialInput<'_> {
             ≡ ⟦<MemInput<'static> as Input>⟧.given self.old.inner + count_of result }
         ensures bounded { ⟦<MemInput<'static> as Input>⟧.given self.new.inner < 2 ^ 63 }
         ensures failed { self.new.failures.count ≡ self.old.failures.count + failures_of result }
-        ensures never { not (is_some self.new.at) ≡ not (is_some self.old.at) }
+        ensures sure { option_map {U = ℕ} (λ _. 0) self.new.at ≡ option_map {U = ℕ} (λ _. 0) self.old.at }
         ensures exact { IsTrue true
             → Reads (⟦<MemInput<'static> as Input>⟧.unread self.old.inner) buf.old result
             (⟦<MemInput<'static> as Input>⟧.unread self.new.inner) buf.new }
@@ -92,7 +96,45 @@ impl Input for TrialInput<'_> {
         self.inner.read(&mut buf[..most])
     }
 
-    ghost unfailed = { λ s never. s.unfailed never };
+    /// What one read gives; nothing where a read is to fail, so that it is met.
+    fn at_hand(&self) -> &[u8]
+        ensures exact { IsTrue true
+            → StartsWith (⟦<MemInput<'static> as Input>⟧.unread self.now.inner) result.now }
+        ensures all { self.now.at ≡ None
+            → result.now ≡ take self.now.piece (⟦<MemInput<'static> as Input>⟧.unread self.now.inner) }
+    {
+        if self.at.is_some() {
+            return &[];
+        }
+        let hand = self.inner.at_hand();
+        &hand[..hand.len().min(self.piece)]
+    }
+
+    /// Takes them where one read gives as many, and none is to fail.
+    fn pass(&mut self, count: usize) -> bool
+        ensures counted { ⟦<MemInput<'static> as Input>⟧.given self.new.inner
+            ≡ ⟦<MemInput<'static> as Input>⟧.given self.old.inner
+            + (if result then count else 0) }
+        ensures bounded { IsTrue result
+            → ⟦<MemInput<'static> as Input>⟧.given self.new.inner < 2 ^ 63 }
+        ensures failed { self.new.failures.count ≡ self.old.failures.count }
+        ensures sure { option_map {U = ℕ} (λ _. 0) self.new.at ≡ option_map {U = ℕ} (λ _. 0) self.old.at }
+        ensures exact { IsTrue true
+            → Passes (⟦<MemInput<'static> as Input>⟧.unread self.old.inner) count result
+            (⟦<MemInput<'static> as Input>⟧.unread self.new.inner) }
+        ensures passes { self.old.at ≡ None → count ≤ self.old.piece
+            → count ≤ length (⟦<MemInput<'static> as Input>⟧.unread self.old.inner)
+            → result ≡ true }
+        ensures settings { (self.new.piece ≡ self.old.piece) × (self.new.at ≡ self.old.at)
+            × (self.new.reads ≡ self.old.reads) }
+    {
+        if self.at.is_some() || count > self.piece {
+            return false;
+        }
+        self.inner.pass(count)
+    }
+
+    ghost unfailed = { Prim.search rules };
 }
 
 /// Writes into a slice that it was lent, at most `piece` bytes a write, and fails only where that

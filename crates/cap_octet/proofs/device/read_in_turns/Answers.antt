@@ -8,7 +8,7 @@ loop-count-preserved g c = record {
   counted = search rules;
   bounded = search rules;
   failed = search rules;
-  never = c.in_ok-n.ensures.never ∙ c.loop-count.invariant.never;
+  sure = c.in_ok-n.ensures.sure ∙ c.loop-count.invariant.sure;
   exact = λ exact. Takes-again _ _ _ _ c.loop-count.count _ c.in_ok-n.n _ _ (c.loop-count.invariant.exact exact) (c.in_ok-n.ensures.exact exact) (omega arith) (omega arith);
 }
 

@@ -1,0 +1,105 @@
+//! std's buffered readers and writers, with a count of the calls that are made of them. The lines of
+//! `read` and `write` are all that is to be believed of it: they alone count, and each makes its
+//! call.
+ghost use Rattle.std.specs.Prelude.{◌≡◌, ◌+◌, Some, length};
+ghost use Rattle.std.specs.Io.{ReadsAtMost, WritesAtMost};
+ghost use Rattle.std.specs.Io.Buffered.{reader_buffer, reader_remaining};
+ghost use Rattle.std.specs.Io.Buffered.{writer_contents};
+ghost use Rattle.std.specs.Io.BufRead.{DropsConsumable};
+ghost use Rattle.std.specs.Io.KnownBytes.{ReadConsumes, WriteAppends};
+
+use crate::count::ContractCount;
+use std::io::{BufRead, BufReader, BufWriter, Read, Result, Write};
+
+/// A reader, and how often it was read.
+#[derive(Drop)]
+pub(crate) struct AskedReader<R> {
+    reader: BufReader<R>,
+    calls: ContractCount,
+}
+
+impl<R: Read> AskedReader<R> {
+    pub(crate) fn new(reader: BufReader<R>) -> Self
+        ensures reader { result.reader ≡ reader }
+        ensures calls { result.calls.count ≡ 0 }
+    {
+        AskedReader {
+            reader,
+            calls: ContractCount::new(),
+        }
+    }
+
+    /// One read of the reader.
+    #[inline(always)]
+    pub(crate) fn read(&mut self, buf: &mut [u8]) -> Result<usize>
+        ensures at_most { ReadsAtMost result buf.new }
+        ensures bytes { ReadConsumes (reader_remaining R.remaining self.old.reader)
+            (reader_remaining R.remaining self.new.reader) result buf.new }
+        ensures asked { self.new.calls.count ≡ self.old.calls.count + 1 }
+    {
+        self.calls.add_one();
+        self.reader.read(buf)
+    }
+
+    /// What its buffer holds.
+    #[inline(always)]
+    pub(crate) fn buffer(&self) -> &[u8]
+        ensures { result.now ≡ reader_buffer self.now.reader }
+    {
+        self.reader.buffer()
+    }
+
+    /// Takes so many bytes of what its buffer holds, without a read.
+    #[inline(always)]
+    pub(crate) fn consume(&mut self, count: usize)
+        ensures bytes { DropsConsumable (reader_remaining R.remaining self.old.reader)
+            (reader_remaining R.remaining self.new.reader)
+            (Some (length (reader_buffer self.old.reader))) count }
+        ensures calls { self.new.calls.count ≡ self.old.calls.count }
+    {
+        self.reader.consume(count);
+    }
+}
+
+/// A writer, and how often it was written to.
+#[derive(Drop)]
+pub(crate) struct AskedWriter<W: Write + Drop> {
+    writer: BufWriter<W>,
+    calls: ContractCount,
+}
+
+impl<W: Write + Drop> AskedWriter<W> {
+    pub(crate) fn new(writer: BufWriter<W>) -> Self
+        ensures writer { result.writer ≡ writer }
+        ensures calls { result.calls.count ≡ 0 }
+    {
+        AskedWriter {
+            writer,
+            calls: ContractCount::new(),
+        }
+    }
+
+    pub(crate) fn into_inner(self) -> BufWriter<W>
+        ensures { result ≡ self.writer }
+    {
+        self.writer
+    }
+
+    /// One write to the writer.
+    #[inline(always)]
+    pub(crate) fn write(&mut self, buf: &[u8]) -> Result<usize>
+        ensures at_most { WritesAtMost result buf.now }
+        ensures bytes { WriteAppends (writer_contents W.contents self.old.writer)
+            (writer_contents W.contents self.new.writer) result buf.now }
+        ensures asked { self.new.calls.count ≡ self.old.calls.count + 1 }
+    {
+        self.calls.add_one();
+        self.writer.write(buf)
+    }
+
+    /// Whether its buffer has room for so many bytes and one more.
+    #[inline(always)]
+    pub(crate) fn has_room(&self, count: usize) -> bool {
+        count < self.writer.capacity() - self.writer.buffer().len()
+    }
+}
