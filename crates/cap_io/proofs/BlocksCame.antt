@@ -1,5 +1,5 @@
 -- What came of a block, from read to read.
-use Rattle.std.proofs.Common.{◌≡◌, ℕ, ◌+◌, ◌<◌, ◌≤◌, ◌⊎◌, inl, inr, List, [], ◌∷◌, ◌++◌, length, take, drop, Option, Some, None, Result, Ok, Err, refl, sym, ap, ap₂, ◌∙◌, subst, arith}
+use Rattle.std.proofs.Common.{◌≡◌, ℕ, true, ◌+◌, ◌<◌, ◌≤◌, ◌⊎◌, inl, inr, List, [], ◌∷◌, ◌++◌, length, take, drop, Option, Some, None, Result, Ok, Err, refl, sym, ap, ap₂, ◌∙◌, subst, arith}
 use Rattle.std.specs.Option.{option_to_list}
 use Rattle.std.proofs.lemmas.List.{append_assoc, length-append, length-take-le, drop_at, drop-drop, take-append-drop}
 use Rattle.cap_octet.specs.Checks.{checked, first_failing}
@@ -14,10 +14,10 @@ use Rattle.cap_pcapng.specs.Interface.{Described}
 use Rattle.cap_pcapng.specs.Unit.{IsBlock, Section, block_size, checks_among, frame_behind, interfaces_before, order_before, packet_by, packets_in, parts_behind, section_after, section_by, unit_fault}
 use Rattle.cap_pcapng.proofs.Units.{passes, frame_checks-append, frame_in-append, unit_fault-frame, unit_fault-short, unit_fault-block, unit_fault-among, parts_in-append, block_checks-append}
 use Rattle.cap_pcapng.specs.declared.frames.Frame.{Frame}
-use Rattle.cap_io.specs.Blocks.{Enters, IsEntryFault, PacketIfAny, held_packet, section_of}
-use Rattle.cap_io.specs.Reading.{RestMissing, span_bytes, most_in_unit, length_by_front, decisive_block_length}
+use Rattle.cap_io.specs.Blocks.{AddsInterface, Enters, IsEntryFault, PacketIfAny, held_packet, section_of}
+use Rattle.cap_io.specs.Reading.{RestMissing, span_bytes, most_in_unit, length_by_front, block_length, decisive_block_length, is_interface}
 use Rattle.cap_io.specs.declared.file_state.PacketSpans.{PacketSpans}
-use Rattle.cap_io.proofs.OwnFaults.{entry-not_failed, frame-not_failed}
+use Rattle.cap_io.proofs.OwnFaults.{entry-not_failed, frame-not_failed, frame-not_memory}
 
 -- ---- what came
 
@@ -111,6 +111,19 @@ pub no_room_for_block : (before : Option Section) (front unread : List ℕ) → 
 no_room_for_block before front unread upper_bound =
     block_missing before front unread unread NoMemory 0 upper_bound (inr (inr refl)) (λ none. omega (arith, (passes before (front ++ unread) none).least)) (λ failed. (cc)) (omega arith) (omega arith) refl
 
+-- a block whose first bytes pass takes memory where there is less room
+pub block-exceeds : (before : Option Section) (section : Option Order) (front unread : List ℕ) (frame : Frame) (room : ℕ) → order_before before ≡ section → length front ≡ 12
+    → FrontSays section front frame → room < frame.length → room < block_length before (front ++ unread)
+block-exceeds before section front unread frame room is upper_bound said less =
+    let both = says_behind before section front unread frame is (omega arith) said in
+    let size : block_size before (front ++ unread) ≡ frame.length = ap (λ (f : Frame). f.length) both.1 in
+    let long : block_length before (front ++ unread) ≡ block_size before (front ++ unread) = ap (λ (f : Option Fault). length_by_front f 0 (block_size before (front ++ unread))) both.0 in
+    omega (arith, less, size, long)
+
+pub frame-has_memory : (section : Option Order) (front : List ℕ) (answer : Result Frame Fault) (fault : Fault) → answer ≡ checked (frame_fault section front) (frame_in section front) → answer ≡ Err fault
+    → fault ≡ NoMemory → ⊥
+frame-has_memory section front answer fault is err = frame-not_memory section front fault (checked_err (frame_fault section front) (frame_in section front) fault (sym is ∙ err))
+
 pub rest_of_block : (before : Option Section) (section : Option Order) (front unread unread' : List ℕ) (frame : Frame) (fault : Fault) → order_before before ≡ section → length front ≡ 12
     → FrontSays section front frame → frame.length ≤ most_block → RestMissing (length front) frame.length unread unread' fault
     → BlockMissing before (front ++ unread) unread' fault
@@ -175,7 +188,7 @@ entry_refused before section interfaces text unread' block buffer frame fault is
         | inr more ↦ elim more [
           | inl among ↦ inl (unit_fault-among before (block ++ unread') (omega arith) f.framed (omega arith) (blocked ∙ among.0)
               ∙ ap₂ (λ (i : List Described) (p : Parts). first_failing (checks_among i p)) same parts ∙ among.1)
-          | inr memory ↦ inr (inr memory)
+          | inr memory ↦ inr (inr memory.0)
         ]
       ];
       count = frame.length;
@@ -184,6 +197,31 @@ entry_refused before section interfaces text unread' block buffer frame fault is
       unfinished = λ failed. absurd (entry-not_failed frame interfaces block fault entry failed);
       there = omega (arith, long, size);
       rest = sym (drop_at block unread' frame.length size);
+    })
+
+-- what holds of a block that has an interface holds of the text that begins with it
+pub record Describes (before : Option Section) (text : List ℕ) : Type 0 where
+  pub passes : unit_fault before text ≡ None
+  pub is : is_interface (parts_behind before text) ≡ true
+
+pub adds-describes : (before : Option Section) (section : Option Order) (interfaces : List Described) (text unread' block buffer : List ℕ) (frame : Frame)
+    → order_before before ≡ section → interfaces_before before ≡ interfaces → 12 ≤ frame.length → frame.length ≤ length buffer
+    → WholeCame section text buffer frame unread' → block ≡ take frame.length buffer → AddsInterface frame interfaces block → Describes before text
+adds-describes before section interfaces text unread' block buffer frame is same least room came block_is adds =
+    let size : length block ≡ frame.length = ap length block_is ∙ length-take-le frame.length buffer room in
+    let splits : text ≡ block ++ unread' = came.splits ∙ ap (λ (l : List ℕ). l ++ unread') (sym block_is) in
+    let f = framed_block before section block unread' frame is (omega arith) (ap (frame_fault section) block_is ∙ came.passes) (ap (frame_in section) block_is ∙ came.says) in
+    let whole : block_size before (block ++ unread') ≡ frame.length = ap (λ (g : Frame). g.length) f.behind in
+    let long : length (block ++ unread') ≡ length block + length unread' = length-append block unread' in
+    let blocked : first_failing (block_checks (frame_behind before (block ++ unread')) (block ++ unread')) ≡ first_failing (block_checks frame block) =
+    ap (λ (g : Frame). first_failing (block_checks g (block ++ unread'))) f.behind ∙ ap first_failing (block_checks-append frame block unread' least (omega arith)) in
+    let parts : parts_behind before (block ++ unread') ≡ parts_in frame block =
+    ap (λ (g : Frame). parts_in g (block ++ unread')) f.behind ∙ parts_in-append frame block unread' least (omega arith) in
+    let P : List ℕ → Type 0 = λ t. Describes before t in
+    subst P (sym splits) (record {
+      passes = unit_fault-among before (block ++ unread') (omega arith) f.framed (omega arith) (blocked ∙ adds.passes)
+          ∙ ap₂ (λ (i : List Described) (p : Parts). first_failing (checks_among i p)) same parts ∙ adds.among;
+      is = ap is_interface parts ∙ adds.describes;
     })
 
 -- ---- a block that found it

@@ -16,9 +16,9 @@ use Rattle.cap_pcap.proofs.Records.{field_checks-append, record_header_in-append
 use Rattle.cap_pcapng.specs.Frame.{is_section}
 use Rattle.cap_pcapng.proofs.Units as block
 use Rattle.cap_io.specs.Capture.{Declared, Nothing, PcapFile, Front, a_pcap_record, front_of, is_pcapng}
-use Rattle.cap_io.specs.Reading.{most_in_unit, most_taken, length_by_front, decisive_length, IsTaken, NoUnitCame, RestMissing, HeaderCame, PacketCame}
+use Rattle.cap_io.specs.Reading.{most_in_unit, most_taken, length_by_front, decisive_length, IsTaken, NoUnitCame, RestMissing, HeaderCame, PacketCame, TakesMemory, unit_length}
 use Rattle.cap_io.proofs.Fronts.{front_of-no_header, front_of-no_record, front_of-pcapng, is_section-append, is_pcapng-append, most_taken-block, most_taken-header, most_taken-record, most_taken-front, decisive_length-header}
-use Rattle.cap_io.proofs.OwnFaults.{fields-not_failed, header-not_failed}
+use Rattle.cap_io.proofs.OwnFaults.{fields-not_failed, fields-not_memory, header-not_failed, header-not_memory}
 
 -- bytes that came, and some more behind them
 pub Taken-behind : (declared : Declared) (unread unread1 unread2 front : List ℕ) (fault : Fault) (count : ℕ) → unread ≡ front ++ unread1 → count ≤ length unread1 → unread2 ≡ drop count unread1
@@ -154,6 +154,30 @@ fields_refused head unread unread1 front answer fault splits size is err =
       taken = Taken-behind (PcapFile head) unread unread1 unread1 front fault 0 splits (omega arith) refl (most_taken-front head unread (length front + 0) (omega arith))
           (λ failed. absurd (fields-not_failed head front fault fails failed));
     }
+
+pub error_is : {X : Type 0} {fault other : Fault} → (let r : Result X Fault = Err fault in r ≡ Err other) → fault ≡ other
+error_is e = (cc)
+
+-- a check of a record's header tells no want of memory
+pub fields-has_memory : (head : Head) (front : List ℕ) (answer : Result RecordHead Fault) (fault : Fault) → answer ≡ checked (first_failing (field_checks head front)) (record_header_in head front) → answer ≡ Err fault
+    → fault ≡ NoMemory → ⊥
+fields-has_memory head front answer fault is err =
+    fields-not_memory head front fault (checked_err (first_failing (field_checks head front)) (record_header_in head front) fault (sym is ∙ err))
+
+-- nor does one of a file header
+pub header-has_memory : (bytes : List ℕ) (answer : Result Head Fault) → answer ≡ checked (header_fault bytes) (header_in bytes) → IfErr answer (λ fault. fault ≡ NoMemory → ⊥)
+header-has_memory bytes (Ok head) is = tt
+header-has_memory bytes (Err fault) is = header-not_memory bytes fault (checked_err (header_fault bytes) (header_in bytes) fault (sym is))
+
+-- a record whose header passes takes memory where the block has less room
+pub record-takes : (head : Head) (unread unread1 front : List ℕ) (found : RecordHead) (size room : ℕ) → size ≡ 16 + found.captured → unread ≡ front ++ unread1 → length front ≡ 16 → FieldsCame head front found
+    → room < size → TakesMemory room (PcapFile head) unread
+record-takes head unread unread1 front found size room is splits upper_bound fields less =
+    let said : found.captured ≡ captured_len head front = ap (λ (h : RecordHead). h.captured) fields.says in
+    let captured : captured_len head unread ≡ captured_len head front = ap (captured_len head) splits ∙ captured_len-append head front unread1 (omega arith) in
+    let none : first_failing (field_checks head unread) ≡ None = ap (λ (t : List ℕ). first_failing (field_checks head t)) splits ∙ ap first_failing (field_checks-append head front unread1 (omega arith)) ∙ fields.none in
+    let long : unit_length (PcapFile head) unread ≡ record_size head unread = ap (λ (f : Option Fault). length_by_front f 0 (record_size head unread)) none in
+    inl (omega (arith, less, is, long, said, captured))
 
 pub no_room : (head : Head) (unread unread1 front : List ℕ) → unread ≡ front ++ unread1 → length front ≡ 16 → NoUnitCame (PcapFile head) unread unread1 NoMemory
 no_room head unread unread1 front splits size = record {

@@ -28,10 +28,10 @@ use Rattle.cap_io.specs.declared.file_state.FileState.{FileState}
 use Rattle.cap_io.specs.declared.file_state.FileState.TheVariants as state
 use Rattle.cap_io.specs.Blocks.{Enters, KnowsIfAny, held_packet, section_of}
 use Rattle.cap_io.specs.Capture.{Declared, Nothing, PcapFile, PcapngFile, Front, IsUnit, a_pcap_header, a_first_block, a_block, file_after, first_link_after, front_of, front_of_block, is_pcapng}
-use Rattle.cap_io.specs.Reading.{BeginsBlock, FrontMissing, HasInterface, HeaderCame, IsSized, IsConsistent, PacketCame, ReadsUnit, NoUnitCame, RestMissing, UnitCame, UnitPassed, declared_by, read_failures, known_first_link, known_order, span_bytes, most_taken, packet_in_unit, decisive_length, decisive_block_length, section_before, unit_size}
-use Rattle.cap_io.proofs.BlocksCame.{BlockCame, BlockMissing}
+use Rattle.cap_io.specs.Reading.{BeginsBlock, FrontMissing, HasInterface, HeaderCame, IsSized, IsConsistent, PacketCame, ReadsUnit, NoUnitCame, RestMissing, TakesMemory, UnitCame, UnitPassed, declared_by, read_failures, known_first_link, known_order, span_bytes, most_taken, packet_in_unit, decisive_length, block_length, decisive_block_length, is_interface, section_before, unit_size}
+use Rattle.cap_io.proofs.BlocksCame.{BlockCame, BlockMissing, Describes}
 use Rattle.cap_io.proofs.Came.{Taken-behind, most_taken-file}
-use Rattle.cap_io.proofs.Fronts.{front_of-behind, front_of-pcapng, front_of_block-none, is_pcapng-append, most_taken-block, decisive_length-pcapng, decisive_block_length-few}
+use Rattle.cap_io.proofs.Fronts.{front_of-behind, front_of-pcapng, front_of_block-none, is_pcapng-append, most_taken-block, decisive_length-pcapng, decisive_block_length-few, is_section-append}
 use Rattle.cap_io.proofs.Units.{and_second, first-section}
 
 -- ---- no block
@@ -75,6 +75,30 @@ pub refused-block : (file : FileState) (interfaces : List Described) (front unre
 refused-block file interfaces front unread unread' fault upper_bound begins m =
     let stands = stands_at file interfaces front unread (omega arith) begins in
     missing-refuses (declared_by file interfaces) (known_first_link file) (section_before file interfaces) (front ++ unread) unread' fault stands.front stands.reads m
+
+-- a section header holds no packet
+section-parts : (before : Option Section) (block : List ℕ) → is_section block ≡ true → parts_behind before block ≡ SectionParts
+section-parts before block is =
+    let kind : type_in (order_before before) block ≡ type.Section =
+    ap (λ (b : Bool). if b then type.Section else type_of_block (u32_in (order_in (order_before before) block) block 0)) is in
+    ap (λ k. parts_in_body k (frame_behind before block).order (body_in (frame_behind before block) block)) kind
+
+-- where a block would stand, it takes memory if it is longer, or describes an interface
+pub block-takes : (file : FileState) (interfaces : List Described) (front unread : List ℕ) (room : ℕ) → 12 ≤ length front → BeginsBlock file front
+    → room < block_length (section_before file interfaces) (front ++ unread) → TakesMemory room (declared_by file interfaces) (front ++ unread)
+block-takes state.Unknown interfaces front unread room enough begins less =
+    let kind : is_pcapng (front ++ unread) ≡ true = is_pcapng-append front unread (omega arith) ∙ begins in
+    inl (rw kind less)
+block-takes (state.Pcap head) interfaces front unread room enough begins less = absurd begins
+block-takes (state.Pcapng order first) interfaces front unread room enough begins less = inl less
+
+pub interface-takes : (file : FileState) (interfaces : List Described) (front unread : List ℕ) (room : ℕ) → 12 ≤ length front → BeginsBlock file front
+    → Describes (section_before file interfaces) (front ++ unread) → TakesMemory room (declared_by file interfaces) (front ++ unread)
+interface-takes state.Unknown interfaces front unread room enough begins d =
+    let none : is_interface (parts_behind None (front ++ unread)) ≡ false = ap is_interface (section-parts None (front ++ unread) (is_section-append front unread (omega arith) ∙ begins)) in
+    absurd (let both : true ≡ false = sym d.is ∙ none in cc)
+interface-takes (state.Pcap head) interfaces front unread room enough begins d = absurd begins
+interface-takes (state.Pcapng order first) interfaces front unread room enough begins d = inr (d.passes, d.is)
 
 -- the front of the first block didn't come
 pub rest_of_front : (first unread unread' : List ℕ) (fault : Fault) (size : ℕ) → size ≡ 12 → length first ≡ 4 → is_section first ≡ true → RestMissing (length first) size unread unread' fault
@@ -128,13 +152,6 @@ block_front link section unread unread' fault m =
     ]
 
 -- ---- what a block declares
-
--- a section header holds no packet
-section-parts : (before : Option Section) (block : List ℕ) → is_section block ≡ true → parts_behind before block ≡ SectionParts
-section-parts before block is =
-    let kind : type_in (order_before before) block ≡ type.Section =
-    ap (λ (b : Bool). if b then type.Section else type_of_block (u32_in (order_in (order_before before) block) block 0)) is in
-    ap (λ k. parts_in_body k (frame_behind before block).order (body_in (frame_behind before block) block)) kind
 
 pub first-packets : (block : List ℕ) → IsBlock None block → packets_in None block ≡ []
 first-packets block is =
@@ -301,12 +318,13 @@ begun-front (state.Pcap head) interfaces unread unread' fault begun m = absurd (
 begun-front (state.Pcapng order first) interfaces unread unread' fault begun m = block_front first (section_of order interfaces) unread unread' fault m
 
 -- what reading behind the first bytes of a unit did is what reading it all did
-pub ReadsUnit-behind : {I : Type 0} (device : Ghosts I) (old mid : I) (front : List ℕ) (file : FileState) (interfaces : List Described) (r : Result NextUnit Fault) (new : I) (buffer : List ℕ) (spans : PacketSpans) (file' : FileState) (interfaces' : List Described)
-    → device.given mid ≡ device.given old + length front → device.failures mid ≡ device.failures old → device.never_fails mid ≡ device.never_fails old
+pub ReadsUnit-behind : {I : Type 0} (device : Ghosts I) (old mid : I) (front : List ℕ) (file : FileState) (interfaces : List Described) (room : ℕ) (r : Result NextUnit Fault) (new : I) (buffer : List ℕ) (spans : PacketSpans) (file' : FileState) (interfaces' : List Described)
+    → device.given mid ≡ device.given old + length front → device.failures mid ≡ device.failures old → device.sure mid ≡ device.sure old
+    → (IsTrue device.tells → device.given mid + length (device.unread mid) ≡ device.given old + length (device.unread old))
     → (0 < length front → device.given mid < 2 ^ 63)
     → (IsTrue device.tells → device.unread old ≡ front ++ device.unread mid)
-    → ReadsUnit device mid front file interfaces r new buffer spans file' interfaces' → ReadsUnit device old [] file interfaces r new buffer spans file' interfaces'
-ReadsUnit-behind device old mid front file interfaces (Ok c) new buffer spans file' interfaces' given failed never small splits reads =
+    → ReadsUnit device mid front file interfaces room r new buffer spans file' interfaces' → ReadsUnit device old [] file interfaces room r new buffer spans file' interfaces'
+ReadsUnit-behind device old mid front file interfaces room (Ok c) new buffer spans file' interfaces' given failed sure told small splits reads =
     let m = reads.moves in
     let P : List ℕ → Type 0 = λ t. UnitCame (declared_by file interfaces) t buffer spans c (declared_by file' interfaces') (device.unread new) in
     record {
@@ -316,7 +334,9 @@ ReadsUnit-behind device old mid front file interfaces (Ok c) new buffer spans fi
         bounded = λ some. is_small c reads.sized some;
         at_most = tt;
         failed = m.failed ∙ ap (λ n. n + 0) failed;
-        never = m.never ∙ never;
+        sure = m.sure ∙ sure;
+        enough = m.enough;
+        told = λ t. m.told t ∙ told t;
       };
       sized = reads.sized;
       consistent = reads.consistent;
@@ -324,13 +344,17 @@ ReadsUnit-behind device old mid front file interfaces (Ok c) new buffer spans fi
       ok = λ t. subst P (sym (splits t)) (reads.ok t);
       err = tt;
       kept = tt;
+      grown = reads.grown;
+      bounded = reads.bounded;
+      fits = reads.fits;
+      memory = λ e. (cc);
     }
   where
     is_small : (c : NextUnit) → IsSized spans c buffer (device.given new) → 0 < unit_size spans c → device.given new < 2 ^ 63
     is_small (next_unit.Other size) sized some = sized.1
     is_small next_unit.Packet sized some = sized.1
     is_small next_unit.End sized some = absurd (omega arith)
-ReadsUnit-behind device old mid front file interfaces (Err fault) new buffer spans file' interfaces' given failed never small splits reads =
+ReadsUnit-behind device old mid front file interfaces room (Err fault) new buffer spans file' interfaces' given failed sure told small splits reads =
     let m = reads.moves in
     let P : List ℕ → Type 0 = λ t. NoUnitCame (declared_by file interfaces) t (device.unread new) fault in
     record {
@@ -340,7 +364,9 @@ ReadsUnit-behind device old mid front file interfaces (Err fault) new buffer spa
         bounded = tt;
         at_most = omega (arith, given, m.at_most);
         failed = m.failed ∙ ap (λ n. n + read_failures {X = NextUnit} (Err fault)) failed;
-        never = m.never ∙ never;
+        sure = m.sure ∙ sure;
+        enough = m.enough;
+        told = λ t. m.told t ∙ told t;
       };
       sized = tt;
       consistent = tt;
@@ -348,4 +374,8 @@ ReadsUnit-behind device old mid front file interfaces (Err fault) new buffer spa
       ok = tt;
       err = λ t. subst P (sym (splits t)) (reads.err t);
       kept = reads.kept;
+      grown = reads.grown;
+      bounded = reads.bounded;
+      fits = tt;
+      memory = λ e t. subst (λ (text : List ℕ). TakesMemory (length buffer) (declared_by file interfaces) text) (sym (splits t)) (reads.memory e t);
     }

@@ -27,7 +27,7 @@ use Rattle.cap_pcapng.specs.declared.frames.BlockType.{BlockType}
 use Rattle.cap_pcapng.specs.declared.frames.BlockType.TheVariants as type
 use Rattle.cap_pcapng.specs.declared.frames.Frame.{Frame}
 use Rattle.cap_io.specs.Blocks.{Enters, IsEntryFault, PacketFound, held_packet, section_of, fault_among}
-use Rattle.cap_io.specs.Reading.{span_bytes}
+use Rattle.cap_io.specs.Reading.{is_interface, span_bytes}
 use Rattle.cap_io.specs.declared.file_state.PacketSpans.{PacketSpans}
 use Rattle.cap_io.proofs.OwnFaults.{all_failing, all_of_options}
 
@@ -304,7 +304,19 @@ interface_refused frame interfaces block b fault whole least is none upper_bound
     same exact e = (cc)
 
     by_room : (room : Bool) → nat_lt (length interfaces) most_interfaces ≡ room → IsEntryFault frame interfaces block fault
-    by_room true e = inr (inr (memory (ltb-true (length interfaces) 256 e)))
+    by_room true e =
+        let passes = block_passes frame block least (omega (arith, whole)) none in
+        inr (inr (
+          memory (ltb-true (length interfaces) 256 e),
+          record {
+            passes = passes.0;
+            among =
+                ap (λ p. first_failing (checks_among interfaces p)) (sym is)
+                ∙ ap (λ (r : Bool). first_failing ((r, TooManyInterfaces) ∷ option_checks (parts_of_interface b))) e
+                ∙ ap (λ p. first_failing (option_checks p)) is ∙ passes.1;
+            describes = ap is_interface (sym is);
+          },
+        ))
     by_room false e =
         let most = ltb-false (length interfaces) 256 e in
         inr (inl (

@@ -1,13 +1,13 @@
 -- A record that a device had at hand.
 use Rattle.std.proofs.Common.{◌≡◌, ℕ, Bool, true, IsTrue, is_some, ◌+◌, ◌^◌, ◌<◌, ◌≤◌, List, ◌++◌, length, take, drop, Ok, refl, sym, ap, ap₂, ◌∙◌, arith, add-zero}
 use Rattle.std.proofs.lemmas.List.{length-take-le, take-take, take-append-le, take-append-drop, append_assoc}
-use Rattle.cap_octet.specs.Device.{Passes}
+use Rattle.cap_octet.specs.Device.{HasGiven, Passes}
 use Rattle.cap_octet.specs.Checks.{checked, first_failing}
 use Rattle.cap_pcap.specs.declared.header.Head.{Head}
 use Rattle.cap_pcap.specs.declared.header.RecordHead.{RecordHead}
 use Rattle.cap_pcap.specs.Record.{field_checks, most_captured, record_header_in}
 use Rattle.cap_io.specs.declared.file_state.PacketSpans.{PacketSpans}
-use Rattle.cap_io.specs.Reading.{PacketCame, record_spans, packet_in_unit}
+use Rattle.cap_io.specs.Reading.{PacketCame, most_in_unit, record_spans, packet_in_unit}
 use Rattle.cap_io.specs.Capture.{Declared, PcapFile}
 use Rattle.cap_io.specs.Source.{SourceView, Reading, IsBetween, TakesNext}
 use Rattle.cap_io.proofs.Passing.{FindsPacket-next}
@@ -43,10 +43,10 @@ record-taken head unread unread' buffer found says there splits =
 -- a source that stood between units took the next one, which has a packet
 pub takes-next : (tells : Bool) (head : Head) (found : RecordHead) (buffer : List ℕ) (old new : SourceView) → IsBetween old
     → checked (first_failing (field_checks head (take 16 buffer))) (record_header_in head (take 16 buffer)) ≡ Ok found → found.captured ≤ most_captured → 16 + found.captured ≤ length buffer
-    → new.given ≡ old.given + (16 + found.captured) → new.given < 2 ^ 63 → new.failures ≡ old.failures → new.never_fails ≡ old.never_fails → (IsTrue tells → old.unread ≡ take (16 + found.captured) buffer ++ new.unread)
+    → new.given ≡ old.given + (16 + found.captured) → new.given < 2 ^ 63 → new.failures ≡ old.failures → new.sure ≡ old.sure → (0 < new.failures → HasGiven new.sure new.given) → new.room ≡ length buffer → new.room ≡ old.room → new.room ≤ most_in_unit → (IsTrue tells → old.unread ≡ take (16 + found.captured) buffer ++ new.unread)
     → old.declared ≡ PcapFile head → new.declared ≡ PcapFile head → new.block ≡ take (16 + found.captured) buffer → new.packet ≡ packet_in_unit (PcapFile head) (record_spans found) (take (16 + found.captured) buffer)
     → new.offset ≡ old.offset → new.phase ≡ Reading → TakesNext tells old new
-takes-next tells head found buffer old new between says short there given bounded failures never splits was declared block packet offset phase =
+takes-next tells head found buffer old new between says short there given bounded failures sure enough room same held splits was declared block packet offset phase =
     let spans : PacketSpans = record_spans found in
     let size : ℕ = 16 + found.captured in
     let whole : length new.block ≡ size = ap length block ∙ length-take-le size buffer there in
@@ -55,13 +55,15 @@ takes-next tells head found buffer old new between says short there given bounde
     record {
       packet = λ t.
           let came = record-taken head old.unread new.unread buffer found says there (splits t) in
-          FindsPacket-next old new spans buffer between (rw (was, declared) came) block (packet ∙ ap (λ (d : Declared). packet_in_unit d spans (take size buffer)) (sym declared)) offset phase;
+          FindsPacket-next old new spans buffer between (rw (was, declared) came) block (packet ∙ ap (λ (d : Declared). packet_in_unit d spans (take size buffer)) (sym declared)) offset (omega (arith, same)) room phase;
       bounds = record {
         given = omega (arith, given);
         failures = failures ∙ sym (add-zero old.failures);
-        never = never;
-        unfailed = λ f. failures;
-        block = omega (arith, whole, short);
+        sure = sure;
+        enough = enough;
+        block = omega (arith, whole, room, there);
+        held = held;
+        room = omega (arith, same);
         packet = λ is. (omega (arith, given), bounded, some);
         counted = omega (arith, given, whole, none, offset);
         broken = tt;

@@ -1,10 +1,10 @@
--- Which faults checks tell: none of them that the device failed.
+-- Which faults checks tell: none of them that the device failed, or that memory ran out.
 use Rattle.std.proofs.Common.{◌≡◌, ℕ, zero, suc, inl, inr, Bool, true, false, List, [], ◌∷◌, ◌++◌, length, drop, Option, Some, Result, Ok, Err, refl, cond, arith, subst}
 use Rattle.std.specs.Prelude.{◌==◌, is_some, if◌then◌else◌}
 use Rattle.std.specs.List.{AllByRecursion}
 use Rattle.cap_octet.specs.Checks.{first_failing}
 use Rattle.cap_octet.specs.declared.fault.Fault.{Fault}
-use Rattle.cap_octet.specs.declared.fault.Fault.TheVariants.{BadOption, BadTimeResolution, ReadFailed}
+use Rattle.cap_octet.specs.declared.fault.Fault.TheVariants.{BadOption, BadTimeResolution, NoMemory, ReadFailed}
 use Rattle.cap_octet.specs.declared.number.Order.{Order}
 use Rattle.cap_pcapng.specs.Block.{Parts, SectionParts, InterfaceParts, EnhancedParts, SimpleParts, SkippedParts, block_checks, body_checks, body_in, option_checks, parts_in}
 use Rattle.cap_pcap.specs.declared.header.Head.{Head}
@@ -19,7 +19,7 @@ use Rattle.cap_pcapng.specs.Unit.{checks_among}
 use Rattle.cap_pcapng.specs.declared.frames.BlockType.{BlockType}
 use Rattle.cap_pcapng.specs.declared.frames.BlockType.TheVariants as type
 use Rattle.cap_pcapng.specs.declared.frames.Frame.{Frame}
-use Rattle.cap_io.specs.Blocks.{IsEntryFault}
+use Rattle.cap_io.specs.Blocks.{AddsInterface, IsEntryFault}
 use Rattle.cap_io.specs.Reading.{read_failures}
 
 -- ---- the faults of some rows
@@ -91,11 +91,21 @@ all_of_options P bad worse (EnhancedParts number ticks captured orig own rest) =
 all_of_options P bad worse (SimpleParts orig rest) = tt
 all_of_options P bad worse SkippedParts = tt
 
--- ---- no check tells that the device failed
+-- ---- no check tells that the device failed, or that memory ran out
 
--- a fault that is told where the device did not fail
+-- a fault that bytes have
+abbrev pub is_own : Fault → Bool
+is_own ReadFailed = false
+is_own NoMemory = false
+is_own fault = true
+
 abbrev pub IsOwn : Fault → Type 0
-IsOwn fault = read_failures {X = ℕ} (Err fault) ≡ 0
+IsOwn fault = is_own fault ≡ true
+
+-- it counts no failure
+own-unfailed : (fault : Fault) → IsOwn fault → read_failures {X = ℕ} (Err fault) ≡ 0
+own-unfailed ReadFailed own = (cc)
+own-unfailed fault own = refl
 
 abbrev AreOwn : List (Bool × Fault) → Type 0
 AreOwn rows = AreAll IsOwn rows
@@ -117,18 +127,47 @@ own_body type.SimplePacket order body = (refl, tt)
 own_body type.EnhancedPacket order body = (refl, tt)
 own_body type.Other order body = tt
 
-pub entry-own : (frame : Frame) (interfaces : List Described) (block : List ℕ) (fault : Fault) → IsEntryFault frame interfaces block fault → IsOwn fault
+own-block : (frame : Frame) (block : List ℕ) (fault : Fault) → first_failing (block_checks frame block) ≡ Some fault → IsOwn fault
+own-block frame block fault fails = all_failing IsOwn (block_checks frame block) fault (refl, own_body frame.block_type frame.order (body_in frame block)) fails
+
+own-entered : (frame : Frame) (interfaces : List Described) (block : List ℕ) (fault : Fault) → first_failing (checks_among interfaces (parts_in frame block)) ≡ Some fault → IsOwn fault
+own-entered frame interfaces block fault fails = all_failing IsOwn (checks_among interfaces (parts_in frame block)) fault (own_among interfaces (parts_in frame block)) fails
+
+pub entry-own : (frame : Frame) (interfaces : List Described) (block : List ℕ) (fault : Fault) → IsEntryFault frame interfaces block fault → read_failures {X = ℕ} (Err fault) ≡ 0
 entry-own frame interfaces block fault is =
     elim is [
-      | inl blocked ↦ all_failing IsOwn (block_checks frame block) fault (refl, own_body frame.block_type frame.order (body_in frame block)) blocked
+      | inl blocked ↦ own-unfailed fault (own-block frame block fault blocked)
       | inr more ↦ elim more [
-        | inl among ↦ all_failing IsOwn (checks_among interfaces (parts_in frame block)) fault (own_among interfaces (parts_in frame block)) among.1
-        | inr memory ↦ rw memory refl
+        | inl among ↦ own-unfailed fault (own-entered frame interfaces block fault among.1)
+        | inr memory ↦ rw memory.0 refl
       ]
     ]
 
 own-not_failed : (fault : Fault) → IsOwn fault → fault ≡ ReadFailed → ⊥
-own-not_failed fault own failed = let exact : IsOwn ReadFailed = rw failed at own in omega (arith, exact)
+own-not_failed fault own failed = let exact : IsOwn ReadFailed = rw failed at own in (cc)
+
+own-not_memory : (fault : Fault) → IsOwn fault → fault ≡ NoMemory → ⊥
+own-not_memory fault own memory = let exact : IsOwn NoMemory = rw memory at own in (cc)
+
+-- memory runs out for an interface alone
+pub entry-adds : (frame : Frame) (interfaces : List Described) (block : List ℕ) (fault : Fault) → IsEntryFault frame interfaces block fault → fault ≡ NoMemory → AddsInterface frame interfaces block
+entry-adds frame interfaces block fault is memory =
+    elim is [
+      | inl blocked ↦ absurd (own-not_memory fault (own-block frame block fault blocked) memory)
+      | inr more ↦ elim more [
+        | inl among ↦ absurd (own-not_memory fault (own-entered frame interfaces block fault among.1) memory)
+        | inr adds ↦ adds.1
+      ]
+    ]
+
+pub fields-not_memory : (head : Head) (text : List ℕ) (fault : Fault) → first_failing (field_checks head text) ≡ Some fault → fault ≡ NoMemory → ⊥
+fields-not_memory head text fault fails = own-not_memory fault (all_failing IsOwn (field_checks head text) fault (refl, (refl, tt)) fails)
+
+pub frame-not_memory : (section : Option Order) (text : List ℕ) (fault : Fault) → first_failing (frame_checks section text) ≡ Some fault → fault ≡ NoMemory → ⊥
+frame-not_memory section text fault fails = own-not_memory fault (all_failing IsOwn (frame_checks section text) fault (refl, (refl, (refl, (refl, tt)))) fails)
+
+pub header-not_memory : (text : List ℕ) (fault : Fault) → header_fault text ≡ Some fault → fault ≡ NoMemory → ⊥
+header-not_memory text fault fails = own-not_memory fault (all_failing IsOwn (header_checks text) fault (refl, (refl, (refl, (refl, tt)))) fails)
 
 pub header-not_failed : (text : List ℕ) (fault : Fault) → header_fault text ≡ Some fault → fault ≡ ReadFailed → ⊥
 header-not_failed text fault fails = own-not_failed fault (all_failing IsOwn (header_checks text) fault (refl, (refl, (refl, (refl, tt)))) fails)
@@ -140,4 +179,4 @@ pub frame-not_failed : (section : Option Order) (text : List ℕ) (fault : Fault
 frame-not_failed section text fault fails = own-not_failed fault (all_failing IsOwn (frame_checks section text) fault (refl, (refl, (refl, (refl, tt)))) fails)
 
 pub entry-not_failed : (frame : Frame) (interfaces : List Described) (block : List ℕ) (fault : Fault) → IsEntryFault frame interfaces block fault → fault ≡ ReadFailed → ⊥
-entry-not_failed frame interfaces block fault is = own-not_failed fault (entry-own frame interfaces block fault is)
+entry-not_failed frame interfaces block fault is failed = let own : read_failures {X = ℕ} (Err ReadFailed) ≡ 0 = rw failed at (entry-own frame interfaces block fault is) in omega (arith, own)

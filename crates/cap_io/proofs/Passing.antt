@@ -2,7 +2,7 @@
 use Rattle.std.proofs.Common.{◌≡◌, ℕ, ◌+◌, ◌-◌, ◌≤◌, List, [], ◌++◌, length, take, drop, Option, Some, None, is_some, true, refl, sym, ap, ap₂, ◌∙◌, subst, arith}
 use Rattle.std.specs.List.{slice_get}
 use Rattle.std.specs.Option.{option_map}
-use Rattle.std.proofs.lemmas.List.{append_assoc, drop-take, take-take, length-append, length-take-le}
+use Rattle.std.proofs.lemmas.List.{append_assoc, drop-take, take-take, length-append, length-take, length-take-le}
 use Rattle.cap_octet.specs.declared.number.Order.{Order}
 use Rattle.cap_pcap.specs.declared.header.Head.{Head}
 use Rattle.cap_pcapng.specs.Interface.{Described}
@@ -11,34 +11,39 @@ use Rattle.cap_pcapng.specs.Unit.{packet_of}
 use Rattle.cap_io.specs.declared.source.Stage.{Stage}
 use Rattle.cap_io.specs.declared.source.Stage.TheVariants as stage
 use Rattle.cap_octet.specs.declared.fault.Fault.{Fault}
+use Rattle.cap_octet.specs.declared.fault.Fault.TheVariants.{NoMemory}
 use Rattle.cap_io.specs.declared.file_state.PacketSpans.{PacketSpans}
 use Rattle.cap_io.specs.declared.file_state.Span.{Span}
 use Rattle.cap_io.specs.Capture.{Declared, Nothing, PcapFile, PcapngFile, AreUnits, no_unit}
 use Rattle.cap_io.proofs.Items.{AreUnits-append}
+use Rattle.cap_io.proofs.Fitting.{FitUnits-append, FitUnits-wider, one_unit_fits}
 use Rattle.cap_io.proofs.Units.{one_unit}
-use Rattle.cap_io.specs.Reading.{EndCame, HasInterface, PacketCame, NoUnitCame, UnitPassed, packet_in_unit, span_bytes}
-use Rattle.cap_io.specs.Source.{SourceView, Reading, Ended, SkipsUnits, IsBetween, IsBroken, FindsPacket, FindsEnd, HoldsIfAny, block_at, phase_at}
+use Rattle.cap_io.specs.Reading.{EndCame, HasInterface, PacketCame, NoUnitCame, TakesMemory, UnitPassed, held_length, no_unit_fits, packet_in_unit, span_bytes}
+use Rattle.cap_io.specs.Source.{SourceView, Reading, Ended, Failed, SkipsUnits, IsBetween, IsBroken, FindsPacket, FindsEnd, FindsFault, HoldsIfAny, block_at, end_offset, phase_at}
 
 -- ---- no unit is gone over
 
-pub stays : (old new : SourceView) → IsBetween old → new.declared ≡ old.declared → new.offset ≡ old.offset → SkipsUnits old new old.unread
-stays old new between declared place = record { passed = []; splits = refl; units = rw declared no_unit; offset = rw between.block (omega (arith, place)) }
+pub stays : (old new : SourceView) → IsBetween old → new.declared ≡ old.declared → new.offset ≡ old.offset → old.room ≤ new.room → SkipsUnits old new old.unread
+stays old new between declared place room = record { passed = []; splits = refl; units = rw declared no_unit; offset = rw between.block (omega (arith, place)); room = room; fit = rw declared no_unit_fits }
 
-pub IsBroken-next : (old new : SourceView) (fault : Fault) → IsBetween old → NoUnitCame old.declared old.unread new.unread fault → new.declared ≡ old.declared → new.offset ≡ old.offset
+pub IsBroken-next : (old new : SourceView) (fault : Fault) → IsBetween old → NoUnitCame old.declared old.unread new.unread fault → new.declared ≡ old.declared → new.offset ≡ old.offset → old.room ≤ new.room
+    → (fault ≡ NoMemory → TakesMemory new.room old.declared old.unread) → new.given + length new.unread ≡ old.given + length old.unread
     → new.block ≡ [] → new.packet ≡ None → IsBroken old new fault
-IsBroken-next old new fault between refuses declared place block packet = record {
+IsBroken-next old new fault between refuses declared place room memory counted block packet = record {
   rest = old.unread;
-  passes = stays old new between declared place;
+  passes = stays old new between declared place room;
   why = rw declared refuses.why;
+  memory = λ e. rw declared (memory e);
   taken = rw declared refuses.taken;
+  counted = counted;
   block = block;
   packet = packet;
 }
 
-pub FindsEnd-next : (old new : SourceView) → IsBetween old → EndCame old.declared old.unread new.declared new.unread → new.offset ≡ old.offset
+pub FindsEnd-next : (old new : SourceView) → IsBetween old → EndCame old.declared old.unread new.declared new.unread → new.offset ≡ old.offset → old.room ≤ new.room
     → new.block ≡ [] → new.packet ≡ None → new.phase ≡ Ended → FindsEnd old new
-FindsEnd-next old new between came place block packet phase = record {
-  passes = let P : List ℕ → Type 0 = λ rest. SkipsUnits old new rest in subst P came.over (stays old new between came.same place);
+FindsEnd-next old new between came place room block packet phase = record {
+  passes = let P : List ℕ → Type 0 = λ rest. SkipsUnits old new rest in subst P came.over (stays old new between came.same place room);
   ends = rw came.same came.ends;
   unread = came.rest;
   block = block;
@@ -49,23 +54,26 @@ FindsEnd-next old new between came place block packet phase = record {
 -- ---- one unit
 
 pub SkipsUnits-next : (old new : SourceView) (size : ℕ) → IsBetween old → UnitPassed old.declared old.unread size new.declared new.unread → new.offset ≡ old.offset + size
-    → SkipsUnits old new new.unread
-SkipsUnits-next old new size between came place = record {
+    → old.room ≤ new.room → held_length old.declared new.declared size ≤ new.room → SkipsUnits old new new.unread
+SkipsUnits-next old new size between came place room fits = record {
   passed = came.bytes;
   splits = came.splits;
   units = one_unit came.unit;
   offset = rw between.block (omega (arith, place, came.sized));
+  fit = one_unit_fits came.unit (ap (held_length old.declared new.declared) came.sized) fits;
+  room = room;
 }
 
 pub FindsPacket-next : (old new : SourceView) (spans : PacketSpans) (buffer : List ℕ) → IsBetween old → PacketCame old.declared old.unread buffer spans new.declared new.unread
-    → new.block ≡ take spans.size buffer → new.packet ≡ packet_in_unit new.declared spans (take spans.size buffer) → new.offset ≡ old.offset → new.phase ≡ Reading
+    → new.block ≡ take spans.size buffer → new.packet ≡ packet_in_unit new.declared spans (take spans.size buffer) → new.offset ≡ old.offset → old.room ≤ new.room → new.room ≡ length buffer → new.phase ≡ Reading
     → FindsPacket old new
-FindsPacket-next old new spans buffer between came block packet place phase =
+FindsPacket-next old new spans buffer between came block packet place room held phase =
     let P : List ℕ → Type 0 = λ rest. SkipsUnits old new rest in record {
-      passes = subst P (came.splits ∙ ap (λ (l : List ℕ). l ++ new.unread) (sym block)) (stays old new between came.same place);
+      passes = subst P (came.splits ∙ ap (λ (l : List ℕ). l ++ new.unread) (sym block)) (stays old new between came.same place room);
       packet = came.packet;
       held = packet ∙ ap (λ (d : Declared). packet_in_unit d spans (take spans.size buffer)) came.same ∙ came.is_lent;
       unit = rw (block, came.same) came.unit;
+      fits = omega (arith, held, ap length block, length-take spans.size buffer);
       phase = phase;
     }
 
@@ -81,6 +89,8 @@ SkipsUnits-then old mid new rest first none more =
       splits = first.splits ∙ ap (λ (l : List ℕ). first.passed ++ l) more.splits ∙ sym (append_assoc first.passed more.passed rest);
       units = units;
       offset = omega (arith, more.offset, place, length-append first.passed more.passed);
+      fit = FitUnits-append (FitUnits-wider more.room first.fit) more.fit;
+      room = omega (arith, first.room, more.room);
     }
 
 pub FindsPacket-then : (old mid new : SourceView) → SkipsUnits old mid mid.unread → mid.block ≡ [] → FindsPacket mid new → FindsPacket old new
@@ -89,6 +99,7 @@ FindsPacket-then old mid new first none finds = record {
   packet = finds.packet;
   held = finds.held;
   unit = finds.unit;
+  fits = finds.fits;
   phase = finds.phase;
 }
 
@@ -102,14 +113,46 @@ FindsEnd-then old mid new first none finds = record {
   phase = finds.phase;
 }
 
-pub IsBroken-then : (old mid new : SourceView) (fault : Fault) → SkipsUnits old mid mid.unread → mid.block ≡ [] → IsBroken mid new fault → IsBroken old new fault
-IsBroken-then old mid new fault first none broken = record {
+counted_so_far : (old mid : SourceView) → (first : SkipsUnits old mid mid.unread) → mid.block ≡ [] → mid.given + end_offset old ≡ old.given + end_offset mid → mid.given + length mid.unread ≡ old.given + length old.unread
+counted_so_far old mid first none counted =
+    let split : length old.unread ≡ length first.passed + length mid.unread = ap length first.splits ∙ length-append first.passed mid.unread in
+    let empty : length mid.block ≡ 0 = ap length none in
+    omega (arith, split, empty, counted, first.offset)
+
+pub IsBroken-then : (old mid new : SourceView) (fault : Fault) → SkipsUnits old mid mid.unread → mid.block ≡ [] → mid.given + end_offset old ≡ old.given + end_offset mid → IsBroken mid new fault → IsBroken old new fault
+IsBroken-then old mid new fault first none counted broken = record {
   rest = broken.rest;
   passes = SkipsUnits-then old mid new broken.rest first none broken.passes;
   why = broken.why;
+  memory = broken.memory;
   taken = broken.taken;
+  counted = broken.counted ∙ counted_so_far old mid first none counted;
   block = broken.block;
   packet = broken.packet;
+}
+
+-- a source that tells a fault stays where it is
+pub IsBroken-failed : (old mid new : SourceView) (fault : Fault) → IsBroken old mid fault → new.declared ≡ mid.declared → new.offset ≡ mid.offset → new.unread ≡ mid.unread → new.given ≡ mid.given → new.room ≡ mid.room
+    → new.block ≡ [] → new.packet ≡ None → new.phase ≡ Failed fault → FindsFault old new fault
+IsBroken-failed old mid new fault broken declared offset unread given room block packet phase = record {
+  broken = record {
+    rest = broken.rest;
+    passes = record {
+      passed = broken.passes.passed;
+      splits = broken.passes.splits;
+      units = rw declared broken.passes.units;
+      offset = offset ∙ broken.passes.offset;
+      room = omega (arith, room, broken.passes.room);
+      fit = rw (declared, room) broken.passes.fit;
+    };
+    why = rw declared broken.why;
+    memory = λ e. rw (declared, room) (broken.memory e);
+    taken = rw (declared, unread) broken.taken;
+    counted = rw (unread, given) broken.counted;
+    block = block;
+    packet = packet;
+  };
+  phase = phase;
 }
 
 -- ---- the packet in hand

@@ -1,11 +1,13 @@
 -- Where a source stands in its text, from one call to the next.
-use Rattle.std.proofs.Common.{◌≡◌, ℕ, ◌+◌, ◌⊎◌, inl, inr, Bool, true, false, List, [], ◌∷◌, ◌++◌, length, Option, Some, refl, sym, ◌∙◌, ap, arith, add-zero, zero-add, Result, Ok}
-use Rattle.std.proofs.lemmas.List.{append_assoc, append-nil, length-append}
+use Rattle.std.proofs.Common.{◌≡◌, ℕ, ◌+◌, ◌-◌, ◌<◌, ◌⊎◌, inl, inr, Bool, true, false, List, [], ◌∷◌, ◌++◌, length, Option, Some, refl, sym, ◌∙◌, ap, arith, add-zero, zero-add, Result, Ok}
+use Rattle.std.proofs.lemmas.List.{append_assoc, append-nil, length-append, length-drop}
 use Rattle.cap_octet.specs.declared.fault.Fault.{Fault}
 use Rattle.cap_octet.specs.declared.fault.Fault.TheVariants.{ReadFailed, NoMemory}
 use Rattle.cap_io.specs.Capture.{Declared, Nothing, Placed, placed_at, AreUnits, no_unit, items, items_from, after_packets, ending_by, FaultAt, End, front_of, Stops}
 use Rattle.cap_io.specs.Source.{SourceView, Phase, Reading, Ended, Failed, source_at, SkipsUnits, FindsPacket, FindsEnd, FindsFault, Advances, Finds}
-use Rattle.cap_io.specs.Position.{IsAt, IsCutShort}
+use Rattle.cap_io.specs.Position.{IsAt, IsCutShort, MemoryEndsAt, given_in_all}
+use Rattle.cap_io.specs.Reading.{FitUnits, no_unit_fits, decisive_length}
+use Rattle.cap_io.proofs.Fitting.{FitUnits-append, FitUnits-wider, held_length-le, one_unit_fits}
 use Rattle.cap_io.proofs.Items.{AreUnits-append, items_from-units, items_from-stops}
 use Rattle.cap_io.proofs.Units.{one_unit}
 
@@ -16,14 +18,16 @@ failed_twice : (fault : Fault) → Reading ≡ Failed fault → ⊥
 failed_twice fault e = (cc)
 
 -- nothing is read yet
-pub IsAt-start : (text : List ℕ) (given failures : ℕ) (never_fails : Bool) → IsAt text [] [] false (source_at text given failures never_fails)
-IsAt-start text given failures never_fails = record {
+pub IsAt-start : (text : List ℕ) (given failures : ℕ) (sure : Option ℕ) → IsAt text [] [] false (source_at text given failures sure)
+IsAt-start text given failures sure = record {
   whole = refl;
   units = no_unit;
   place = refl;
   waits = λ e. absurd (cc);
   ended = λ e. absurd (ended_twice e);
   sound = λ fault e. failed_twice fault e;
+  fit = no_unit_fits;
+  held = omega arith;
 }
 
 -- the packet in hand is decided
@@ -41,6 +45,8 @@ IsAt-decided text done packets s at =
         waits = λ e. absurd (cc);
         ended = λ e. absurd (ended_twice (sym has.phase ∙ e));
         sound = at.sound;
+        fit = FitUnits-append at.fit (one_unit_fits has.unit refl (omega (arith, at.held, held_length-le s.declared s.declared (length s.block))));
+        held = at.held;
       },
     )
 
@@ -53,7 +59,7 @@ Advances-sound text done packets s s' r at advances = by_phase s.phase refl adva
     stays e same =
         let over = at.ended e in
         rw (same.0, same.1) (record {
-          passes = record { passed = []; splits = over.unread; units = no_unit; offset = rw over.block (simp (add-zero)) };
+          passes = record { passed = []; splits = over.unread; units = no_unit; offset = rw over.block (simp (add-zero)); room = omega arith; fit = no_unit_fits };
           ends = over.ends;
           unread = over.unread;
           block = over.block;
@@ -74,6 +80,10 @@ passed-units text done packets s s' rest at passes =
     let units : AreUnits Nothing 0 (done ++ passes.passed) (packets ++ []) s'.declared =
     AreUnits-append at.units (rw (zero-add, ← place) passes.units) in
     rw (append-nil packets) at units
+
+passed-fit : (text done : List ℕ) (packets : List Placed) (s s' : SourceView) (rest : List ℕ) → IsAt text done packets false s → (passes : SkipsUnits s s' rest)
+    → FitUnits s'.room Nothing (done ++ passes.passed) s'.declared
+passed-fit text done packets s s' rest at passes = FitUnits-append (FitUnits-wider passes.room at.fit) passes.fit
 
 passed-place : (text done : List ℕ) (packets : List Placed) (s s' : SourceView) (rest : List ℕ) → IsAt text done packets false s → (passes : SkipsUnits s s' rest)
     → s'.offset ≡ length (done ++ passes.passed)
@@ -98,6 +108,8 @@ IsAt-found text done packets s s' at finds = record {
   waits = λ e. record { packet = finds.packet; held = finds.held; unit = finds.unit; phase = finds.phase };
   ended = λ e. absurd (ended_twice (sym finds.phase ∙ e));
   sound = λ fault e. failed_twice fault (sym finds.phase ∙ e);
+  fit = passed-fit text done packets s s' (s'.block ++ s'.unread) at finds.passes;
+  held = finds.fits;
 }
 
 -- the clean end is met: all bytes are done
@@ -111,6 +123,8 @@ IsAt-closed text done packets s s' at finds = record {
   waits = λ e. absurd (cc);
   ended = λ e. record { ends = finds.ends; unread = finds.unread; block = finds.block; packet = finds.packet };
   sound = λ fault e. absurd (let q : Ended ≡ Failed fault = sym finds.phase ∙ e in cc);
+  fit = passed-fit text done packets s s' [] at finds.passes;
+  held = omega (arith, ap length finds.block);
 }
 
 -- ---- what the items of the whole text are
@@ -139,22 +153,37 @@ IsAt-items text done packets s at =
 pub record FaultyText (text : List ℕ) (packets : List Placed) (s' : SourceView) (fault : Fault) : Type 0 where
   pub items : items text ≡ record { packets = packets; declared = s'.declared; ending = FaultAt fault s'.offset }
 
-pub record CutText (text : List ℕ) (packets : List Placed) (s' : SourceView) (fault : Fault) : Type 0 where
-  pub why : (fault ≡ ReadFailed) ⊎ (fault ≡ NoMemory)
+pub record CutText (text : List ℕ) (packets : List Placed) (s s' : SourceView) (fault : Fault) : Type 0 where
   pub cut : IsCutShort text fault (record { packets = packets; declared = s'.declared; ending = FaultAt fault s'.offset })
+  pub why : ((fault ≡ ReadFailed) × (s'.given + length text < given_in_all s + length cut.done + decisive_length s'.declared cut.rest))
+      ⊎ ((fault ≡ NoMemory) × MemoryEndsAt cut.done cut.rest s'.declared)
 
 pub IsAt-fault : (text done : List ℕ) (packets : List Placed) (s s' : SourceView) (fault : Fault) → IsAt text done packets false s → FindsFault s s' fault
-    → FaultyText text packets s' fault ⊎ CutText text packets s' fault
+    → FaultyText text packets s' fault ⊎ CutText text packets s s' fault
 IsAt-fault text done packets s s' fault at finds =
     let passes = finds.broken.passes in
     let rest = finds.broken.rest in
     let units = passed-units text done packets s s' rest at passes in
     let whole = passed-whole text done packets s s' rest at passes in
     let offset = passed-place text done packets s s' rest at passes in
+    let cut : IsCutShort text fault (record { packets = packets; declared = s'.declared; ending = FaultAt fault s'.offset }) =
+    record { done = done ++ passes.passed; rest = rest; joined = whole; units = units; ending = ap (FaultAt fault) offset } in
     elim finds.broken.why [
       | inl stops ↦ inl (record { items = rw (offset, whole) (items-stops (done ++ passes.passed) rest packets s'.declared (Some fault) units stops) })
       | inr other ↦ inr (record {
-        why = other;
-        cut = record { done = done ++ passes.passed; rest = rest; joined = whole; units = units; ending = ap (FaultAt fault) offset };
+        cut = cut;
+        why = elim other [
+          | inl failed ↦ inl (failed, few failed)
+          | inr memory ↦ inr (memory, record { room = s'.room; fit = passed-fit text done packets s s' rest at passes; takes = finds.broken.memory memory })
+        ];
       })
     ]
+  where
+    -- fewer bytes came of the rest than decide what is there
+    few : fault ≡ ReadFailed → s'.given + length text < given_in_all s + length (done ++ finds.broken.passes.passed) + decisive_length s'.declared finds.broken.rest
+    few failed =
+        let taken = finds.broken.taken in
+        let left : length s'.unread ≡ length finds.broken.rest - taken.count = ap length taken.rest ∙ length-drop taken.count finds.broken.rest in
+        let long : length text ≡ length (done ++ finds.broken.passes.passed) + length finds.broken.rest =
+        ap length (passed-whole text done packets s s' finds.broken.rest at finds.broken.passes) ∙ length-append (done ++ finds.broken.passes.passed) finds.broken.rest in
+        omega (arith, left, long, taken.there, taken.unfinished failed, finds.broken.counted)

@@ -13,7 +13,7 @@ use Rattle.cap_pcapng.specs.Interface.{Described}
 use Rattle.cap_pcapng.specs.Unit.{Section, checks_among, most_interfaces, packet_by, packet_of, section_by}
 use Rattle.cap_pcapng.specs.declared.frames.Frame.{Frame}
 use Rattle.cap_io.specs.declared.file_state.PacketSpans.{PacketSpans}
-use Rattle.cap_io.specs.Reading.{span_bytes}
+use Rattle.cap_io.specs.Reading.{is_interface, span_bytes}
 
 -- the same section with these interfaces
 abbrev pub section_of : Order → List Described → Section
@@ -80,13 +80,20 @@ pub record Enters (frame : Frame) (interfaces : List Described) (block : List �
   pub fits : FitsIfAny spans frame.length
   pub known : KnowsIfAny interfaces' spans
 
--- the first check that a block fails, or out of memory
+-- a block that fails no check describes an interface
+pub record AddsInterface (frame : Frame) (interfaces : List Described)
+    (block : List ℕ) : Type 0 where
+  pub passes : first_failing (block_checks frame block) ≡ None
+  pub among : first_failing (checks_among interfaces (parts_in frame block)) ≡ None
+  pub describes : is_interface (parts_in frame block) ≡ true
+
+-- the first check that a block fails, or out of memory for an interface
 abbrev pub IsEntryFault : Frame → List Described → List ℕ → Fault → Type 0
 IsEntryFault frame interfaces block fault =
     (first_failing (block_checks frame block) ≡ Some fault)
     ⊎ ((first_failing (block_checks frame block) ≡ None)
     × (first_failing (checks_among interfaces (parts_in frame block)) ≡ Some fault))
-    ⊎ (fault ≡ NoMemory)
+    ⊎ ((fault ≡ NoMemory) × AddsInterface frame interfaces block)
 
 -- What a block's refusal by itself tells behind these interfaces: that there are as many as may be
 -- comes before what its options tell.

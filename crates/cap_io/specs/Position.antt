@@ -1,8 +1,10 @@
 -- Where a source is in the text that its device gives.
-use Rattle.std.specs.Prelude.{◌≡◌, ℕ, ◌+◌, Bool, true, false, List, [], ◌∷◌, ◌++◌, length, None, Some}
+use Rattle.std.specs.Prelude.{◌≡◌, ℕ, ◌+◌, ◌<◌, ◌≤◌, Bool, true, false, List, [], ◌∷◌, ◌++◌, length, None, Some}
+use Rattle.cap_octet.specs.Device.{HasGiven}
 use Rattle.cap_octet.specs.Packet.{Captured}
 use Rattle.cap_octet.specs.declared.fault.Fault.{Fault}
-use Rattle.cap_io.specs.Capture.{Nothing, IsUnit, Placed, AreUnits, Items, FaultAt, Stops, front_of}
+use Rattle.cap_io.specs.Capture.{Declared, Nothing, IsUnit, Placed, AreUnits, Items, FaultAt, Stops, front_of}
+use Rattle.cap_io.specs.Reading.{FitUnits, TakesMemory, decisive_length}
 use Rattle.cap_io.specs.Source.{SourceView, Reading, Ended, Failed}
 
 -- the bytes that were read and aren't decided yet, where the current packet waits
@@ -37,6 +39,9 @@ pub record IsAt (text done : List ℕ) (packets : List Placed) (waiting : Bool)
   pub waits : waiting ≡ true → HasPacket s
   pub ended : s.phase ≡ Ended → IsOver s
   pub sound : (fault : Fault) → s.phase ≡ Failed fault → ⊥
+  -- the block has room for each unit that is done, and for the current one
+  pub fit : FitUnits s.room Nothing done s.declared
+  pub held : length s.block ≤ s.room
 
 -- These items are those of the whole units at the start of a text, ended by a fault where the next
 -- unit would begin.
@@ -46,3 +51,23 @@ pub record IsCutShort (text : List ℕ) (fault : Fault) (items : Items) : Type 0
   pub joined : text ≡ done ++ rest
   pub units : AreUnits Nothing 0 done items.packets items.declared
   pub ending : items.ending ≡ FaultAt fault (length done)
+
+-- how many bytes a device gives in all, if no read fails
+abbrev pub given_in_all : SourceView → ℕ
+given_in_all s = s.given + length s.unread
+
+-- A read failed behind these whole units of a text, of which `rest` is left: the device had given
+-- as many bytes as it was sure to, and fewer than decide what is there.
+pub record ReadFailsAt (old new : SourceView) (text done rest : List ℕ)
+    (declared : Declared) : Type 0 where
+  pub failed : old.failures < new.failures
+  pub enough : HasGiven new.sure new.given
+  pub few : new.given + length text
+      < given_in_all old + length done + decisive_length declared rest
+
+-- Behind these whole units memory is taken: the next unit is longer than the block that held each
+-- of them, or describes an interface.
+pub record MemoryEndsAt (done rest : List ℕ) (declared : Declared) : Type 0 where
+  pub room : ℕ
+  pub fit : FitUnits room Nothing done declared
+  pub takes : TakesMemory room declared rest

@@ -10,10 +10,12 @@ use Rattle.cap_octet.specs.declared.number.Order.{Order}
 use Rattle.cap_octet.specs.declared.device.Input.{Ghosts}
 use Rattle.cap_pcap.specs.Header.{IsHeader, form_in}
 use Rattle.cap_pcap.specs.Record.{field_checks, most_captured, record_header_in, record_size}
+use Rattle.cap_octet.specs.Device.{HasGiven}
+use Rattle.cap_pcapng.specs.Block.{Parts, SectionParts, InterfaceParts, EnhancedParts, SimpleParts, SkippedParts}
 use Rattle.cap_pcapng.specs.Comment.{comment_in}
 use Rattle.cap_pcapng.specs.Frame.{frame_checks, is_section, most_block}
 use Rattle.cap_pcapng.specs.Interface.{Described, FitSection}
-use Rattle.cap_pcapng.specs.Unit.{Section, block_size, order_before, packet_of}
+use Rattle.cap_pcapng.specs.Unit.{Section, block_size, order_before, packet_of, parts_behind, unit_fault}
 use Rattle.cap_pcap.specs.declared.header.Head.{Head}
 use Rattle.cap_pcap.specs.declared.header.RecordHead.{RecordHead}
 use Rattle.cap_io.specs.declared.file_state.NextUnit.{NextUnit}
@@ -44,7 +46,13 @@ pub record Moves {I X : Type 0} (device : Ghosts I) (old new : I) (front : ℕ) 
   pub bounded : IfOk r (λ x. front < count x → device.given new < 2 ^ 63)
   pub at_most : IfErr r (λ _. device.given new + front ≤ device.given old + most)
   pub failed : device.failures new ≡ device.failures old + read_failures r
-  pub never : device.never_fails new ≡ device.never_fails old
+  pub sure : device.sure new ≡ device.sure old
+  -- a device that failed had given as many bytes as it was sure to
+  pub enough : 0 < device.failures new → HasGiven (device.sure new) (device.given new)
+  -- what was given is no longer unread
+  pub told : IsTrue device.tells
+      → device.given new + length (device.unread new)
+      ≡ device.given old + length (device.unread old)
 
 -- how many bytes are taken at most of a text that begins so: no more than its unit
 abbrev pub most_taken : Front → ℕ
@@ -80,6 +88,57 @@ pub record IsTaken (declared : Declared) (unread unread' : List ℕ) (fault : Fa
   pub unfinished : fault ≡ ReadFailed → count < decisive_length declared unread
   pub there : count ≤ length unread
   pub rest : unread' ≡ drop count unread
+
+-- ---- what takes memory
+
+-- how long the unit is that stands there, as its header states; 0 where that fails a check, and of
+-- the file header of pcap, which the block doesn't hold
+abbrev pub block_length : Option Section → List ℕ → ℕ
+block_length before text =
+    length_by_front (first_failing (frame_checks (order_before before) text)) 0
+    (block_size before text)
+
+abbrev pub unit_length : Declared → List ℕ → ℕ
+unit_length Nothing text = if is_pcapng text then block_length None text else 0
+unit_length (PcapFile head) text =
+    length_by_front (first_failing (field_checks head text)) 0 (record_size head text)
+unit_length (PcapngFile first section) text = block_length (Some section) text
+
+abbrev pub is_interface : Parts → Bool
+is_interface SectionParts = false
+is_interface (InterfaceParts link snap order options) = true
+is_interface (EnhancedParts number ticks captured orig order rest) = false
+is_interface (SimpleParts orig rest) = false
+is_interface SkippedParts = false
+
+-- a block that describes an interface, and fails no check
+abbrev pub DescribesInterface : Declared → List ℕ → Type 0
+DescribesInterface Nothing text = ⊥
+DescribesInterface (PcapFile head) text = ⊥
+DescribesInterface (PcapngFile first section) text =
+    (unit_fault (Some section) text ≡ None)
+    × (is_interface (parts_behind (Some section) text) ≡ true)
+
+-- The next unit is longer than the block has room for, or describes an interface.
+abbrev pub TakesMemory : ℕ → Declared → List ℕ → Type 0
+TakesMemory room declared unread =
+    (room < unit_length declared unread) ⊎ DescribesInterface declared unread
+
+-- how much of a unit of so many bytes the block holds: none of the file header of pcap
+abbrev pub held_length : (before after : Declared) → ℕ → ℕ
+held_length Nothing Nothing size = size
+held_length Nothing (PcapFile head) size = 0
+held_length Nothing (PcapngFile first section) size = size
+held_length (PcapFile head) after size = size
+held_length (PcapngFile first section) after size = size
+
+-- These bytes are whole units, and a block of so many bytes has room for each of them.
+pub data FitUnits (room : ℕ) : Declared → List ℕ → Declared → Type 0 where
+  no_unit_fits : {d : Declared} → FitUnits room d [] d
+  unit_fits : {b c d : Declared} {u more : List ℕ} {qs : List Captured} → IsUnit b u qs c
+      → held_length b c (length u) ≤ room → FitUnits room c more d → FitUnits room b (u ++ more) d
+
+-- ---- why no unit comes
 
 -- Why no unit came: a fault is in its place, or the device failed, or memory ran out.
 abbrev pub IsReason : Declared → List ℕ → Fault → Type 0
@@ -212,7 +271,8 @@ pub record RecordTaken {I : Type 0} (device : Ghosts I) (head : Head) (old : I) 
   pub counted : device.given new ≡ device.given old + (16 + found.captured)
   pub bounded : device.given new < 2 ^ 63
   pub failed : device.failures new ≡ device.failures old
-  pub never : device.never_fails new ≡ device.never_fails old
+  pub sure : device.sure new ≡ device.sure old
+  pub enough : 0 < device.failures new → HasGiven (device.sure new) (device.given new)
   pub splits : IsTrue device.tells
       → device.unread old ≡ take (16 + found.captured) buffer ++ device.unread new
 
@@ -220,7 +280,7 @@ pub record RecordTaken {I : Type 0} (device : Ghosts I) (head : Head) (old : I) 
 pub record NothingTaken {I : Type 0} (device : Ghosts I) (old new : I) : Type 0 where
   pub counted : device.given new ≡ device.given old
   pub failed : device.failures new ≡ device.failures old
-  pub never : device.never_fails new ≡ device.never_fails old
+  pub sure : device.sure new ≡ device.sure old
   pub rest : IsTrue device.tells → device.unread new ≡ device.unread old
 
 -- ---- a unit
@@ -287,11 +347,13 @@ BeginsBlock state.Unknown front = is_section front ≡ true
 BeginsBlock (state.Pcap head) front = ⊥
 BeginsBlock (state.Pcapng order first) front = Unit {0}
 
--- What reading a unit whose first bytes had come did: to the device, to the buffer, to where a
--- packet lies in it, and to what is known of the file. A fault leaves what is known.
+-- What reading a unit whose first bytes had come did: to the device, to the buffer, which had room
+-- for so many bytes, to where a packet lies in it, and to what is known of the file. A fault leaves
+-- what is known.
 pub record ReadsUnit {I : Type 0} (device : Ghosts I) (old : I) (front : List ℕ) (file : FileState)
-    (interfaces : List Described) (r : Result NextUnit Fault) (new : I) (buffer : List ℕ)
-    (spans : PacketSpans) (file' : FileState) (interfaces' : List Described) : Type 0 where
+    (interfaces : List Described) (room : ℕ) (r : Result NextUnit Fault) (new : I)
+    (buffer : List ℕ) (spans : PacketSpans) (file' : FileState)
+    (interfaces' : List Described) : Type 0 where
   pub moves : Moves device old new (length front) (unit_size spans) most_in_unit r
   pub sized : IfOk r (λ came. IsSized spans came buffer (device.given new))
   pub consistent : OnOk r (IsConsistent file' interfaces')
@@ -305,3 +367,12 @@ pub record ReadsUnit {I : Type 0} (device : Ghosts I) (old : I) (front : List �
       → NoUnitCame (declared_by file interfaces) (front ++ device.unread old)
       (device.unread new) fault)
   pub kept : OnErr r ((file' ≡ file) × (interfaces' ≡ interfaces))
+  -- the buffer has room for the unit, and never less; it has no more than a unit may need
+  pub grown : room ≤ length buffer
+  pub bounded : room ≤ most_in_unit → length buffer ≤ most_in_unit
+  pub fits : IfOk r
+      (λ came. held_length (declared_by file interfaces) (declared_by file' interfaces')
+      (unit_size spans came) ≤ length buffer)
+  -- memory runs out only for a unit that takes some
+  pub memory : r ≡ Err NoMemory → IsTrue device.tells
+      → TakesMemory (length buffer) (declared_by file interfaces) (front ++ device.unread old)

@@ -1,7 +1,9 @@
 -- What a contract sees of a source, and what its calls do.
 use Rattle.std.specs.Prelude.{◌≡◌, ℕ, ◌+◌, ◌^◌, ◌<◌, ◌≤◌, Bool, true, false, IsTrue, List, [], ◌∷◌, ◌++◌, length, take, Option, None, Some, Result, Ok, Err, OnOk, OnErr, is_some}
+use Rattle.cap_octet.specs.Device.{HasGiven}
 use Rattle.cap_octet.specs.Packet.{Captured}
 use Rattle.cap_octet.specs.declared.fault.Fault.{Fault}
+use Rattle.cap_octet.specs.declared.fault.Fault.TheVariants.{NoMemory}
 use Rattle.cap_pcapng.specs.Interface.{FitSection, Described}
 use Rattle.cap_io.specs.declared.source.Stage.{Stage}
 use Rattle.cap_io.specs.declared.source.Stage.TheVariants as stage
@@ -10,7 +12,7 @@ use Rattle.cap_io.specs.declared.file_state.NextUnit.TheVariants as next_unit
 use Rattle.cap_io.specs.declared.file_state.PacketSpans.{PacketSpans}
 use Rattle.cap_io.specs.declared.file_state.FileState.{FileState}
 use Rattle.cap_io.specs.Capture.{Declared, Nothing, PcapFile, PcapngFile, IsUnit, AreUnits, Stops, front_of}
-use Rattle.cap_io.specs.Reading.{most_in_unit, read_failures, HasInterface, IsReason, IsTaken, FitsBuffer, IsConsistent, declared_by, packet_in_unit}
+use Rattle.cap_io.specs.Reading.{most_in_unit, read_failures, HasInterface, IsReason, IsTaken, FitsBuffer, FitUnits, TakesMemory, IsConsistent, declared_by, packet_in_unit}
 
 -- ---- the view
 
@@ -33,12 +35,14 @@ pub record SourceView : Type 0 where
   pub unread : List ℕ
   pub given : ℕ
   pub failures : ℕ
-  -- whether the device never fails
-  pub never_fails : Bool
+  -- how many bytes the device gives at least before it fails; `None`: it never fails
+  pub sure : Option ℕ
+  -- how many bytes the block has room for
+  pub room : ℕ
 
 -- a source of which nothing is read yet
-abbrev pub source_at : List ℕ → ℕ → ℕ → Bool → SourceView
-source_at unread given failures never_fails = record {
+abbrev pub source_at : List ℕ → ℕ → ℕ → Option ℕ → SourceView
+source_at unread given failures sure = record {
   phase = Reading;
   declared = Nothing;
   packet = None;
@@ -47,7 +51,8 @@ source_at unread given failures never_fails = record {
   unread = unread;
   given = given;
   failures = failures;
-  never_fails = never_fails;
+  sure = sure;
+  room = 0;
 }
 
 -- ---- the view of the fields
@@ -72,8 +77,8 @@ packet_at stage.Ended spans declared buffer = None
 packet_at (stage.Failed fault) spans declared buffer = None
 
 abbrev pub view_of : Stage → PacketSpans → FileState → List Described → List ℕ → ℕ → List ℕ → ℕ → ℕ
-    → Bool → SourceView
-view_of stage spans file interfaces buffer offset unread given failures never_fails = record {
+    → Option ℕ → SourceView
+view_of stage spans file interfaces buffer offset unread given failures sure = record {
   phase = phase_at stage;
   declared = declared_by file interfaces;
   packet = packet_at stage spans (declared_by file interfaces) buffer;
@@ -82,7 +87,8 @@ view_of stage spans file interfaces buffer offset unread given failures never_fa
   unread = unread;
   given = given;
   failures = failures;
-  never_fails = never_fails;
+  sure = sure;
+  room = length buffer;
 }
 
 abbrev pub HoldsIfAny : Stage → PacketSpans → List ℕ → Type 0
@@ -105,6 +111,7 @@ pub record IsSound (stage : Stage) (spans : PacketSpans) (file : FileState)
   pub lies : HoldsIfAny stage spans buffer
   pub known : HasInterfaceIfInHand stage spans (declared_by file interfaces)
   pub consistent : IsConsistent file interfaces
+  pub bounded : length buffer ≤ most_in_unit
 
 -- ---- what an advance does
 
@@ -115,6 +122,9 @@ pub record SkipsUnits (old new : SourceView) (rest : List ℕ) : Type 0 where
   pub splits : old.unread ≡ passed ++ rest
   pub units : AreUnits old.declared (old.offset + length old.block) passed [] new.declared
   pub offset : new.offset ≡ old.offset + length old.block + length passed
+  -- the block, which never has less room than before, has room for each of them
+  pub room : old.room ≤ new.room
+  pub fit : FitUnits new.room old.declared passed new.declared
 
 -- the next packet is current
 pub record FindsPacket (old new : SourceView) : Type 0 where
@@ -122,6 +132,7 @@ pub record FindsPacket (old new : SourceView) : Type 0 where
   pub packet : Captured
   pub held : new.packet ≡ Some packet
   pub unit : IsUnit new.declared new.block (packet ∷ []) new.declared
+  pub fits : length new.block ≤ new.room
   pub phase : new.phase ≡ Reading
 
 -- there is no further packet
@@ -138,7 +149,9 @@ pub record IsBroken (old new : SourceView) (fault : Fault) : Type 0 where
   pub rest : List ℕ
   pub passes : SkipsUnits old new rest
   pub why : IsReason new.declared rest fault
+  pub memory : fault ≡ NoMemory → TakesMemory new.room new.declared rest
   pub taken : IsTaken new.declared rest new.unread fault
+  pub counted : new.given + length new.unread ≡ old.given + length old.unread
   pub block : new.block ≡ []
   pub packet : new.packet ≡ None
 
@@ -183,11 +196,13 @@ pub record KeepsBounds (old : SourceView) (r : Result Bool Fault) (new : SourceV
   pub given : old.given ≤ new.given
   -- a failed read is told exactly where the device failed in this call
   pub failures : new.failures ≡ old.failures + read_failures r
-  -- and a device that never fails didn't
-  pub never : new.never_fails ≡ old.never_fails
-  pub unfailed : IsTrue old.never_fails → new.failures ≡ old.failures
-  -- at most one unit is held
-  pub block : length new.block ≤ most_in_unit
+  -- and it had given as many bytes as it was sure to
+  pub sure : new.sure ≡ old.sure
+  pub enough : 0 < new.failures → HasGiven new.sure new.given
+  -- at most one unit is held, in a block that has room for it and never less than before
+  pub block : length new.block ≤ new.room
+  pub held : new.room ≤ most_in_unit
+  pub room : old.room ≤ new.room
   pub progress : r ≡ Ok true → old.given < new.given
   pub bounded : r ≡ Ok true → new.given < 2 ^ 63
   -- there is a current packet
@@ -217,7 +232,8 @@ past_unit s = record {
   unread = s.unread;
   given = s.given;
   failures = s.failures;
-  never_fails = s.never_fails;
+  sure = s.sure;
+  room = s.room;
 }
 
 -- no packet is current
@@ -238,9 +254,11 @@ pub record NextBounds (old : SourceView) (r : Result NextUnit Fault)
     (new : SourceView) : Type 0 where
   pub given : old.given ≤ new.given
   pub failures : new.failures ≡ old.failures + read_failures r
-  pub never : new.never_fails ≡ old.never_fails
-  pub unfailed : IsTrue old.never_fails → new.failures ≡ old.failures
-  pub block : length new.block ≤ most_in_unit
+  pub sure : new.sure ≡ old.sure
+  pub enough : 0 < new.failures → HasGiven new.sure new.given
+  pub block : length new.block ≤ new.room
+  pub held : new.room ≤ most_in_unit
+  pub room : old.room ≤ new.room
   pub packet : r ≡ Ok next_unit.Packet
       → (old.given < new.given) × (new.given < 2 ^ 63) × (is_some new.packet ≡ true)
   pub counted : OnOk r (new.given + end_offset old ≡ old.given + end_offset new)
@@ -264,5 +282,6 @@ pub record TakesNothing (tells : Bool) (old new : SourceView) : Type 0 where
   pub offset : new.offset ≡ old.offset
   pub given : new.given ≡ old.given
   pub failures : new.failures ≡ old.failures
-  pub never : new.never_fails ≡ old.never_fails
+  pub sure : new.sure ≡ old.sure
+  pub room : new.room ≡ old.room
   pub unread : IsTrue tells → new.unread ≡ old.unread

@@ -1,5 +1,5 @@
 //! The next unit of a file of either format.
-ghost use Rattle.std.specs.Prelude.{◌≡◌, ◌++◌, IsTrue, IfOk, IfErr, []};
+ghost use Rattle.std.specs.Prelude.{◌≡◌, ◌++◌, IsTrue, IfOk, IfErr, [], length};
 ghost use Rattle.cap_io.specs.Capture.{Nothing};
 ghost use Rattle.cap_io.specs.Reading.{IsConsistent, Moves, ReadsUnit, NoUnitCame};
 ghost use Rattle.cap_io.specs.declared.file_state.FileState.TheVariants as state;
@@ -22,6 +22,7 @@ fn read_first<I: Input>(input: &mut I) -> Result<[u8; 4], Fault>
         ≡ first ++ I.unread input.new) }
     ensures err { IfErr result (λ fault. IsTrue I.tells → NoUnitCame Nothing (I.unread input.old)
         (I.unread input.new) fault) }
+    ensures memory { IfErr result (λ fault. fault ≡ Fault.NoMemory → ⊥) }
 {
     let mut first = [0; 4];
     let Ok(count) = read_full(input, &mut first) else {
@@ -43,8 +44,8 @@ fn first_unit<I: Input, A: Allocator>(
 ) -> Result<NextUnit, Fault>
     requires unknown { file.old ≡ state.Unknown }
     requires empty { table.old ≡ [] }
-    ensures { ReadsUnit I.Input input.old [] file.old table.old result input.new
-        buffer.new.items spans.new file.new table.new }
+    ensures { ReadsUnit I.Input input.old [] file.old table.old (length buffer.old.items) result
+        input.new buffer.new.items spans.new file.new table.new }
 {
     let first = read_first(input)?;
     if !begins_section(&first) {
@@ -66,8 +67,8 @@ pub(crate) fn read_unit<I: Input, A: Allocator>(
     spans: &mut PacketSpans,
 ) -> Result<NextUnit, Fault>
     requires { IsConsistent file.old table.old }
-    ensures { ReadsUnit I.Input input.old [] file.old table.old result input.new
-        buffer.new.items spans.new file.new table.new }
+    ensures { ReadsUnit I.Input input.old [] file.old table.old (length buffer.old.items) result
+        input.new buffer.new.items spans.new file.new table.new }
 {
     match &*file {
         FileState::Unknown => first_unit(input, file, buffer, table, spans),

@@ -26,6 +26,7 @@ pub(crate) fn read_header<I: Input>(input: &mut I, first: &[u8; 4]) -> Result<He
         head (I.unread input.new)) }
     ensures err { IfErr result (λ fault. IsTrue I.tells → NoUnitCame Nothing
         (first.now ++ I.unread input.old) (I.unread input.new) fault) }
+    ensures memory { IfErr result (λ fault. fault ≡ Fault.NoMemory → ⊥) }
 {
     if read_magic(first).is_none() {
         return Err(Fault::NotACaptureFile);
@@ -70,7 +71,8 @@ pub(crate) fn next_record<I: Input, A: Allocator>(
     spans: &mut PacketSpans,
 ) -> Result<NextUnit, Fault>
     ensures { (interfaces : List Described) → ReadsUnit I.Input input.old [] (state.Pcap head.now)
-        interfaces result input.new buffer.new.items spans.new (state.Pcap head.now) interfaces }
+        interfaces (length buffer.old.items) result input.new buffer.new.items spans.new
+        (state.Pcap head.now) interfaces }
 {
     let mut front = [0; RECORD_HEAD];
     if !read_front(input, &mut front)? {

@@ -139,8 +139,8 @@ pub(crate) fn read_block<I: Input, A: Allocator>(
     requires consistent { IsConsistent file.old table.old }
     requires begins { BeginsBlock file.old front.now }
     requires bounded { I.given input.old < 2 ^ 63 }
-    ensures { ReadsUnit I.Input input.old front.now file.old table.old result input.new
-        buffer.new.items spans.new file.new table.new }
+    ensures { ReadsUnit I.Input input.old front.now file.old table.old (length buffer.old.items) result
+        input.new buffer.new.items spans.new file.new table.new }
 {
     let found = frame(file.order(), front)?;
     let size = found.length as usize;
@@ -169,8 +169,8 @@ pub(crate) fn next_block<I: Input, A: Allocator>(
 ) -> Result<NextUnit, Fault>
     requires section { IsTrue (is_some (known_order file.old)) }
     requires consistent { IsConsistent file.old table.old }
-    ensures { ReadsUnit I.Input input.old [] file.old table.old result input.new
-        buffer.new.items spans.new file.new table.new }
+    ensures { ReadsUnit I.Input input.old [] file.old table.old (length buffer.old.items) result
+        input.new buffer.new.items spans.new file.new table.new }
 {
     let mut front = [0; BLOCK_FRONT];
     if !read_front(input, &mut front)? {

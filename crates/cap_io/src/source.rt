@@ -50,7 +50,7 @@ impl<I: Input, A: Allocator> Model for Source<I, A> {
     ghost Value = { SourceView };
 
     ghost view = { λ s. view_of s.stage s.spans s.file s.table s.buffer.items s.offset
-        (I.unread s.input) (I.given s.input) (I.failures s.input) (I.never_fails s.input) };
+        (I.unread s.input) (I.given s.input) (I.failures s.input) (I.sure s.input) };
 
     ghost invariant = { λ s. IsSound s.stage s.spans s.file s.table s.offset
         s.buffer.items (I.given s.input) };
@@ -73,7 +73,7 @@ impl<I: Input, A: Allocator> Source<I, A> {
     where
         A: Copy,
         ensures { result ≡ source_at (I.unread input) (I.given input) (I.failures input)
-            (I.never_fails input) }
+            (I.sure input) }
     {
         Source {
             input,
@@ -165,7 +165,7 @@ impl<I: Input, A: Allocator> Source<I, A> {
     where
         A: Drop,
         ensures failures { I.failures result ≡ self.failures }
-        ensures never { I.never_fails result ≡ self.never_fails }
+        ensures sure { I.sure result ≡ self.sure }
         ensures given { I.given result ≡ self.given }
         ensures unread { I.unread result ≡ self.unread }
     {

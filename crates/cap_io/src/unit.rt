@@ -1,7 +1,7 @@
 //! The bytes of a unit, read from a device to the start of the block buffer.
 ghost use Rattle.std.specs.Prelude.{◌≡◌, ℕ, ◌+◌, ◌^◌, ◌<◌, ◌≤◌, ◌++◌, true, false, IsTrue, IfOk};
 ghost use Rattle.std.specs.Prelude.{IfErr, OnOk, if◌then◌else◌, length, take, drop, vec_len};
-ghost use Rattle.cap_io.specs.Reading.{FrontCame, FrontMissing, Moves, RestMissing};
+ghost use Rattle.cap_io.specs.Reading.{FrontCame, FrontMissing, Moves, RestMissing, most_in_unit};
 
 use cap_octet::{Fault, Input, read_full};
 use std::alloc::Allocator;
@@ -21,6 +21,7 @@ pub(crate) fn read_front<I: Input>(input: &mut I, front: &mut [u8]) -> Result<bo
         found (I.unread input.new)) }
     ensures err { IfErr result (λ fault. IsTrue I.tells → FrontMissing (length front.old)
         (I.unread input.old) (I.unread input.new) fault) }
+    ensures memory { IfErr result (λ fault. fault ≡ Fault.NoMemory → ⊥) }
 {
     let room = front.len();
     let Ok(count) = read_full(input, front) else {
@@ -38,7 +39,11 @@ pub(crate) fn read_front<I: Input>(input: &mut I, front: &mut [u8]) -> Result<bo
 /// Makes room for a unit of so many bytes. What is in the buffer already is of no use.
 pub(crate) fn make_room<A: Allocator>(buffer: &mut Vec<u8, A>, size: usize) -> Result<(), Fault>
     ensures room { OnOk result (size ≤ vec_len buffer.new) }
-    ensures memory { IfErr result (λ fault. fault ≡ Fault.NoMemory) }
+    ensures grown { length buffer.old.items ≤ length buffer.new.items }
+    ensures bounded { size ≤ most_in_unit → length buffer.old.items ≤ most_in_unit
+        → length buffer.new.items ≤ most_in_unit }
+    ensures memory { IfErr result (λ fault. (fault ≡ Fault.NoMemory)
+        × (length buffer.new.items < size)) }
 {
     if buffer.len() < size && buffer.resize(size.max(SHORT_UNIT), 0).is_err() {
         return Err(Fault::NoMemory);
@@ -63,6 +68,7 @@ pub(crate) fn read_rest<I: Input>(
         ≡ drop (length front.now) (take size buffer.new) ++ I.unread input.new) }
     ensures err { IfErr result (λ fault. IsTrue I.tells → RestMissing (length front.now) size
         (I.unread input.old) (I.unread input.new) fault) }
+    ensures memory { IfErr result (λ fault. fault ≡ Fault.NoMemory → ⊥) }
 {
     let from = front.len();
     let unit = &mut buffer[..size];

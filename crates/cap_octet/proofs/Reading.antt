@@ -90,3 +90,9 @@ held-consumed false held (Some xs) after n within drops =
     let parts : take n held ++ (drop n held ++ xs) ≡ held ++ xs =
     sym (append_assoc (take n held) (drop n held) xs) ∙ ap (λ (x : List ℕ). x ++ xs) (take-append-drop n held) in
     rw (drops within) (rw (drop-append-le n held xs within) (sym parts))
+
+-- what was given is no longer unread
+pub told-again : (t0 : ℕ) (u b : List ℕ) (g g' n : ℕ) (u' b' : List ℕ) → TakesSome u b n u' b' → g' ≡ g + n → g + length u ≡ t0 → g' + length u' ≡ t0
+told-again t0 u b g g' n u' b' came counted before =
+    let rest : length u' ≡ length u - n = ap length came.taken.rest ∙ length-drop n u in
+    omega (arith, rest, came.taken.there, counted, before)

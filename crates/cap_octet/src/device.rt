@@ -120,6 +120,8 @@ pub fn read_full<I: Input>(input: &mut I, buf: &mut [u8]) -> Result<usize, Devic
         + length buf.old) }
     ensures failed { I.failures input.new ≡ I.failures input.old + failures_of result }
     ensures sure { I.sure input.new ≡ I.sure input.old }
+    ensures told { IsTrue I.tells → I.given input.new + length (I.unread input.new)
+        ≡ I.given input.old + length (I.unread input.old) }
     ensures exact { IsTrue I.tells
         → Fills (I.unread input.old) buf.old (I.given input.old) result (I.unread input.new) buf.new
         (I.given input.new) }
@@ -150,6 +152,8 @@ fn read_in_turns<I: Input>(input: &mut I, buf: &mut [u8]) -> Result<usize, Devic
         + length buf.old) }
     ensures failed { I.failures input.new ≡ I.failures input.old + failures_of result }
     ensures sure { I.sure input.new ≡ I.sure input.old }
+    ensures told { IsTrue I.tells → I.given input.new + length (I.unread input.new)
+        ≡ I.given input.old + length (I.unread input.old) }
     ensures exact { IsTrue I.tells
         → Fills (I.unread input.old) buf.old (I.given input.old) result (I.unread input.new) buf.new
         (I.given input.new) }

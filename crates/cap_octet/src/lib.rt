@@ -3,8 +3,8 @@
 //! Nothing here takes memory.
 #![tactic(auto)]
 
-pub mod assigned;
 mod asked;
+pub mod assigned;
 mod calendar;
 mod count;
 pub mod date;

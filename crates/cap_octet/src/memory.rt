@@ -6,8 +6,8 @@ ghost use Rattle.std.proofs.Common.{rules};
 ghost use Rattle.std.specs.Io.{StartsWith};
 ghost use Rattle.cap_octet.specs.Device.{Passes, Reads, Writes, count_of, failures_of};
 
-use crate::device::{DeviceFault, Input, Output};
 use crate::count::ContractCount;
+use crate::device::{DeviceFault, Input, Output};
 
 /// Gives the bytes of a slice, and never fails.
 #[derive(Drop)]

@@ -8,9 +8,9 @@ ghost use Rattle.std.specs.Io.{StartsWith};
 ghost use Rattle.cap_octet.specs.Device.{Passes, Reads, Writes, count_of, failures_of};
 ghost use Rattle.cap_octet.specs.Stream.{HandsOver, IsOneRead, IsOneWrite, IsPassed, TakesOver};
 
-use crate::device::{DeviceFault, Input, Output};
 use crate::asked::{AskedReader, AskedWriter};
 use crate::count::ContractCount;
+use crate::device::{DeviceFault, Input, Output};
 use std::io::{BufReader, BufWriter, ErrorKind, Read, Write};
 
 /// Fewer bytes than this are read from one input.

@@ -8,8 +8,8 @@ ghost use Rattle.std.specs.Option.{option_map};
 ghost use Rattle.std.specs.Io.{StartsWith};
 ghost use Rattle.cap_octet.specs.Device.{Passes, Reads, Writes, count_of, failures_of};
 
-use crate::device::{DeviceFault, Input, Output};
 use crate::count::ContractCount;
+use crate::device::{DeviceFault, Input, Output};
 use crate::memory::{MemInput, MemOutput};
 
 /// Gives the bytes of a slice, at most `piece` a read, and fails at its read number `at`, counted

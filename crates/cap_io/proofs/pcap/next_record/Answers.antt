@@ -1,7 +1,7 @@
-use Rattle.std.proofs.Common.{rules, ◌+◌, take, refl, arith}
+use Rattle.std.proofs.Common.{rules, ◌≡◌, ◌+◌, length, take, refl, arith}
 use Rattle.std.proofs.lemmas.List.{take_at}
 use Rattle.std.proofs.lemmas.Result.{err_from_is_err_and}
-use Rattle.cap_io.proofs.Came.{fields_came, fields_refused, no_room, data_missing, record_came}
+use Rattle.cap_io.proofs.Came.{error_is, fields_came, fields_refused, fields-has_memory, no_room, data_missing, record_came, record-takes}
 use Rattle.cap_io.proofs.pcap.next_record.Goals as goal
 
 pub returns-in_err-found : goal.returns-in_err-found
@@ -15,12 +15,16 @@ returns-in_err-found g c =
       ok = tt;
       err = λ t. fields_refused _ _ _ c.read_front.new.front _ _ (rw c.if-not-branch.false at (c.in_ok-read_front.ensures.ok t)) (search rules) c.read_record.ensures.answer c.in_err-found.was;
       kept = (refl, refl);
+      grown = omega arith;
+      bounded = λ most. most;
+      fits = tt;
+      memory = λ e. absurd (fields-has_memory c.args.head.now c.read_front.new.front _ _ c.read_record.ensures.answer c.in_err-found.was (error_is e));
     })
 
 pub returns-in_err-make_room : goal.returns-in_err-make_room
 returns-in_err-make_room g c =
     let p = err_from_is_err_and c.from_residual-in_err-make_room.result c.from_residual-in_err-make_room.ensures.1 in
-    rw (p.1, p.2, c.in_err-make_room.ensures.memory) (λ interfaces. record {
+    rw (p.1, p.2, c.in_err-make_room.ensures.memory.0) (λ interfaces. record {
       moves = search rules;
       sized = tt;
       consistent = tt;
@@ -28,6 +32,11 @@ returns-in_err-make_room g c =
       ok = tt;
       err = λ t. no_room _ _ _ c.read_front.new.front (rw c.if-not-branch.false at (c.in_ok-read_front.ensures.ok t)) (search rules);
       kept = (refl, refl);
+      grown = c.make_room.ensures.grown;
+      bounded = λ most. c.make_room.ensures.bounded (omega (arith, c.in_ok-found.ensures.short)) most;
+      fits = tt;
+      memory = λ e t. record-takes c.args.head.now _ _ c.read_front.new.front c.in_ok-found.found _ _ refl (rw c.if-not-branch.false at (c.in_ok-read_front.ensures.ok t)) (search rules)
+          (fields_came _ _ _ _ c.read_record.ensures.answer c.in_ok-found.was) (search rules);
     })
 
 pub returns-in_err-read_rest : goal.returns-in_err-read_rest
@@ -42,6 +51,10 @@ returns-in_err-read_rest g c =
       err = λ t. data_missing _ _ _ _ c.read_front.new.front c.in_ok-found.found _ _ (search rules) (rw c.if-not-branch.false at (c.in_ok-read_front.ensures.ok t)) (search rules)
           (fields_came _ _ _ _ c.read_record.ensures.answer c.in_ok-found.was) (omega (arith, c.in_ok-found.ensures.short)) (c.in_err-read_rest.ensures.err t);
       kept = (refl, refl);
+      grown = rw (take_at c.read_rest.new.buffer _ c.make_room.new.buffer.len (search rules)) (let size : length c.read_rest.new.buffer ≡ c.make_room.new.buffer.len = search rules in omega (arith, size, c.make_room.ensures.grown, c.make_room.new.buffer.ok.0));
+      bounded = λ most. rw (take_at c.read_rest.new.buffer _ c.make_room.new.buffer.len (search rules)) (let size : length c.read_rest.new.buffer ≡ c.make_room.new.buffer.len = search rules in omega (arith, size, c.make_room.ensures.bounded (omega (arith, c.in_ok-found.ensures.short)) most, c.make_room.new.buffer.ok.0));
+      fits = tt;
+      memory = λ e. absurd (c.in_err-read_rest.ensures.memory (error_is e));
     })
 
 pub returns : goal.returns
@@ -65,4 +78,8 @@ returns g c = rw c.record_spans.ensures (λ interfaces. record {
       (fields_came _ _ _ _ c.read_record.ensures.answer c.in_ok-found.was) refl (search rules) c.in_ok-read_rest.ensures.same (c.in_ok-read_rest.ensures.ok t) (rw (take_at c.read_rest.new.buffer _ c.make_room.new.buffer.len (search rules)) refl);
   err = tt;
   kept = tt;
+  grown = rw (take_at c.read_rest.new.buffer _ c.make_room.new.buffer.len (search rules)) (let size : length c.read_rest.new.buffer ≡ c.make_room.new.buffer.len = search rules in omega (arith, size, c.make_room.ensures.grown, c.make_room.new.buffer.ok.0));
+  bounded = λ most. rw (take_at c.read_rest.new.buffer _ c.make_room.new.buffer.len (search rules)) (let size : length c.read_rest.new.buffer ≡ c.make_room.new.buffer.len = search rules in omega (arith, size, c.make_room.ensures.bounded (omega (arith, c.in_ok-found.ensures.short)) most, c.make_room.new.buffer.ok.0));
+  fits = rw (take_at c.read_rest.new.buffer _ c.make_room.new.buffer.len (search rules)) (let size : length c.read_rest.new.buffer ≡ c.make_room.new.buffer.len = search rules in omega (arith, size, c.in_ok-make_room.ensures.room));
+  memory = λ e. (cc);
 })

@@ -1,6 +1,6 @@
 use Rattle.std.proofs.Common.{rules, refl, sym, ap, ◌∙◌, is_some, not}
 use Rattle.std.proofs.lemmas.Result.{err_from_is_err_and}
-use Rattle.cap_io.proofs.Came.{first_of, no_magic, none_if_not, rest_of_header, joined_front, header_came, header_refused, section_of_bytes}
+use Rattle.cap_io.proofs.Came.{first_of, no_magic, none_if_not, rest_of_header, joined_front, header-has_memory, header_came, header_refused, section_of_bytes}
 use Rattle.cap_io.proofs.pcap.read_header.Goals as goal
 
 pub returns-then-is_none-clause-err : goal.returns-then-is_none-clause-err
@@ -25,3 +25,6 @@ returns-clause-err g c =
     header_refused g.I.Input.tells _ _ c.read_rest.new.buffer _
     (λ t. joined_front _ _ _ c.args.first.now c.read_rest.new.buffer 24 (search rules) refl c.in_ok-read_rest.ensures.same (c.in_ok-read_rest.ensures.ok t))
     (search rules) (section_of_bytes c.read_rest.new.buffer c.args.first.now front (search rules) ∙ c.requires) c.read_head.ensures
+
+pub returns-clause-memory : goal.returns-clause-memory
+returns-clause-memory g c = header-has_memory c.read_rest.new.buffer _ c.read_head.ensures

@@ -26,7 +26,8 @@ returns-then-pass-clause-taken g c =
       counted = search rules;
       bounded = search rules;
       failed = search rules;
-      never = search rules;
+      sure = search rules;
+      enough = search rules;
       splits = λ t.
           taken-first (g.I.Input.unread c.args.input.now) (g.I.Input.unread c.pass.new.self) hand size (c.at_hand-hand.ensures.exact t) c.if-size-hand.false (subst T c.if-pass.true (c.pass.ensures.exact t))
           ∙ ap (λ (l : List ℕ). l ++ g.I.Input.unread c.pass.new.self) (sym c.copy_unit.ensures.copied);

@@ -1,5 +1,6 @@
-use Rattle.std.proofs.Common.{rules, refl}
+use Rattle.std.proofs.Common.{rules, refl, arith}
 use Rattle.std.proofs.lemmas.Result.{err_from_is_err_and}
+use Rattle.cap_io.proofs.Came.{error_is}
 use Rattle.cap_io.proofs.CapturesCame.{begun-front}
 use Rattle.cap_io.proofs.pcapng.next_block.Goals as goal
 
@@ -14,4 +15,8 @@ returns-in_err-read_front g c =
       ok = tt;
       err = λ t. begun-front c.args.file.now c.args.table.now _ _ _ c.requires.section (c.in_err-read_front.ensures.err t);
       kept = (refl, refl);
+      grown = omega arith;
+      bounded = λ most. most;
+      fits = tt;
+      memory = λ e. absurd (c.in_err-read_front.ensures.memory (error_is e));
     })

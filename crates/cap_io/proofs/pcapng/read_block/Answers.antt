@@ -1,12 +1,15 @@
-use Rattle.std.proofs.Common.{rules, length, take, ap, arith, refl, sym, ◌∙◌}
+use Rattle.std.proofs.Common.{rules, ◌≡◌, length, take, ap, arith, refl, sym, ◌∙◌}
 use Rattle.std.proofs.lemmas.List.{take_at}
 use Rattle.std.proofs.lemmas.Result.{err_from_is_err_and}
 use Rattle.cap_pcapng.specs.Frame.{frame_in}
 use Rattle.cap_io.specs.Blocks.{section_of}
-use Rattle.cap_io.specs.Reading.{known_first_link, section_before}
-use Rattle.cap_io.proofs.BlocksCame.{block_came, entry_refused, frame_refused, front_says, no_room_for_block, rest_of_block, whole_came}
-use Rattle.cap_io.proofs.CapturesCame.{first-again, has-section, interfaces-held, interfaces-kept, order-held, packet-block, passed-block, refused-block, section-fits, small-behind}
-use Rattle.cap_io.proofs.OwnFaults.{entry-own}
+use Rattle.cap_io.specs.Capture.{PcapngFile, first_link_after}
+use Rattle.cap_io.specs.Reading.{declared_by, known_first_link, section_before}
+use Rattle.cap_io.proofs.BlocksCame.{adds-describes, block-exceeds, block_came, entry_refused, frame-has_memory, frame_refused, front_says, no_room_for_block, rest_of_block, whole_came}
+use Rattle.cap_io.proofs.Came.{error_is}
+use Rattle.cap_io.proofs.CapturesCame.{block-takes, first-again, has-section, interface-takes, interfaces-held, interfaces-kept, order-held, packet-block, passed-block, refused-block, section-fits, small-behind}
+use Rattle.cap_io.proofs.Fitting.{held_length-le}
+use Rattle.cap_io.proofs.OwnFaults.{entry-adds, entry-own}
 use Rattle.cap_io.proofs.pcapng.read_block.Goals as goal
 
 pub returns-in_err-found : goal.returns-in_err-found
@@ -21,12 +24,16 @@ returns-in_err-found g c =
       err = λ t. refused-block c.args.file.now c.args.table.now c.args.front.now _ _ _ (search rules) c.requires.begins
           (frame_refused (section_before c.args.file.now c.args.table.now) c.order.result c.args.front.now _ _ _ (order-held c.args.file.now c.args.table.now ∙ sym c.order.ensures) (search rules) c.frame.ensures.answer c.in_err-found.was);
       kept = (refl, refl);
+      grown = omega arith;
+      bounded = λ most. most;
+      fits = tt;
+      memory = λ e. absurd (frame-has_memory c.order.result c.args.front.now _ _ c.frame.ensures.answer c.in_err-found.was (error_is e));
     })
 
 pub returns-in_err-make_room : goal.returns-in_err-make_room
 returns-in_err-make_room g c =
     let p = err_from_is_err_and c.from_residual-in_err-make_room.result c.from_residual-in_err-make_room.ensures.1 in
-    rw (p.1, p.2, c.in_err-make_room.ensures.memory) (record {
+    rw (p.1, p.2, c.in_err-make_room.ensures.memory.0) (record {
       moves = search rules;
       sized = tt;
       consistent = tt;
@@ -35,6 +42,12 @@ returns-in_err-make_room g c =
       err = λ t. refused-block c.args.file.now c.args.table.now c.args.front.now _ _ _ (search rules) c.requires.begins
           (no_room_for_block (section_before c.args.file.now c.args.table.now) c.args.front.now _ (search rules));
       kept = (refl, refl);
+      grown = c.make_room.ensures.grown;
+      bounded = λ most. c.make_room.ensures.bounded c.in_ok-found.ensures.longest most;
+      fits = tt;
+      memory = λ e t. block-takes c.args.file.now c.args.table.now c.args.front.now _ _ (search rules) c.requires.begins
+          (block-exceeds (section_before c.args.file.now c.args.table.now) c.order.result c.args.front.now _ c.in_ok-found.found _ (order-held c.args.file.now c.args.table.now ∙ sym c.order.ensures) (search rules)
+          (front_says c.order.result c.args.front.now _ c.in_ok-found.found c.frame.ensures.answer c.in_ok-found.was) (search rules));
     })
 
 pub returns-in_err-read_rest : goal.returns-in_err-read_rest
@@ -50,6 +63,10 @@ returns-in_err-read_rest g c =
           (rest_of_block (section_before c.args.file.now c.args.table.now) c.order.result c.args.front.now _ _ c.in_ok-found.found _ (order-held c.args.file.now c.args.table.now ∙ sym c.order.ensures) (search rules)
           (front_says c.order.result c.args.front.now _ c.in_ok-found.found c.frame.ensures.answer c.in_ok-found.was) c.in_ok-found.ensures.longest (c.in_err-read_rest.ensures.err t));
       kept = (refl, refl);
+      grown = rw (take_at c.read_rest.new.buffer _ c.make_room.new.buffer.len (search rules)) (let size : length c.read_rest.new.buffer ≡ c.make_room.new.buffer.len = search rules in omega (arith, size, c.make_room.ensures.grown, c.make_room.new.buffer.ok.0));
+      bounded = λ most. rw (take_at c.read_rest.new.buffer _ c.make_room.new.buffer.len (search rules)) (let size : length c.read_rest.new.buffer ≡ c.make_room.new.buffer.len = search rules in omega (arith, size, c.make_room.ensures.bounded c.in_ok-found.ensures.longest most, c.make_room.new.buffer.ok.0));
+      fits = tt;
+      memory = λ e. absurd (c.in_err-read_rest.ensures.memory (error_is e));
     })
 
 pub apply_block-requires-clause-section : goal.apply_block-requires-clause-section
@@ -66,7 +83,9 @@ returns-in-Err g c =
         bounded = tt;
         at_most = omega (arith, moves.counted, c.in_ok-found.ensures.longest);
         failed = omega (arith, moves.failed, own);
-        never = moves.never;
+        sure = moves.sure;
+        enough = moves.enough;
+        told = moves.told;
       };
       sized = tt;
       consistent = tt;
@@ -81,6 +100,17 @@ returns-in-Err g c =
           (rw (take_at c.read_rest.new.buffer _ c.make_room.new.buffer.len (search rules)) refl) c.in_ok-read_rest.ensures.same (c.in_ok-read_rest.ensures.ok t))
           (ap (take c.in_ok-found.found.length) c.deref.ensures.value) c.in-Err.ensures.err);
       kept = (refl, c.in-Err.ensures.kept);
+      grown = rw (take_at c.read_rest.new.buffer _ c.make_room.new.buffer.len (search rules)) (let size : length c.read_rest.new.buffer ≡ c.make_room.new.buffer.len = search rules in omega (arith, size, c.make_room.ensures.grown, c.make_room.new.buffer.ok.0));
+      bounded = λ most. rw (take_at c.read_rest.new.buffer _ c.make_room.new.buffer.len (search rules)) (let size : length c.read_rest.new.buffer ≡ c.make_room.new.buffer.len = search rules in omega (arith, size, c.make_room.ensures.bounded c.in_ok-found.ensures.longest most, c.make_room.new.buffer.ok.0));
+      fits = tt;
+      memory = λ e t. interface-takes c.args.file.now c.args.table.now c.args.front.now _ _ (search rules) c.requires.begins
+          (adds-describes (section_before c.args.file.now c.args.table.now) c.order.result c.args.table.now _ _ _ _ c.in_ok-found.found (order-held c.args.file.now c.args.table.now ∙ sym c.order.ensures)
+          (interfaces-held c.args.file.now c.args.table.now c.args.front.now c.requires.begins c.requires.consistent) c.in_ok-found.ensures.shortest
+          (omega (arith, c.in_ok-make_room.ensures.room, c.deref.ensures.len, ap length c.deref.ensures.value))
+          (whole_came c.order.result c.args.front.now _ _ (take c.in_ok-found.found.length c.read_rest.new.buffer) _ c.in_ok-found.found (search rules)
+          (front_says c.order.result c.args.front.now _ c.in_ok-found.found c.frame.ensures.answer c.in_ok-found.was)
+          (rw (take_at c.read_rest.new.buffer _ c.make_room.new.buffer.len (search rules)) refl) c.in_ok-read_rest.ensures.same (c.in_ok-read_rest.ensures.ok t))
+          (ap (take c.in_ok-found.found.length) c.deref.ensures.value) (entry-adds _ _ _ c.in-Err.fault c.in-Err.ensures.err (error_is e)));
     }
 
 pub returns-in-Ok-Some : goal.returns-in-Ok-Some
@@ -98,7 +128,9 @@ returns-in-Ok-Some g c =
         bounded = λ some. small;
         at_most = tt;
         failed = moves.failed;
-        never = moves.never;
+        sure = moves.sure;
+        enough = moves.enough;
+        told = moves.told;
       };
       sized = (
         record {
@@ -123,6 +155,10 @@ returns-in-Ok-Some g c =
           (ap (take frame.length) c.deref.ensures.value) enters);
       err = tt;
       kept = tt;
+      grown = rw (take_at c.read_rest.new.buffer _ c.make_room.new.buffer.len (search rules)) (let size : length c.read_rest.new.buffer ≡ c.make_room.new.buffer.len = search rules in omega (arith, size, c.make_room.ensures.grown, c.make_room.new.buffer.ok.0));
+      bounded = λ most. rw (take_at c.read_rest.new.buffer _ c.make_room.new.buffer.len (search rules)) (let size : length c.read_rest.new.buffer ≡ c.make_room.new.buffer.len = search rules in omega (arith, size, c.make_room.ensures.bounded c.in_ok-found.ensures.longest most, c.make_room.new.buffer.ok.0));
+      fits = omega (arith, enters.fits.0, held_length-le (declared_by c.args.file.now c.args.table.now) (declared_by c.args.file.now c.apply_block.new.table) c.in-Ok-Some.packet.size, c.in_ok-make_room.ensures.room, c.deref.ensures.len, ap length c.deref.ensures.value);
+      memory = λ e. (cc);
     }
 
 pub returns-in-Ok-None : goal.returns-in-Ok-None
@@ -139,7 +175,9 @@ returns-in-Ok-None g c =
         bounded = λ some. small;
         at_most = tt;
         failed = moves.failed;
-        never = moves.never;
+        sure = moves.sure;
+        enough = moves.enough;
+        told = moves.told;
       };
       sized = (omega (arith, c.in_ok-found.ensures.shortest), small);
       consistent = (first-again (known_first_link c.args.file.now) (section_of frame.order c.apply_block.new.table), c.in-Ok-None.ensures.section);
@@ -154,4 +192,8 @@ returns-in-Ok-None g c =
           (ap (take frame.length) c.deref.ensures.value) enters);
       err = tt;
       kept = tt;
+      grown = rw (take_at c.read_rest.new.buffer _ c.make_room.new.buffer.len (search rules)) (let size : length c.read_rest.new.buffer ≡ c.make_room.new.buffer.len = search rules in omega (arith, size, c.make_room.ensures.grown, c.make_room.new.buffer.ok.0));
+      bounded = λ most. rw (take_at c.read_rest.new.buffer _ c.make_room.new.buffer.len (search rules)) (let size : length c.read_rest.new.buffer ≡ c.make_room.new.buffer.len = search rules in omega (arith, size, c.make_room.ensures.bounded c.in_ok-found.ensures.longest most, c.make_room.new.buffer.ok.0));
+      fits = omega (arith, held_length-le (declared_by c.args.file.now c.args.table.now) (PcapngFile (first_link_after (known_first_link c.args.file.now) (section_of frame.order c.apply_block.new.table)) (section_of frame.order c.apply_block.new.table)) frame.length, c.in_ok-make_room.ensures.room, c.deref.ensures.len, ap length c.deref.ensures.value);
+      memory = λ e. (cc);
     })

@@ -5,18 +5,19 @@ use Rattle.cap_io.proofs.source.Source.skip_to_packet.Goals as goal
 
 pub loop-init : goal.loop-init
 loop-init g c = record {
-  packets = λ t. stays c.args.self.now c.args.self.now c.requires.between refl refl;
+  packets = λ t. stays c.args.self.now c.args.self.now c.requires.between refl refl (omega arith);
   between = c.requires.between;
   given = omega arith;
   failures = refl;
-  never = refl;
+  sure = refl;
+  room = omega arith;
   counted = refl;
 }
 
 pub returns-in_err-read_next-clause-packets : goal.returns-in_err-read_next-clause-packets
 returns-in_err-read_next-clause-packets g c =
     let p = err_from_is_err_and c.from_residual.result c.from_residual.ensures.1 in
-    rw (p.1, p.2) (λ t. IsBroken-then c.args.self.now c.loop.self c.read_next.new.self c.in_err-read_next.field-0.0 (c.loop.invariant.packets t) c.loop.invariant.between.block (c.in_err-read_next.ensures.packets t))
+    rw (p.1, p.2) (λ t. IsBroken-then c.args.self.now c.loop.self c.read_next.new.self c.in_err-read_next.field-0.0 (c.loop.invariant.packets t) c.loop.invariant.between.block c.loop.invariant.counted (c.in_err-read_next.ensures.packets t))
 
 pub returns-in-Packet-clause-packets : goal.returns-in-Packet-clause-packets
 returns-in-Packet-clause-packets g c = λ t.
@@ -34,6 +35,7 @@ loop-preserved g c =
       between = passed.2;
       given = omega (arith, c.loop.invariant.given, bounds.given);
       failures = bounds.failures ∙ omega (arith, c.loop.invariant.failures);
-      never = bounds.never ∙ c.loop.invariant.never;
+      sure = bounds.sure ∙ c.loop.invariant.sure;
+      room = omega (arith, c.loop.invariant.room, bounds.room);
       counted = omega (arith, bounds.counted, c.loop.invariant.counted);
     }

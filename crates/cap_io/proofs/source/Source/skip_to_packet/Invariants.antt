@@ -9,7 +9,8 @@ invariant-loop g l = record {
   given : l.fn.self.given ≤ l.self.given;
   failures : l.self.failures ≡ l.fn.self.failures;
   counted : l.self.given + end_offset l.fn.self ≡ l.fn.self.given + end_offset l.self;
-  never : l.self.never_fails ≡ l.fn.self.never_fails;
+  sure : l.self.sure ≡ l.fn.self.sure;
+  room : l.fn.self.room ≤ l.self.room;
 }
 
 abbrev pub decreases-loop : goal.decreases-loop

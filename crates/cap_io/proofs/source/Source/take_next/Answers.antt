@@ -1,5 +1,5 @@
 use Rattle.std.proofs.lemmas.Grind.{common_steps}
-use Rattle.std.proofs.Common.{◌≡◌, ◌+◌, ◌++◌, ℕ, List, length, take, drop, refl, sym, ap, ◌∙◌, subst, arith}
+use Rattle.std.proofs.Common.{rules, ◌≡◌, ◌+◌, ◌++◌, ℕ, List, length, take, drop, refl, sym, ap, ◌∙◌, subst, arith}
 use Rattle.std.proofs.lemmas.List.{take_at}
 use Rattle.cap_io.specs.Capture.{Declared}
 use Rattle.cap_io.specs.Reading.{declared_by, record_spans, packet_in_unit}
@@ -16,7 +16,7 @@ returns-clause-found g c =
     let buffer : List ℕ = c.take_record.new.buffer in
     let declared = ap (λ (s : FileState). declared_by s c.self.inside.table) c.in-Pcap.is in
     let new : List ℕ → SourceView = λ l. view_of stage.InHand (record_spans found) c.self.inside.file c.self.inside.table l c.self.inside.offset
-    (g.I.Input.unread c.take_record.new.input) (g.I.Input.given c.take_record.new.input) (g.I.Input.failures c.take_record.new.input) (g.I.Input.never_fails c.take_record.new.input) in
+    (g.I.Input.unread c.take_record.new.input) (g.I.Input.given c.take_record.new.input) (g.I.Input.failures c.take_record.new.input) (g.I.Input.sure c.take_record.new.input) in
     let P : List ℕ → Type 0 = λ l. TakesNext g.I.Input.tells c.args.self.now (new l) in
     let whole : take c.self.inside.buffer.len (buffer ++ drop (length buffer) c.self.inside.buffer.items) ≡ buffer =
     take_at buffer _ c.self.inside.buffer.len (c.in-Some.ensures.room ∙ c.as_mut_slice-buffer.ensures.len) in
@@ -25,7 +25,8 @@ returns-clause-found g c =
     (taken.counted ∙ ap (λ (v : SourceView). v.given + (16 + found.captured)) c.self.view_is)
     taken.bounded
     (taken.failed ∙ ap (λ (v : SourceView). v.failures) c.self.view_is)
-    (taken.never ∙ ap (λ (v : SourceView). v.never_fails) c.self.view_is)
+    (taken.sure ∙ ap (λ (v : SourceView). v.sure) c.self.view_is)
+    taken.enough refl (c.in-Some.ensures.room ∙ c.as_mut_slice-buffer.ensures.len ∙ c.self.inside.buffer.ok.0 ∙ ap (λ (v : SourceView). v.room) c.self.view_is) (search rules)
     (λ t. sym (ap (λ (v : SourceView). v.unread) c.self.view_is) ∙ taken.splits t)
     (sym (ap (λ (v : SourceView). v.declared) c.self.view_is) ∙ declared)
     declared refl

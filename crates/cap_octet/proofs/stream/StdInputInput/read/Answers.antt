@@ -7,7 +7,7 @@ use Rattle.cap_octet.proofs.stream.StdInputInput.read.Goals as goal
 pub returns-then-given-lt-MOST_GIVEN-clause-passes : goal.returns-then-given-lt-MOST_GIVEN-clause-passes
 returns-then-given-lt-MOST_GIVEN-clause-passes g c =
     let came : c.copy_from_slice.new.self ≡ take (length c.args.buf.now) (reader_buffer c.args.self.now.reader.reader) =
-        c.copy_from_slice.ensures.after ∙ ap (take (length c.args.buf.now)) c.buffer-held.ensures in
+    c.copy_from_slice.ensures.after ∙ ap (take (length c.args.buf.now)) c.buffer-held.ensures in
     let size : length c.copy_from_slice.new.self ≡ length c.args.buf.now = c.copy_from_slice.ensures.len in
     record {
       once = inr (c.consume.ensures.calls, sym size, ap (λ n. take n (reader_buffer c.args.self.now.reader.reader)) size ∙ sym came);
@@ -15,7 +15,7 @@ returns-then-given-lt-MOST_GIVEN-clause-passes g c =
       bound = search rules;
       bytes = (
         rw (came, take-take (length c.args.buf.now) (length c.args.buf.now) (reader_buffer c.args.self.now.reader.reader) (omega arith))
-        (held-consumed (reader_capacity c.args.self.now.reader.reader == 0) (reader_buffer c.args.self.now.reader.reader) (g.R.Read.remaining (reader_inner c.args.self.now.reader.reader)) _ (length c.args.buf.now) (omega (arith, c.if-room-held.true, ap (length {A = ℕ}) c.buffer-held.ensures)) c.consume.ensures.bytes),
+            (held-consumed (reader_capacity c.args.self.now.reader.reader == 0) (reader_buffer c.args.self.now.reader.reader) (g.R.Read.remaining (reader_inner c.args.self.now.reader.reader)) _ (length c.args.buf.now) (omega (arith, c.if-room-held.true, ap (length {A = ℕ}) c.buffer-held.ensures)) c.consume.ensures.bytes),
         λ none some. absurd (omega (arith, none, some, c.copy_from_slice.ensures.len)),
       );
       hands = search rules;
