@@ -1,16 +1,17 @@
 -- One input among others.
-use Rattle.std.proofs.Common.{◌≡◌, ℕ, zero, suc, ◌+◌, ◌<◌, List, [], ◌∷◌, ◌++◌, length, max, Option, Some, refl, sym, ◌∙◌, ap, arith, get_or, Bool, true, false, Result, Ok, Err}
+use Rattle.std.proofs.Common.{◌≡◌, ℕ, zero, suc, ◌+◌, ◌<◌, List, [], ◌∷◌, ◌++◌, length, max, Option, Some, refl, sym, ◌∙◌, ap, ap₂, arith, get_or, Bool, true, false, Result, Ok, Err}
 use Rattle.std.proofs.Math.Nat.{max_comm}
-use Rattle.std.proofs.lemmas.List.{append-nil}
+use Rattle.std.proofs.lemmas.List.{append-nil, length-append}
 use Rattle.cap_octet.specs.Packet.{Captured}
 use Rattle.cap_io.specs.Capture.{Placed}
 use Rattle.std.specs.List.{slice_set}
 use Rattle.cap_octet.specs.declared.fault.Fault.{Fault}
-use Rattle.cap_io.specs.Source.{Advances, SectionFits, Phase, Reading, Ended, Failed, SourceView, Steps, phase_after}
+use Rattle.cap_io.specs.Source.{Advances, SectionFits, SkipsUnits, Phase, Reading, Ended, Failed, SourceView, Steps, end_offset, phase_after}
 use Rattle.cap_inputs.specs.declared.inputs.Schedule.{Schedule}
 use Rattle.cap_inputs.specs.declared.inputs.Schedule.TheVariants.{Turn, Merge}
 use Rattle.cap_inputs.specs.Cursor.{ordering_of, schedule_after, schedule_behind}
-use Rattle.cap_inputs.specs.Inputs.{never_failing}
+use Rattle.cap_inputs.specs.Inputs.{DeviceLimits, device_limits, limits_of}
+use Rattle.cap_io.specs.Position.{given_in_all}
 use Rattle.cap_inputs.specs.Inputs.{InputView, InputsView, InputPast, AreInputsBehind, KnowGreatest, IsInput, ReadsInput, ReadSteps, greatest_of, input_after, input_behind, packet_time, with_cursor}
 
 pub get-among : (cursors : List InputView) (i : ℕ) (h d : InputView) → i < length cursors → h ≡ get_or cursors i d → IsInput cursors i h
@@ -68,19 +69,34 @@ read_input-steps-by inputs i r old new within value steps phase upper_bound is =
   is = ap (with_cursor inputs i) is;
 }
 
--- ---- whether devices never fail
+-- ---- what no step changes of a device
 
-pub never-at : (xs ys : List InputView) (h h' : InputView) → h'.source.never_fails ≡ h.source.never_fails → never_failing (xs ++ h' ∷ ys) ≡ never_failing (xs ++ h ∷ ys)
-never-at [] ys h h' same = ap (λ (b : Bool). b ∷ never_failing ys) same
-never-at (x ∷ xs) ys h h' same = ap (λ (l : List Bool). x.source.never_fails ∷ l) (never-at xs ys h h' same)
+pub limits-at : (xs ys : List InputView) (h h' : InputView) → limits_of h'.source ≡ limits_of h.source → device_limits (xs ++ h' ∷ ys) ≡ device_limits (xs ++ h ∷ ys)
+limits-at [] ys h h' same = ap (λ (b : DeviceLimits). b ∷ device_limits ys) same
+limits-at (x ∷ xs) ys h h' same = ap (λ (l : List DeviceLimits). limits_of x.source ∷ l) (limits-at xs ys h h' same)
 
-never-by : (p : Phase) (old new : SourceView) (a : Result Bool Fault) → Steps p old a new → new.never_fails ≡ old.never_fails
-never-by Reading old new a steps = steps.never
-never-by Ended old new a steps = ap (λ (s : SourceView). s.never_fails) steps.1
-never-by (Failed fault) old new a steps = ap (λ (s : SourceView). s.never_fails) steps.1
+same-limits : (old new : SourceView) → new.sure ≡ old.sure → given_in_all new ≡ given_in_all old → limits_of new ≡ limits_of old
+same-limits old new sure in_all = ap₂ (λ (s : Option ℕ) (n : ℕ). record { sure = s; in_all = n }) sure in_all
 
-pub never-kept : (old new : SourceView) (a : Result Bool Fault) → Steps old.phase old a new → new.never_fails ≡ old.never_fails
-never-kept old new a steps = never-by old.phase old new a steps
+-- the bytes that were skipped, and those of the current unit, are given
+skipped-in_all : (old new : SourceView) (rest : List ℕ) → (passes : SkipsUnits old new rest) → length rest ≡ length new.block + length new.unread → new.given + end_offset old ≡ old.given + end_offset new
+    → given_in_all new ≡ given_in_all old
+skipped-in_all old new rest passes left counted =
+    let split : length old.unread ≡ length passes.passed + length rest = ap length passes.splits ∙ length-append passes.passed rest in
+    omega (arith, split, left, counted, passes.offset)
+
+limits-by : (p : Phase) (old new : SourceView) (found : Bool) → Steps p old (Ok found) new → Advances p old (Ok found) new → limits_of new ≡ limits_of old
+limits-by Reading old new true steps finds =
+    same-limits old new steps.sure (skipped-in_all old new (new.block ++ new.unread) finds.passes (length-append new.block new.unread) steps.counted)
+limits-by Reading old new false steps finds =
+    let none : length new.block ≡ 0 = ap length finds.block in
+    let over : length new.unread ≡ 0 = ap length finds.unread in
+    same-limits old new steps.sure (skipped-in_all old new [] finds.passes (omega (arith, none, over)) steps.counted)
+limits-by Ended old new found steps advances = ap limits_of steps.1
+limits-by (Failed fault) old new found steps advances = ap limits_of steps.1
+
+pub limits-kept : (old new : SourceView) (found : Bool) → Steps old.phase old (Ok found) new → Advances old.phase old (Ok found) new → limits_of new ≡ limits_of old
+limits-kept old new found steps advances = limits-by old.phase old new found steps advances
 
 -- ---- the greatest time
 

@@ -1,16 +1,16 @@
 -- Inputs as they are handed over.
-use Rattle.std.specs.Prelude.{ℕ, Bool, false, List, [], map}
+use Rattle.std.specs.Prelude.{ℕ, ◌+◌, false, List, [], length, map, Option}
 use Rattle.cap_octet.specs.declared.device.Input as input
 use Rattle.cap_io.specs.Source.{source_at}
 use Rattle.cap_inputs.specs.Sequence.{PacketOrder}
-use Rattle.cap_inputs.specs.Inputs.{InputView, InputsView, InputPast}
+use Rattle.cap_inputs.specs.Inputs.{DeviceLimits, InputView, InputsView, InputPast}
 
 -- an input of which nothing is read
 pub record FreshInput : Type 0 where
   pub text : List ℕ
   pub given : ℕ
   pub failures : ℕ
-  pub never_fails : Bool
+  pub sure : Option ℕ
 
 abbrev pub fresh_input : {I : Type 0} → input.Ghosts I → I → FreshInput
 fresh_input device i =
@@ -18,16 +18,20 @@ fresh_input device i =
       text = device.unread i;
       given = device.given i;
       failures = device.failures i;
-      never_fails = device.never_fails i;
+      sure = device.sure i;
     }
 
 abbrev pub fresh_view : FreshInput → InputView
 fresh_view o =
     record {
-      source = source_at o.text o.given o.failures o.never_fails;
+      source = source_at o.text o.given o.failures o.sure;
       waiting = false;
       greatest = 0;
     }
+
+-- what no step changes of its device
+abbrev pub fresh_limits : FreshInput → DeviceLimits
+fresh_limits o = record { sure = o.sure; in_all = o.given + length o.text }
 
 abbrev pub nothing_done : FreshInput → InputPast
 nothing_done o = record { text = o.text; done = []; packets = [] }

@@ -6,7 +6,7 @@ use Rattle.cap_octet.specs.Packet.{Captured}
 use Rattle.cap_octet.specs.declared.fault.Fault.{Fault}
 use Rattle.cap_io.specs.Capture.{Placed, Items, End, items_from, after_packets, first_link_of}
 use Rattle.cap_io.specs.Source.{SourceView, Phase, Reading, Ended, Failed, Advances, SectionFits, Steps, phase_after}
-use Rattle.cap_io.specs.Position.{IsAt}
+use Rattle.cap_io.specs.Position.{IsAt, given_in_all}
 use Rattle.cap_inputs.specs.declared.inputs.Next.{Next}
 use Rattle.cap_inputs.specs.declared.inputs.Next.TheVariants as next
 use Rattle.cap_inputs.specs.Sequence.{InputItems, Event, Sequence, PacketOrder, InTurn, ByTime, sequence_of, sequence_in_turn, sequence_by_time, with_front}
@@ -336,6 +336,14 @@ offset_of (Some h) = h.source.offset
 abbrev pub offset_at : List InputView → ℕ → ℕ
 offset_at cursors i = offset_of (slice_get cursors i)
 
--- of each input whether its device never fails
-abbrev pub never_failing : List InputView → List Bool
-never_failing hs = map (λ h. h.source.never_fails) hs
+-- What no step changes of an input's device: how many bytes it gives at least before it fails, and
+-- how many in all.
+pub record DeviceLimits : Type 0 where
+  pub sure : Option ℕ
+  pub in_all : ℕ
+
+abbrev pub limits_of : SourceView → DeviceLimits
+limits_of s = record { sure = s.sure; in_all = given_in_all s }
+
+abbrev pub device_limits : List InputView → List DeviceLimits
+device_limits hs = map (λ h. limits_of h.source) hs

@@ -153,6 +153,18 @@ impl<I: Input, A: Allocator> InputCursor<I, A> {
     {
         self.source.offset()
     }
+
+    /// The device, as it stands. It takes no memory.
+    pub fn into_input(self) -> I
+    where
+        A: Drop,
+        ensures failures { I.failures result ≡ self.source.failures }
+        ensures sure { I.sure result ≡ self.source.sure }
+        ensures given { I.given result ≡ self.source.given }
+        ensures unread { I.unread result ≡ self.source.unread }
+    {
+        self.source.into_input()
+    }
 }
 
 /// The inputs of a job.
@@ -199,6 +211,16 @@ impl<I: Input, A: Allocator> Inputs<I, A> {
             schedule,
             queue,
         })
+    }
+
+    /// The inputs, as they stand, in their order. It takes no memory.
+    pub fn into_cursors(self) -> Vec<InputCursor<I, A>, A>
+    where
+        A: Drop,
+        ensures { result.items ≡ self.cursors }
+    {
+        let Inputs { cursors, .. } = self;
+        cursors
     }
 
     /// Whether the inputs come one behind another.

@@ -61,7 +61,7 @@ given_in_all s = s.given + length s.unread
 pub record ReadFailsAt (old new : SourceView) (text done rest : List ℕ)
     (declared : Declared) : Type 0 where
   pub failed : old.failures < new.failures
-  pub enough : HasGiven new.sure new.given
+  pub enough : HasGiven old.sure new.given
   pub few : new.given + length text
       < given_in_all old + length done + decisive_length declared rest
 

@@ -48,7 +48,7 @@ use Rattle.cap_packets.proofs.Growing.{Grows, course-grows}
 use Rattle.cap_tools.proofs.Laws.{DecideLaws, DecideAt, decide-at}
 use Rattle.cap_tools.proofs.Once.{once-nothing, once-packet}
 use Rattle.cap_packets.proofs.Outcomes.{progress-next, course-stop}
-use Rattle.cap_inputs.proofs.Cursors.{greatest-decided, greatest-here, never-at, set-here}
+use Rattle.cap_inputs.proofs.Cursors.{greatest-decided, greatest-here, limits-at, set-here}
 use Rattle.cap_tools.proofs.Fetches.{mk, among-same, comes-broken, inputs_at}
 
 -- ---- a packet that is judged
@@ -209,7 +209,7 @@ decided-goes us vs s before xs ys h order turn policy state state' output output
       output = t.failures;
       names = t.names;
       order = refl;
-      never = never-at xs ys h (input_behind h) refl;
+      limits = limits-at xs ys h (input_behind h) refl;
     }
   where
     took-one : (q : Captured) → t.passed ≡ q ∷ [] → HasWritten before output' (d.packets ++ q ∷ []) d.reports

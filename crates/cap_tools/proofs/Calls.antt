@@ -1,14 +1,15 @@
 -- What the run of a job leaves, in terms of its call.
-use Rattle.std.proofs.Common.{◌≡◌, ◌⊎◌, inl, inr, ℕ, ◌+◌, Bool, true, false, List, [], ◌∷◌, ◌++◌, length, map, take, Option, None, Some, Ok, refl, sym, ◌∙◌, ap, subst}
+use Rattle.std.proofs.Common.{◌≡◌, ◌⊎◌, inl, inr, ℕ, ◌+◌, ◌-◌, ◌≤◌, arith, Bool, true, false, List, [], ◌∷◌, ◌++◌, length, map, take, Option, None, Some, Ok, refl, sym, ◌∙◌, ap, subst}
 use Rattle.std.proofs.lemmas.List.{append-nil, length-map, length-set}
 use Rattle.std.proofs.lemmas.Option.{slice_get-map}
 use Rattle.std.specs.List.{slice_get}
 use Rattle.std.specs.Option.{option_map}
-use Rattle.cap_octet.specs.Device.{Stops}
+use Rattle.cap_octet.specs.Device.{HasGiven, Stops}
 use Rattle.cap_octet.specs.Packet.{Captured}
 use Rattle.cap_octet.specs.declared.fault.Fault.{Fault}
-use Rattle.cap_io.specs.Capture.{Placed, kind_of}
-use Rattle.cap_io.specs.Position.{IsCutShort}
+use Rattle.cap_io.specs.Capture.{Declared, Placed, kind_of}
+use Rattle.cap_io.specs.Position.{IsCutShort, ReadFailsAt, given_in_all}
+use Rattle.cap_io.specs.Reading.{decisive_length}
 use Rattle.cap_octet.specs.declared.link.Link.{Link}
 use Rattle.flt_words.specs.declared.fault.ExprFault.TheVariants as expression
 use Rattle.flt_bpf.specs.declared.fault.ListingFault.TheVariants as listing_fault
@@ -18,8 +19,8 @@ use Rattle.cap_filter.specs.declared.refusal.Refusal.{Refusal}
 use Rattle.cap_filter.specs.declared.refusal.Refusal.TheVariants as refusal
 use Rattle.cap_filter.specs.Messages.{fault_message, refusal_message, refusal_status, write_failed_message}
 use Rattle.cap_filter.specs.Outcome.{OutputView, IsTold, Runs, output_view}
-use Rattle.cap_inputs.specs.Fresh.{FreshInput, fresh_view, nothing_done}
-use Rattle.cap_inputs.specs.Inputs.{InputView, InputsView, InputPast, input_after, never_failing, offset_at}
+use Rattle.cap_inputs.specs.Fresh.{FreshInput, fresh_limits, fresh_view, nothing_done}
+use Rattle.cap_inputs.specs.Inputs.{DeviceLimits, InputView, InputsView, InputPast, input_after, device_limits, limits_of, offset_at}
 use Rattle.cap_inputs.specs.Sequence.{InputItems, Event, Packet, InputEnd, SequenceEnd, Complete, FaultIn, PacketOrder, InTurn, ByTime, whole_input}
 use Rattle.cap_packets.specs.declared.output.Writing.{Writing}
 use Rattle.cap_packets.specs.declared.output.Writing.TheVariants as writing
@@ -52,7 +53,7 @@ record Begins (asked : Assignment) (call : Call) (first : JobView) : Type 0 wher
   pub work : IsWork asked call (work_of first.machine)
   pub names : first.machine.output.names ≡ call.names
   pub failures : failures_by first.machine ≡ call.output.failures
-  pub never : never_failing first.machine.inputs.cursors ≡ map (λ (input : FreshInput). input.never_fails) call.inputs
+  pub limits : device_limits first.machine.inputs.cursors ≡ map fresh_limits call.inputs
   pub err : first.err ≡ call.messages
 
 first-form : (names : List (List ℕ)) (w : Writing) (bytes : List ℕ) (failures room : ℕ) → form_to names (target_at w bytes failures room) ≡ form_asked names w
@@ -70,9 +71,9 @@ first-written (writing.Capture format) bytes failures room = refl
 first-written writing.Text bytes failures room = refl
 first-written (writing.Lines options) bytes failures room = refl
 
-first-never : (os : List FreshInput) → never_failing (map fresh_view os) ≡ map (λ (input : FreshInput). input.never_fails) os
-first-never [] = refl
-first-never (o ∷ os) = ap (λ (l : List Bool). o.never_fails ∷ l) (first-never os)
+first-limits : (os : List FreshInput) → device_limits (map fresh_view os) ≡ map fresh_limits os
+first-limits [] = refl
+first-limits (o ∷ os) = ap (λ (l : List DeviceLimits). fresh_limits o ∷ l) (first-limits os)
 
 first-texts : (os : List FreshInput) → texts (map nothing_done os) ≡ map (λ (input : FreshInput). input.text) os
 first-texts [] = refl
@@ -125,6 +126,21 @@ comes-of f (Some a) b is = record { from = a; is = refl; same = (cc) }
 -- where one of two maps of a list has these at a place
 at-place : {A B : Type 0} (f : A → B) (xs : List A) (ys : List B) (i : ℕ) (b : B) → ys ≡ map f xs → slice_get ys i ≡ Some b → From f (slice_get xs i) b
 at-place f xs ys i b is has = comes-of f (slice_get xs i) b (sym (slice_get-map f xs i) ∙ ap (λ l. slice_get l i) (sym is) ∙ has)
+
+-- ---- a read that failed
+
+given-more : (sure : Option ℕ) (few many : ℕ) → few ≤ many → HasGiven sure few → HasGiven sure many
+given-more None few many more enough = absurd enough
+given-more (Some n) few many more enough = omega (arith, more, enough)
+
+-- by what the device was sure to give when the call was made
+fails-short : (input : FreshInput) (old new : SourceView) (text done rest : List ℕ) (declared : Declared) → fresh_limits input ≡ limits_of old → input.text ≡ text → ReadFailsAt old new text done rest declared
+    → HasGiven input.sure (input.given + length done + (decisive_length declared rest - 1))
+fails-short input old new text done rest declared limits same failed =
+    let in_all : input.given + length input.text ≡ given_in_all old = ap (λ (l : DeviceLimits). l.in_all) limits in
+    let G : Option ℕ → Type 0 = λ o. HasGiven o (input.given + length done + (decisive_length declared rest - 1)) in
+    subst G (sym (ap (λ (l : DeviceLimits). l.sure) limits))
+    (given-more old.sure new.given (input.given + length done + (decisive_length declared rest - 1)) (omega (arith, failed.few, in_all, ap length same)) failed.enough)
 
 -- ---- what the next answer adds
 
@@ -270,21 +286,23 @@ packets-run asked call first r b runs = by_end runs.end refl runs.leaves
         at-place (λ (o : FreshInput). o.text) call.inputs (texts runs.progress.past) input cut.past.text (runs.progress.texts ∙ first-texts call.inputs)
         (slice_get-map (λ (s : InputPast). s.text) runs.progress.past input
         ∙ ap (option_map (λ (s : InputPast). s.text)) (ap (λ (l : List InputPast). slice_get l input) cut.among ∙ get-at cut.front cut.back cut.past input cut.place)) in
-        let never : From (λ (o : FreshInput). o.never_fails) (slice_get call.inputs input) cut.cursor.source.never_fails =
-        at-place (λ (o : FreshInput). o.never_fails) call.inputs (never_failing old.inputs.cursors) input cut.cursor.source.never_fails (runs.progress.never ∙ b.never)
-        (slice_get-map (λ (h : InputView). h.source.never_fails) old.inputs.cursors input
-        ∙ ap (option_map (λ (h : InputView). h.source.never_fails)) (ap (λ (l : List InputView). slice_get l input) cut.cursor_is.splits ∙ get-at cut.cursor_is.front cut.cursor_is.back cut.cursor input cut.cursor_is.place)) in
-        let same : text_of.from ≡ never.from = (let e = sym text_of.is ∙ never.is in cc) in
-        let may : text_of.from.never_fails ≡ cut.cursor.source.never_fails = ap (λ (o : FreshInput). o.never_fails) same ∙ never.same in
-        let T : List ℕ → Type 0 = λ l. IsCutShort l fault items in
+        let limits : From fresh_limits (slice_get call.inputs input) (limits_of cut.cursor.source) =
+        at-place fresh_limits call.inputs (device_limits old.inputs.cursors) input (limits_of cut.cursor.source) (runs.progress.limits ∙ b.limits)
+        (slice_get-map (λ (h : InputView). limits_of h.source) old.inputs.cursors input
+        ∙ ap (option_map (λ (h : InputView). limits_of h.source)) (ap (λ (l : List InputView). slice_get l input) cut.cursor_is.splits ∙ get-at cut.cursor_is.front cut.cursor_is.back cut.cursor input cut.cursor_is.place)) in
+        let same : text_of.from ≡ limits.from = (let e = sym text_of.is ∙ limits.is in cc) in
+        let known : fresh_limits text_of.from ≡ limits_of cut.cursor.source = ap fresh_limits same ∙ limits.same in
         record {
           place = input;
           input = text_of.from;
           among = text_of.is;
           fault = fault;
-          why = elim cut.why [ inl failed ↦ inl (failed.0, may ∙ failed.2) | inr full ↦ inr full ];
           held = items;
-          cut = subst T (sym text_of.same) cut.cut;
+          cut = record { done = cut.cut.done; rest = cut.cut.rest; joined = text_of.same ∙ cut.cut.joined; units = cut.cut.units; ending = cut.cut.ending };
+          why = elim cut.why [
+            | inl failed ↦ inl (failed.0, fails-short text_of.from cut.cursor.source after cut.past.text cut.cut.done cut.cut.rest items.declared known text_of.same failed.1)
+            | inr full ↦ inr full
+          ];
           left = left (cut_at (wholes_of runs.progress.past) input items) (cut_at (whole_inputs call) input items) (FaultIn input fault after.offset)
               (ap (λ (l : List InputItems). cut_at l input items) wholes-are) cut.comes (says input fault after.offset is place) (ap end_status is);
         }
@@ -326,9 +344,9 @@ packets-run asked call first r b runs = by_end runs.end refl runs.leaves
         let R : List ℕ → Type 0 = λ l. Stops (before ++ text_behind w d.events) bytes l in
         let count : length runs.last.inputs.cursors ≡ length call.inputs =
         same-count runs.progress.past before old runs.last bytes d stops.answer
-        ∙ sym (length-map old.inputs.cursors (λ (h : InputView). h.source.never_fails))
-        ∙ ap length (runs.progress.never ∙ b.never)
-        ∙ length-map call.inputs (λ (o : FreshInput). o.never_fails) in
+        ∙ sym (length-map old.inputs.cursors (λ (h : InputView). limits_of h.source))
+        ∙ ap length (runs.progress.limits ∙ b.limits)
+        ∙ length-map call.inputs fresh_limits in
         record {
           written = text_behind w d.events;
           bytes = bytes;
@@ -409,7 +427,7 @@ begins asked call policy = record {
   };
   names = refl;
   failures = first-failures asked.writing call.output.written call.output.failures call.room;
-  never = first-never call.inputs;
+  limits = first-limits call.inputs;
   err = refl;
 }
 
@@ -422,7 +440,7 @@ filter-begins asked call rule count programs policy = record {
   };
   names = refl;
   failures = first-failures asked.writing call.output.written call.output.failures call.room;
-  never = first-never call.inputs;
+  limits = first-limits call.inputs;
   err = refl;
 }
 

@@ -49,7 +49,7 @@ pub data Under (first : JobView) (ss : List InputPast) (before : List ℕ) (job 
   goes : job.preparing ≡ None → IsOn first.preparing first ss before job → Under first ss before job
 
 abbrev start-progress : (ss : List InputPast) (before : List ℕ) (j : JobView) → Decided ss before j → IsUnderWay ss before j j
-start-progress ss before j d = record { past = ss; texts = refl; decided = d; policy = refl; form = refl; output = refl; names = refl; order = refl; never = refl }
+start-progress ss before j d = record { past = ss; texts = refl; decided = d; policy = refl; form = refl; output = refl; names = refl; order = refl; limits = refl }
 
 first-more : (tells : Bool) (p : Option Preparing) (old new : JobView) (ss : List InputPast) (before : List ℕ) → GivesBy p tells old turn.More new → DecidedBy p ss before old → new.done ≡ None → new.machine.output.names ≡ old.machine.output.names
     → (p ≡ None → new.machine.policy ≡ old.machine.policy) → IsOn p old ss before new

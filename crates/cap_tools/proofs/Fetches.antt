@@ -2,7 +2,7 @@
 use Rattle.std.proofs.Common.{◌≡◌, inl, inr, ℕ, suc, ◌+◌, ◌<◌, ◌≤◌, Bool, true, false, IsTrue, List, [], ◌∷◌, ◌++◌, length, map, get_or, Option, None, Some, Result, Ok, Err, refl, sym, ◌∙◌, ap, arith, subst}
 use Rattle.std.proofs.lemmas.List.{append_assoc, append-nil}
 use Rattle.std.specs.List.{slice_set}
-use Rattle.cap_octet.specs.Device.{Stops}
+use Rattle.cap_octet.specs.Device.{HasGiven, Stops}
 use Rattle.cap_octet.specs.declared.device.DeviceFault.{DeviceFault}
 use Rattle.cap_octet.specs.declared.fault.Fault.{Fault}
 use Rattle.cap_octet.specs.declared.fault.Fault.TheVariants.{ReadFailed}
@@ -20,7 +20,7 @@ use Rattle.cap_packets.specs.Selector as selecting
 use Rattle.cap_packets.specs.Selector.{PolicyState, IsWithin, with_empty_tally, is_count}
 use Rattle.cap_packets.specs.Outcome.{Form, AsReports, JobProgress, cut_at, no_progress, apply_events, final_progress, end_with, final_text, output_text, text_at_end, first_link}
 use Rattle.cap_packets.specs.Output.{JobOutputView, Target, Capture, Text, Lines, HasWritten, Reports, form_at, written_to, failures_to}
-use Rattle.cap_inputs.specs.Inputs.{InputView, InputsView, Future, InputPast, AreInputsBehind, AreSettled, IsInput, ReadsInput, IsNext, waiting_packets, input_after, actual_future, input_items, inputs_with, inputs_left, sequence_left, is_in_turn}
+use Rattle.cap_inputs.specs.Inputs.{InputView, InputsView, Future, InputPast, AreInputsBehind, AreSettled, IsInput, ReadsInput, IsNext, waiting_packets, input_after, actual_future, input_items, inputs_with, inputs_left, limits_of, sequence_left, is_in_turn}
 use Rattle.cap_packets.specs.Reports.{report_text, reports_text}
 use Rattle.cap_tools.specs.Machine.{MachineState, AppendsOnce, PacketsDecided, GoesOn, CompletesOutput, BreaksAt, WhyBroken, StopsWriting, StepLeaves, Closes, ClosesBy, asks_report, report_at, unless_failed, progress_at, progress_of, progress_over, output_form, failures_by, written_by, wholes_of, sieve}
 use Rattle.cap_tools.proofs.Splits.{At, Fit, stands-split, stands-join, stands-length, fits-join, wholes-join, rests-join, finish-here, come-on}
@@ -30,7 +30,7 @@ use Rattle.cap_packets.proofs.Growing.{Grows, course-grows}
 use Rattle.cap_tools.proofs.Laws.{ReadLaws, ReadAt, closed_in, read-at}
 use Rattle.cap_tools.proofs.Once.{once-nothing, once-report}
 use Rattle.cap_packets.proofs.Outcomes.{progress-append, course-close}
-use Rattle.cap_inputs.proofs.Cursors.{greatest-here, greatest-same, never-at, never-kept, set-here}
+use Rattle.cap_inputs.proofs.Cursors.{greatest-here, greatest-same, limits-at, limits-kept, set-here}
 
 abbrev pub inputs_at : PacketOrder → List InputView → InputsView
 inputs_at order cursors = record { order = order; cursors = cursors }
@@ -51,10 +51,10 @@ among-same cursors i h h' a b =
 -- ---- a packet is found
 
 found-goes : (us vs : List InputPast) (s : InputPast) (before : List ℕ) (xs ys : List InputView) (h : InputView) (s' : SourceView) (order : PacketOrder) (turn : ℕ) (policy : Policy) (state : SelectorState) (output : JobOutputView) (decided : ℕ)
-    → ReadLaws order turn xs ys h → AreInputsBehind us xs → At s h → AreInputsBehind vs ys → Advances h.source.phase h.source (Ok true) s' → s'.never_fails ≡ h.source.never_fails
+    → ReadLaws order turn xs ys h → AreInputsBehind us xs → At s h → AreInputsBehind vs ys → Advances h.source.phase h.source (Ok true) s' → limits_of s' ≡ limits_of h.source
     → (d : PacketsDecided (us ++ s ∷ vs) before (mk (xs ++ h ∷ ys) order policy state output decided))
     → GoesOn d (mk (xs ++ input_after h (Ok true) s' ∷ ys) order policy state output decided)
-found-goes us vs s before xs ys h s' order turn policy state output decided laws front at back advances never d =
+found-goes us vs s before xs ys h s' order turn policy state output decided laws front at back advances limits d =
     let waits : h.waiting ≡ false = laws.waits in
     let found : FindsPacket h.source s' = finds s h s' (Ok true) at waits advances in
     let P : Bool → Type 0 = λ b. IsAt s.text s.done s.packets b h.source in
@@ -91,7 +91,7 @@ found-goes us vs s before xs ys h s' order turn policy state output decided laws
       output = refl;
       names = refl;
       order = refl;
-      never = never-at xs ys h (input_after h (Ok true) s') never;
+      limits = limits-at xs ys h (input_after h (Ok true) s') limits;
     }
 
 -- ---- a clean end is met
@@ -124,14 +124,14 @@ closed-out us vs s before xs ys h s' order turn policy state output decided laws
 
 -- it goes on, with what closing the input makes of the progress
 closed-goes : (us vs : List InputPast) (s : InputPast) (before : List ℕ) (xs ys : List InputView) (h : InputView) (s' : SourceView) (order : PacketOrder) (turn : ℕ) (policy : Policy) (state : SelectorState) (output : JobOutputView) (decided : ℕ) (state' : SelectorState) (output' : JobOutputView) (reports : List Report)
-    → (laws : ReadLaws order turn xs ys h) → AreInputsBehind us xs → At s h → AreInputsBehind vs ys → Advances h.source.phase h.source (Ok false) s' → s'.never_fails ≡ h.source.never_fails
+    → (laws : ReadLaws order turn xs ys h) → AreInputsBehind us xs → At s h → AreInputsBehind vs ys → Advances h.source.phase h.source (Ok false) s' → limits_of s' ≡ limits_of h.source
     → (d : PacketsDecided (us ++ s ∷ vs) before (mk (xs ++ h ∷ ys) order policy state output decided))
     → closed_in order policy (progress_at (mk (xs ++ h ∷ ys) order policy state output decided) d.packets d.reports) turn (kind_of s'.declared) s'.offset
     ≡ record { decided = decided; state = state'; packets = d.packets; reports = reports; end = None }
     → HasWritten before output' d.packets reports → AppendsOnce (first_link (wholes_of (us ++ s ∷ vs))) (progress_of d) (record { decided = decided; state = state'; packets = d.packets; reports = reports; end = None }) output output' → form_at output' ≡ form_at output → failures_to output'.target ≡ failures_to output.target → output'.names ≡ output.names
     → state'.passed ≤ decided → IsWithin decided state'.tally
     → GoesOn d (mk (xs ++ input_after h (Ok false) s' ∷ ys) order policy state' output' decided)
-closed-goes us vs s before xs ys h s' order turn policy state output decided state' output' reports laws front at back advances never d goes final_text once form failures names passed counted =
+closed-goes us vs s before xs ys h s' order turn policy state output decided state' output' reports laws front at back advances limits d goes final_text once form failures names passed counted =
     let found : FindsEnd h.source s' = finds s h s' (Ok false) at laws.waits advances in
     let out = closed-out us vs s before xs ys h s' order turn policy state output decided laws front at back advances found d in
     let w : JobProgress = progress_at (mk (xs ++ h ∷ ys) order policy state output decided) d.packets d.reports in
@@ -163,7 +163,7 @@ closed-goes us vs s before xs ys h s' order turn policy state output decided sta
       output = failures;
       names = names;
       order = refl;
-      never = never-at xs ys h (input_after h (Ok false) s') never;
+      limits = limits-at xs ys h (input_after h (Ok false) s') limits;
     }
 
 -- ---- it ends by a fault
@@ -194,20 +194,19 @@ comes-broken ss before m rs d new input fault offset is same device = record {
   device = device;
 }
 
--- a device that failed isn't one that never does
-may-fail : (never_fails : Bool) (failures failures' : ℕ) → (IsTrue never_fails → failures' ≡ failures) → failures' ≡ failures + 1 → never_fails ≡ false
-may-fail false failures failures' unfailed counted = refl
-may-fail true failures failures' unfailed counted = absurd (omega (arith, unfailed refl, counted))
+-- the device failed, and had given as many bytes as it was sure to
+record Risen (h : InputView) (s' : SourceView) : Type 0 where
+  failed : h.source.failures < s'.failures
+  enough : HasGiven h.source.sure s'.given
 
--- the device failed
-risen : (s : InputPast) (h : InputView) (s' : SourceView) (fault : Fault) → At s h → Steps h.source.phase h.source (Err fault) s' → fault ≡ ReadFailed
-    → (h.source.failures < s'.failures) × (h.source.never_fails ≡ false)
+risen : (s : InputPast) (h : InputView) (s' : SourceView) (fault : Fault) → At s h → Steps h.source.phase h.source (Err fault) s' → fault ≡ ReadFailed → Risen h s'
 risen s h s' fault at steps is = by_phase h.source.phase refl steps
   where
-    by_phase : (p : Phase) → h.source.phase ≡ p → Steps p h.source (Err fault) s' → (h.source.failures < s'.failures) × (h.source.never_fails ≡ false)
+    by_phase : (p : Phase) → h.source.phase ≡ p → Steps p h.source (Err fault) s' → Risen h s'
     by_phase Reading e b =
         let counted : s'.failures ≡ h.source.failures + 1 = rw is at b.failures in
-        (omega (arith, counted), may-fail h.source.never_fails h.source.failures s'.failures b.unfailed counted)
+        let G : Option ℕ → Type 0 = λ o. HasGiven o s'.given in
+        record { failed = omega (arith, counted); enough = subst G b.sure (b.enough (omega (arith, counted))) }
     by_phase Ended e b = absurd (let w = b.0 in cc)
     by_phase (Failed other) e b = absurd (at.sound other e)
 
@@ -239,7 +238,10 @@ broken-ends us vs s before xs ys h s' fault order turn policy state output decid
         advances = advances;
         held = record { packets = s.packets; declared = s'.declared; ending = FaultAt fault s'.offset };
         cut = cut.cut;
-        why = elim cut.why [ inl failed ↦ let rose = risen s h s' fault at steps failed in inl (failed, rose.0, rose.1) | inr full ↦ inr full ];
+        why = elim cut.why [
+          | inl failed ↦ let rose = risen s h s' fault at steps failed.0 in inl (failed.0, record { failed = rose.failed; enough = rose.enough; few = failed.1 })
+          | inr full ↦ inr full
+        ];
         comes = comes-broken (us ++ s ∷ vs) before m (cut_at (wholes_of (us ++ s ∷ vs)) turn (record { packets = s.packets; declared = s'.declared; ending = FaultAt fault s'.offset })) d new turn fault s'.offset
             (ap (λ (l : List InputItems). final_progress policy (form_at output) (sequence_of order l))
             (ap (λ (l : List InputItems). cut_at l turn (record { packets = s.packets; declared = s'.declared; ending = FaultAt fault s'.offset })) (wholes_of-join us vs s)
@@ -383,7 +385,7 @@ closed-core : (us vs : List InputPast) (s : InputPast) (before : List ℕ) (xs y
     → StepLeaves d r (mk (xs ++ input_after h (Ok false) s' ∷ ys) order policy selector'.state output' decided)
 closed-core us vs s before xs ys h s' order turn policy state output decided r selector' output' laws tells front at back advances steps d false asks by =
     rw (by.0, by.1, by.2)
-    (closed-goes us vs s before xs ys h s' order turn policy state output decided state output d.reports laws front at back advances (never-kept h.source s' (Ok false) steps) d
+    (closed-goes us vs s before xs ys h s' order turn policy state output decided state output d.reports laws front at back advances (limits-kept h.source s' false steps advances) d
     (quiet-closed order policy (progress_at (mk (xs ++ h ∷ ys) order policy state output decided) d.packets d.reports) turn (kind_of s'.declared) s'.offset asks)
     d.output (once-nothing (first_link (wholes_of (us ++ s ∷ vs))) (progress_of d) (progress_of d) output output refl refl refl) refl refl refl d.passed d.counted)
 closed-core us vs s before xs ys h s' order turn policy state output decided r selector' output' laws tells front at back advances steps d true asks by =
@@ -400,7 +402,7 @@ closed-core us vs s before xs ys h s' order turn policy state output decided r s
     by_answer (Ok done) names reports =
         let ok : ReportOk before d.packets d.reports report output.names output'.names output.target output'.target =
         report-ok before d.packets d.reports report output.names output'.names output.target output'.target names d.output reports in
-        closed-goes us vs s before xs ys h s' order turn policy state output decided (with_empty_tally state) output' (d.reports ++ report ∷ []) laws front at back advances (never-kept h.source s' (Ok false) steps) d
+        closed-goes us vs s before xs ys h s' order turn policy state output decided (with_empty_tally state) output' (d.reports ++ report ∷ []) laws front at back advances (limits-kept h.source s' false steps advances) d
         (told-closed order policy (progress_at old d.packets d.reports) turn (kind_of s'.declared) s'.offset asks)
         ok.output (once-report (first_link (wholes_of (us ++ s ∷ vs))) before (progress_of d) (with_report (progress_of d) report) output output' report d.output ok.output ok.form refl refl) ok.form ok.failures names d.passed (omega arith, omega arith, omega arith)
     by_answer (Err fault) names reports = report-stops us vs s before xs ys h s' order turn policy state output.names output.target decided (with_empty_tally state) output' fault laws tells front at back advances steps d asks reports
@@ -424,7 +426,7 @@ read_input-core : (us vs : List InputPast) (s : InputPast) (before : List ℕ) (
     → Follows a (record { order = order; cursors = xs ++ input_after h a s' ∷ ys }) turn (record { policy = policy; state = state }) output r selector' output'
     → FetchLeaves d turn a r (mk (xs ++ input_after h a s' ∷ ys) order policy selector'.state output' decided)
 read_input-core us vs s before xs ys h s' (Ok true) order turn policy state output decided r selector' output' laws tells front at back advances steps d follows =
-    rw (follows.0, follows.1) (found-goes us vs s before xs ys h s' order turn policy state output decided laws front at back advances (never-kept h.source s' (Ok true) steps) d)
+    rw (follows.0, follows.1) (found-goes us vs s before xs ys h s' order turn policy state output decided laws front at back advances (limits-kept h.source s' true steps advances) d)
 read_input-core us vs s before xs ys h s' (Ok false) order turn policy state output decided r selector' output' laws tells front at back advances steps d follows =
     let h' : InputView = input_after h (Ok false) s' in
     let same : follows.cursor ≡ h' = among-same (xs ++ h' ∷ ys) turn follows.cursor h' follows.among (record { front = xs; back = ys; place = laws.here; splits = refl }) in

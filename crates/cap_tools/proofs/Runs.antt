@@ -22,5 +22,5 @@ goes-on ss before first j new progress stays policy =
       output = goes.output ∙ progress.output;
       names = goes.names ∙ progress.names;
       order = goes.order ∙ progress.order;
-      never = goes.never ∙ progress.never;
+      limits = goes.limits ∙ progress.limits;
     }

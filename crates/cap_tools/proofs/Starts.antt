@@ -20,7 +20,7 @@ use Rattle.cap_tools.proofs.Fetches.{mk}
 
 start-behind : (os : List FreshInput) → AreInputsBehind (map nothing_done os) (map fresh_view os)
 start-behind [] = tt
-start-behind (o ∷ os) = (IsAt-start o.text o.given o.failures o.never_fails, start-behind os)
+start-behind (o ∷ os) = (IsAt-start o.text o.given o.failures o.sure, start-behind os)
 
 start-wholes : (os : List FreshInput) (fs : List Future) → AreFutures (map fresh_view os) fs → inputs_with (map nothing_done os) (map fresh_view os) fs ≡ inputs_left (map fresh_view os) fs
 start-wholes [] [] fits = refl

@@ -24,29 +24,38 @@ small-among (x ∷ xs) back h all = small-among xs back h (All-tail IsSmall x (x
 small-at : (cursors : List InputView) (i : ℕ) (h : InputView) → IsInput cursors i h → All IsSmall cursors → IsSmall h
 small-at cursors i h a all = small-among a.front a.back h (subst (All IsSmall) a.splits all)
 
+decided-small : (h : InputView) → IsSmall h → IsSmall (input_behind h)
+decided-small h small = record { held = small.held; block = small.block; section = small.section }
+
 pub mark_decided-small : (inputs inputs' : InputsView) (i : ℕ) → MarksDecided inputs i inputs' → All IsSmall inputs.cursors → All IsSmall inputs'.cursors
 mark_decided-small inputs inputs' i s all =
     let P : InputsView → Type 0 = λ f. All IsSmall f.cursors in
-    subst P (sym s.is) (All-set IsSmall inputs.cursors i (input_behind s.cursor) (small-at inputs.cursors i s.cursor s.among all) all)
+    subst P (sym s.is) (All-set IsSmall inputs.cursors i (input_behind s.cursor) (decided-small s.cursor (small-at inputs.cursors i s.cursor s.among all)) all)
 
-steps-small : (old new : SourceView) (r : Result Bool Fault) → Steps old.phase old r new → length old.block ≤ most_in_unit → length new.block ≤ most_in_unit
-steps-small old new r steps small = by_phase old.phase steps
+steps-small : (old new : SourceView) (r : Result Bool Fault) → Steps old.phase old r new → length old.block ≤ old.room → old.room ≤ most_in_unit
+    → (length new.block ≤ new.room) × (new.room ≤ most_in_unit)
+steps-small old new r steps held small = by_phase old.phase steps
   where
-    by_phase : (p : Phase) → Steps p old r new → length new.block ≤ most_in_unit
-    by_phase Reading s = s.block
-    by_phase Ended s = let e : length new.block ≡ length old.block = ap (λ (v : SourceView). length v.block) s.1 in omega (arith, e, small)
-    by_phase (Failed fault) s = let e : length new.block ≡ length old.block = ap (λ (v : SourceView). length v.block) s.1 in omega (arith, e, small)
+    same : new ≡ old → (length new.block ≤ new.room) × (new.room ≤ most_in_unit)
+    same is = rw is (held, small)
+
+    by_phase : (p : Phase) → Steps p old r new → (length new.block ≤ new.room) × (new.room ≤ most_in_unit)
+    by_phase Reading s = (s.block, s.held)
+    by_phase Ended s = same s.1
+    by_phase (Failed fault) s = same s.1
 
 pub read_input-small : (inputs inputs' : InputsView) (i : ℕ) (r : Result Bool Fault) → ReadSteps inputs i r inputs' → All IsSmall inputs.cursors → All IsSmall inputs'.cursors
 read_input-small inputs inputs' i r f all =
     let P : InputsView → Type 0 = λ v. All IsSmall v.cursors in
-    subst P (sym f.is) (All-set IsSmall inputs.cursors i (input_after f.cursor r f.source) (steps-small f.cursor.source f.source r f.steps (small-at inputs.cursors i f.cursor f.among all).0, f.upper_bound) all)
+    let was = small-at inputs.cursors i f.cursor f.among all in
+    let small = steps-small f.cursor.source f.source r f.steps was.held was.block in
+    subst P (sym f.is) (All-set IsSmall inputs.cursors i (input_after f.cursor r f.source) (record { held = small.0; block = small.1; section = f.upper_bound }) all)
 
 -- ---- at first
 
 pub small-first : (os : List FreshInput) → All IsSmall (map fresh_view os)
 small-first [] = All-nil IsSmall
-small-first (o ∷ os) = All-cons IsSmall (fresh_view o) (map fresh_view os) (omega arith, tt) (small-first os)
+small-first (o ∷ os) = All-cons IsSmall (fresh_view o) (map fresh_view os) (record { held = omega arith; block = omega arith; section = tt }) (small-first os)
 
 pub few-first : (w : Writing) (written : List ℕ) (failures room : ℕ) → HasFewOutputInterfaces (target_at w written failures room)
 few-first (writing.Capture format) written failures room = record { count = omega arith; names = All-nil _ }
@@ -74,8 +83,8 @@ cursors-light : (cursors : List InputView) → All IsSmall cursors → inputs_we
 cursors-light [] all = omega arith
 cursors-light (h ∷ hs) all =
     let small = All-head IsSmall h hs all in
-    let block = small.0 in
-    let names = declared-light h.source.declared small.1 in
+    let block = small.block in
+    let names = declared-light h.source.declared small.section in
     let others = cursors-light hs (All-tail IsSmall h hs all) in
     omega (arith, block, names, others)
 

@@ -125,9 +125,9 @@ declared_weight Nothing = 0
 declared_weight (PcapFile head) = 0
 declared_weight (PcapngFile first section) = names_weight (map (λ i. i.name) section.interfaces)
 
--- of an input: its current unit, the interfaces of its section, and 40 for the rest
+-- of an input: the block that holds its units, the interfaces of its section, and 40 for the rest
 abbrev pub input_weight : InputView → ℕ
-input_weight h = length h.source.block + declared_weight h.source.declared + 40
+input_weight h = h.source.room + declared_weight h.source.declared + 40
 
 abbrev pub inputs_weight : List InputView → ℕ
 inputs_weight [] = 0
@@ -152,9 +152,12 @@ abbrev pub most_weight : ℕ → ℕ → ℕ
 most_weight inputs marks =
     inputs * most_in_unit + (256 * inputs + most_output_interfaces) * 280 + 20 * marks + 128
 
--- at most one unit is held of an input, and few interfaces
-abbrev pub IsSmall : InputView → Type 0
-IsSmall h = (length h.source.block ≤ most_in_unit) × SectionFits h.source.declared
+-- of an input at most one unit is held, in a block that has room for no more than one, and few
+-- interfaces
+pub record IsSmall (h : InputView) : Type 0 where
+  pub held : length h.source.block ≤ h.source.room
+  pub block : h.source.room ≤ most_in_unit
+  pub section : SectionFits h.source.declared
 
 abbrev pub IsBounded : InputsView → Target → Type 0
 IsBounded inputs target = All IsSmall inputs.cursors × HasFewOutputInterfaces target

@@ -15,7 +15,7 @@ use Rattle.cap_inputs.specs.Fresh.{fresh_inputs}
 use Rattle.cap_tools.specs.Call.{Call, RunResult}
 use Rattle.flt_bpf.specs.Content.{Content}
 use Rattle.cap_tools.specs.Machine.{MachineState, PacketsDecided, GoesOn, EndLeaves, StepGives, output_form, written_by, failures_by, texts}
-use Rattle.cap_inputs.specs.Inputs.{never_failing}
+use Rattle.cap_inputs.specs.Inputs.{device_limits}
 
 -- ---- the view
 
@@ -142,8 +142,8 @@ pub record IsUnderWay (ss : List InputPast) (before : List ℕ) (first j : JobVi
   pub output : failures_by j.machine ≡ failures_by first.machine
   pub names : j.machine.output.names ≡ first.machine.output.names
   pub order : j.machine.inputs.order ≡ first.machine.inputs.order
-  -- an input that never fails is cut short by no failure
-  pub never : never_failing j.machine.inputs.cursors ≡ never_failing first.machine.inputs.cursors
+  -- what is known of the inputs' devices when the job begins holds of them
+  pub limits : device_limits j.machine.inputs.cursors ≡ device_limits first.machine.inputs.cursors
 
 -- The last step ended the job in one way, behind steps that went on. The output and the messages'
 -- device are handed back as that step left them.

@@ -7,7 +7,7 @@ use Rattle.cap_octet.specs.declared.fault.Fault.TheVariants.{ReadFailed, NoMemor
 use Rattle.cap_octet.specs.declared.device.DeviceFault.{DeviceFault}
 use Rattle.cap_io.specs.Capture.{Placed, Items, kind_of}
 use Rattle.cap_io.specs.Source.{SourceView, Advances}
-use Rattle.cap_io.specs.Position.{IsCutShort}
+use Rattle.cap_io.specs.Position.{IsCutShort, MemoryEndsAt, ReadFailsAt}
 use Rattle.cap_filter.specs.Programs.{spent_in}
 use Rattle.cap_inputs.specs.declared.inputs.Next.TheVariants as next
 use Rattle.cap_packets.specs.declared.selector.Verdict as code
@@ -21,7 +21,7 @@ use Rattle.cap_packets.specs.Verdict.{Policy, SelectorState, PassesAs, judge}
 use Rattle.cap_packets.specs.Selector.{PolicyState, SelectorView, IsWithin, with_empty_tally, is_count, most_spent, spent_by_verdict}
 use Rattle.cap_packets.specs.Selector as selecting
 use Rattle.cap_packets.specs.Outcome.{Form, JobProgress, Work, ComeFirst, IsNextEvent, AreAllEvents, cut_at, no_progress, apply_events, final_progress, final_text, output_text, closing_text, first_link, packet_bytes, report_bytes, form_refuses, form_takes_memory}
-use Rattle.cap_inputs.specs.Inputs.{InputsView, InputView, InputPast, AreInputsBehind, KnowGreatest, AreSettled, IsInput, ReadsInput, IsNext, input_after, never_failing}
+use Rattle.cap_inputs.specs.Inputs.{InputsView, InputView, InputPast, AreInputsBehind, KnowGreatest, AreSettled, IsInput, ReadsInput, IsNext, input_after, device_limits}
 
 -- ---- the view
 
@@ -236,7 +236,7 @@ pub record GoesOn {ss : List InputPast} {before : List ℕ} {old : MachineState}
   pub output : failures_by new ≡ failures_by old
   pub names : new.output.names ≡ old.output.names
   pub order : new.inputs.order ≡ old.inputs.order
-  pub never : never_failing new.inputs.cursors ≡ never_failing old.inputs.cursors
+  pub limits : device_limits new.inputs.cursors ≡ device_limits old.inputs.cursors
 
 -- how far a job comes over inputs with these items
 abbrev pub progress_over : MachineState → List InputItems → JobProgress
@@ -271,8 +271,9 @@ pub record EndsByCut {ss : List InputPast} {before : List ℕ} {old : MachineSta
   pub next : IsNext old.inputs (next.Read input)
   pub advances : Advances cursor.source.phase cursor.source (Err fault) after
   pub why :
-      ((fault ≡ ReadFailed) × (cursor.source.failures < after.failures)
-      × (cursor.source.never_fails ≡ false)) ⊎ (fault ≡ NoMemory)
+      ((fault ≡ ReadFailed)
+      × ReadFailsAt cursor.source after past.text cut.done cut.rest held.declared)
+      ⊎ ((fault ≡ NoMemory) × MemoryEndsAt cut.done cut.rest held.declared)
   pub comes : CompletesOutput (cut_at (wholes_of ss) input held) d new
       (FaultIn input fault after.offset)
 

@@ -1,12 +1,13 @@
 -- What a run of a command leaves: its outcome on the whole inputs; or what it leaves where a device
 -- fails, or memory runs out. All of it is said by the call, and by what the run hands back.
-use Rattle.std.specs.Prelude.{◌≡◌, ◌⊎◌, ℕ, ◌+◌, false, List, [], ◌∷◌, ◌++◌, length, map, Option, None, Some, true}
+use Rattle.std.specs.Prelude.{◌≡◌, ◌⊎◌, ℕ, ◌+◌, ◌-◌, List, [], ◌∷◌, ◌++◌, length, map, Option, None, Some, true}
 use Rattle.std.specs.List.{slice_get}
-use Rattle.cap_octet.specs.Device.{Stops}
+use Rattle.cap_octet.specs.Device.{HasGiven, Stops}
 use Rattle.cap_octet.specs.declared.fault.Fault.{Fault}
 use Rattle.cap_octet.specs.declared.fault.Fault.TheVariants.{ReadFailed, NoMemory}
-use Rattle.cap_io.specs.Capture.{Placed, Items}
-use Rattle.cap_io.specs.Position.{IsCutShort}
+use Rattle.cap_io.specs.Capture.{Declared, Placed, Items}
+use Rattle.cap_io.specs.Position.{IsCutShort, MemoryEndsAt}
+use Rattle.cap_io.specs.Reading.{decisive_length}
 use Rattle.flt_bpf.specs.Listing.{listing}
 use Rattle.flt_bpf.specs.declared.insn.Insn.{Insn}
 use Rattle.cap_octet.specs.declared.link.Link.{Link}
@@ -90,9 +91,14 @@ pub record HasLeft (call : Call) (o : Outcome) (r : RunResult) : Type 0 where
 
 -- ---- an input is cut short
 
--- a read failed, which only a device that may fail does; or there was no memory for its next unit
-abbrev pub IsWhyCut : Fault → FreshInput → Type 0
-IsWhyCut fault input = ((fault ≡ ReadFailed) × (input.never_fails ≡ false)) ⊎ (fault ≡ NoMemory)
+-- Why an input is cut short behind these whole units: a read failed, and the device wasn't sure to
+-- give as many bytes as decide what stands there; or there was no memory for its next unit, which is
+-- longer than each that the block held, or describes an interface.
+abbrev pub IsWhyCut : Fault → FreshInput → (done rest : List ℕ) → Declared → Type 0
+IsWhyCut fault input done rest declared =
+    ((fault ≡ ReadFailed)
+    × HasGiven input.sure (input.given + length done + (decisive_length declared rest - 1)))
+    ⊎ ((fault ≡ NoMemory) × MemoryEndsAt done rest declared)
 
 -- The outcome is that of inputs one of which ends by this fault where one of its units would begin.
 pub record HasCutInput (call : Call) (work : Work) (r : RunResult) : Type 0 where
@@ -100,9 +106,9 @@ pub record HasCutInput (call : Call) (work : Work) (r : RunResult) : Type 0 wher
   pub input : FreshInput
   pub among : slice_get call.inputs place ≡ Some input
   pub fault : Fault
-  pub why : IsWhyCut fault input
   pub held : Items
   pub cut : IsCutShort input.text fault held
+  pub why : IsWhyCut fault input cut.done cut.rest held.declared
   pub left : HasLeft call (outcome work call.names (cut_at (whole_inputs call) place held)) r
 
 -- ---- memory runs out

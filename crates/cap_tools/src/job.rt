@@ -20,7 +20,7 @@ use cap_filter::compile::compile_text;
 use cap_filter::filter::Filter;
 use cap_filter::message::tell_no_memory;
 use cap_filter::refusal::Refusal;
-use cap_inputs::{Inputs, Next};
+use cap_inputs::{InputCursor, Inputs, Next};
 use cap_octet::{Input, Output};
 use cap_packets::{JobOutput, Selector};
 use flt_bpf::Program;
@@ -407,7 +407,28 @@ impl<I: Input, O: Output, E: Output, A: Allocator + Copy + Drop> Job<I, O, E, A>
         }
     }
 
-    /// The output and the messages' device, as they stand.
+    /// The inputs, the output and the messages' device, as the last step left them. It takes no
+    /// memory.
+    pub fn into_devices(self) -> (Vec<InputCursor<I, A>, A>, O, E)
+        ensures inputs { result.0.items ≡ self.machine.inputs.cursors }
+        ensures written { O.written result.1 ≡ written_by self.machine }
+        ensures failures { O.failures result.1 ≡ failures_by self.machine }
+        ensures messages { output_view (E.written result.2) (E.failures result.2) ≡ self.err }
+    {
+        let Job {
+            inputs,
+            output,
+            messages,
+            ..
+        } = self;
+        (
+            inputs.into_cursors(),
+            output.into_output(),
+            messages.into_device(),
+        )
+    }
+
+    /// The output and the messages' device, as they stand. The inputs are let go.
     pub fn close(self) -> (O, E)
     where
         I: Drop,
@@ -415,7 +436,8 @@ impl<I: Input, O: Output, E: Output, A: Allocator + Copy + Drop> Job<I, O, E, A>
         ensures failures { O.failures result.0 ≡ failures_by self.machine }
         ensures messages { output_view (E.written result.1) (E.failures result.1) ≡ self.err }
     {
-        (self.output.into_output(), self.messages.into_device())
+        let (_, out, err) = self.into_devices();
+        (out, err)
     }
 }
 

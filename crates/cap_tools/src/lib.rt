@@ -8,5 +8,6 @@ mod start;
 mod step;
 
 pub use cap_command::{Command, Compile, Edit, Merge, Print, Shift};
+pub use cap_inputs::InputCursor;
 pub use job::{Job, Turn, run};
 pub use jobs::Jobs;
