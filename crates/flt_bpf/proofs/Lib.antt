@@ -4,6 +4,7 @@ pub mod Codes
 pub mod Checking
 pub mod Scan
 pub mod Steps
+pub mod ByRules
 pub mod Suffix
 pub mod Standing
 pub mod Tests

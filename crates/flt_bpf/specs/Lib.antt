@@ -10,4 +10,5 @@ pub mod Position
 pub mod Reach
 pub mod Reading
 pub mod Refusal
+pub mod RunByRules
 pub mod Valid

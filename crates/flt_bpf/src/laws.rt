@@ -1,10 +1,15 @@
 //! Laws over the definitions of codes and of listings.
 
-ghost use Rattle.std.specs.Prelude.{◌≡◌, ℕ, ◌≤◌, List, length, All, Some};
+ghost use Rattle.std.specs.Prelude.{◌≡◌, ℕ, ◌≤◌, List, length, All, Some, None};
 ghost use Rattle.flt_bpf.specs.declared.insn.Insn.{Insn};
+ghost use Rattle.flt_bpf.specs.declared.fault.CheckFault.{CheckFault};
+ghost use Rattle.flt_bpf.specs.declared.machine.State.{State};
 ghost use Rattle.flt_bpf.specs.declared.operation.Operation.{Operation};
 ghost use Rattle.flt_bpf.specs.Instructions.{code_of, operation_of};
 ghost use Rattle.flt_bpf.specs.Listing.{listing, HasFieldsInRange, IsListing, IsRefusedAt};
+ghost use Rattle.flt_bpf.specs.Machine.{machine, Stands, Answered};
+ghost use Rattle.flt_bpf.specs.RunByRules.{run_by_rules, end_of, BreaksAt, MeetsNoBrokenRule};
+ghost use Rattle.flt_bpf.specs.Valid.{IsValid};
 
 /// An operation that a code gives has this code. The other way round is in the contract of
 /// `Operation::code`.
@@ -34,4 +39,21 @@ pub fn one_reading()
         → IsRefusedAt text other → line ≡ other }
     ensures not_both { (text : List ℕ) (is : List Insn) (line : ℕ) → IsListing text is
         → ¬ IsRefusedAt text line }
+{}
+
+/// What `run_any` returns of the machine's run: where that meets no instruction that breaks a rule,
+/// its answer and count, or nothing where it goes past the end. So of every valid program. Where it
+/// meets a broken rule there is nothing. What is returned is always the machine's.
+pub fn any_run()
+    ensures unbroken { (insns : List Insn) (packet : List ℕ) (len : ℕ)
+        → MeetsNoBrokenRule insns packet len
+        → run_by_rules insns packet len ≡ end_of (machine insns packet len (length insns)) }
+    ensures valid { (insns : List Insn) (packet : List ℕ) (len : ℕ) → IsValid insns
+        → run_by_rules insns packet len ≡ end_of (machine insns packet len (length insns)) }
+    ensures broken { (insns : List Insn) (packet : List ℕ) (len met place : ℕ) (state : State)
+        (fault : CheckFault) → machine insns packet len met ≡ Stands place state
+        → BreaksAt insns fault place → run_by_rules insns packet len ≡ None }
+    ensures answer { (insns : List Insn) (packet : List ℕ) (len answer count : ℕ)
+        → run_by_rules insns packet len ≡ Some (answer, count)
+        → machine insns packet len (length insns) ≡ Answered answer count }
 {}

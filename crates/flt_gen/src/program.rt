@@ -15,7 +15,7 @@ use flt_tree::{Checked, Node};
 use std::alloc::{AllocError, Allocator};
 
 /// The instructions of a program for the tree with these nodes.
-fn program_insns<A: Allocator + Copy>(
+fn program_insns<A: Allocator + Clone>(
     alloc: A,
     nodes: &[Node],
     link: Link,
@@ -40,8 +40,8 @@ fn program_insns<A: Allocator + Copy>(
 /// expression's counts.
 ///
 /// An error is a failed allocation: for the instructions, or for what waits while the tree is
-/// walked.
-pub fn generate<A: Allocator + Copy, B: Allocator>(
+/// walked; or an allocator that cannot be cloned.
+pub fn generate<A: Allocator + Clone, B: Allocator>(
     alloc: A,
     expr: &Checked<B>,
     link: Link,
@@ -52,8 +52,8 @@ pub fn generate<A: Allocator + Copy, B: Allocator>(
         → IfOk result (λ program. IsShort program.insns (short_bound_of expr.now.expr)) }
     ensures fresh { IfOk result (λ program. program.spent ≡ 0) }
 {
-    let insns = program_insns(alloc, expr.expr.nodes(), link)?;
-    let turned = pass_loads(alloc, insns)?;
+    let insns = program_insns(alloc.clone()?, expr.expr.nodes(), link)?;
+    let turned = pass_loads(alloc.clone()?, insns)?;
     let short = shortened(alloc, turned)?;
     match check(short) {
         Ok(program) => Ok(program),

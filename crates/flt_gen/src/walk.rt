@@ -402,11 +402,15 @@ impl<A: Allocator> Walk<A> {
     }
 }
 
-impl<A: Allocator + Copy> Walk<A> {
+impl<A: Allocator + Clone> Walk<A> {
     /// The two returns: a packet is kept, or it isn't.
     pub fn new(alloc: A) -> Result<Self, AllocError>
         ensures { IfOk result (λ walk. walk ≡ start_walk) }
     {
+        let truths = Stack::new(alloc.clone()?);
+        let numbers = Stack::new(alloc.clone()?);
+        let accessors = Vec::new(alloc.clone()?);
+        let group = Group::new(alloc.clone()?);
         let mut code = Code::new(alloc);
         code.emit_plain(Operation::ReturnConstant, 0)?;
         code.emit_plain(Operation::ReturnConstant, KEEP)?;
@@ -414,10 +418,10 @@ impl<A: Allocator + Copy> Walk<A> {
             code,
             to: Targets { yes: 2, no: 1 },
             slot: 0,
-            truths: Stack::new(alloc),
-            numbers: Stack::new(alloc),
-            accessors: Vec::new(alloc),
-            group: Group::new(alloc),
+            truths,
+            numbers,
+            accessors,
+            group,
             pending: Pending::Nothing,
         })
     }

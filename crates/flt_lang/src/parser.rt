@@ -15,8 +15,8 @@ use std::alloc::Allocator;
 ///
 /// `NestedTooDeep` is reported before anything else is looked at, `NotAnExpression` where the
 /// tokens have no tree. `Memory` comes in place of the result where the nodes, or what waits for an
-/// operand, cannot be kept.
-pub fn parse<A: Allocator + Copy>(alloc: A, tokens: &[Token]) -> Result<Expr<A>, ExprFault>
+/// operand, cannot be kept, or the allocator cannot be cloned.
+pub fn parse<A: Allocator + Clone>(alloc: A, tokens: &[Token]) -> Result<Expr<A>, ExprFault>
     ensures deep { (result ≡ Err ExprFault.NestedTooDeep) ↔ IsTooDeep tokens.now }
     ensures ok { IfOk result (λ tree. IsReadAs (kinds_of tokens.now) tree) }
     ensures none { result ≡ Err ExprFault.NotAnExpression
@@ -32,13 +32,13 @@ pub fn parse<A: Allocator + Copy>(alloc: A, tokens: &[Token]) -> Result<Expr<A>,
 
 /// The tree of the tokens.
 #[tactic(auto, using(crate::proofs::Parsing::no_tree))]
-fn read<A: Allocator + Copy>(alloc: A, tokens: &[Token]) -> Result<Expr<A>, ExprFault>
+fn read<A: Allocator + Clone>(alloc: A, tokens: &[Token]) -> Result<Expr<A>, ExprFault>
     ensures ok { IfOk result (λ tree. IsReadAs (kinds_of tokens.now) tree) }
     ensures none { result ≡ Err ExprFault.NotAnExpression
         → (tree : Expression) → IsReadAs (kinds_of tokens.now) tree → ⊥ }
     ensures err { IfErr result IsReadFault }
 {
-    let mut reader = Reader::new(alloc);
+    let mut reader = Reader::new(alloc)?;
     reader.read(tokens)?;
     Ok(reader.into_expr())
 }

@@ -21,7 +21,6 @@ use Rattle.flt_reader.specs.declared.frame.Operand.{Operand}
 use Rattle.flt_reader.specs.declared.frame.Operand.TheVariants as operand
 use Rattle.flt_reader.specs.declared.frame.Sort.{Sort}
 use Rattle.flt_reader.specs.declared.frame.Sort.TheVariants as sort
-use Rattle.flt_tree.specs.Tree.{NumberTree, literal, len, named, load, negated, applied, TruthTree, check, cast, sized, bare, valued, qualified, compared, denied, joined, Expression, empty, truth}
 use Rattle.flt_reader.specs.Values.{qualifiers_of, value_of}
 use Rattle.flt_reader.specs.Grammar.{level, is_check, is_accessor, has_casts}
 

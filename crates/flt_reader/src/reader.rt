@@ -48,16 +48,16 @@ impl<A: Allocator> Model for Reader<A> {
 
 impl<A: Allocator> Reader<A> {
     /// Nothing is read yet.
-    pub fn new(alloc: A) -> Self
+    pub fn new(alloc: A) -> Result<Self, AllocError>
     where
-        A: Copy,
-        ensures frames { result.frames ≡ [] }
-        ensures nodes { result.nodes ≡ [] }
+        A: Clone,
+        ensures frames { IfOk result (λ reader. reader.frames ≡ []) }
+        ensures nodes { IfOk result (λ reader. reader.nodes ≡ []) }
     {
-        Reader {
-            frames: Vec::new(alloc),
+        Ok(Reader {
+            frames: Vec::new(alloc.clone()?),
             nodes: Vec::new(alloc),
-        }
+        })
     }
 
     /// Adds a node.

@@ -434,7 +434,7 @@ fn replacement<A: Allocator>(
 }
 
 /// The shorter program, if what was made replaces the old one.
-fn attempt<A: Allocator + Copy>(
+fn attempt<A: Allocator + Clone>(
     alloc: A,
     insns: &[Insn],
     merges: bool,
@@ -442,7 +442,7 @@ fn attempt<A: Allocator + Copy>(
     ensures { IfOk result
         (λ outcome. IfSome outcome (λ short. Replaces short.items insns.now)) }
 {
-    let mut landings = vec![in alloc; NOWHERE; insns.len()]?;
+    let mut landings = vec![in alloc.clone()?; NOWHERE; insns.len()]?;
     let backwards = vec![in alloc; EMPTY; insns.len()]?;
     Ok(replacement(insns, &mut landings, backwards, merges))
 }
@@ -450,13 +450,13 @@ fn attempt<A: Allocator + Copy>(
 /// A program that replaces an old one: it gives the same answers, in no more instructions. Where
 /// blocks that are put once are too far for some jump, they are put where they were, and where that
 /// fails, as it does for a program with a jump (`ja`), it is the old program.
-pub fn shortened<A: Allocator + Copy>(
+pub fn shortened<A: Allocator + Clone>(
     alloc: A,
     insns: Vec<Insn, A>,
 ) -> Result<Vec<Insn, A>, AllocError>
     ensures { IfOk result (λ short. Replaces short.items insns.items) }
 {
-    if let Some(short) = attempt(alloc, &insns, true)? {
+    if let Some(short) = attempt(alloc.clone()?, &insns, true)? {
         return Ok(short);
     }
     if let Some(short) = attempt(alloc, &insns, false)? {

@@ -1,9 +1,9 @@
 -- Each node has room, and leaves the same walk to do.
-use Rattle.std.proofs.Common.{◌≡◌, ◌-◌, Some, None, ◌∙◌, sym, ap, subst, length, take, get_or, arith}
-use Rattle.std.specs.Prelude.{reverse, if◌then◌else◌}
+use Rattle.std.proofs.Common.{◌≡◌, ◌-◌, Some, None, ◌∙◌, sym, ap, subst, length, get_or, arith}
+use Rattle.std.specs.Prelude.{if◌then◌else◌}
 use Rattle.flt_words.specs.declared.token.Protocol.TheVariants.{Ether}
 use Rattle.flt_tree.specs.declared.node.Node.TheVariants.{Check}
-use Rattle.flt_gen.specs.Walk.{Walk, emit_node, emit_nodes, start_walk}
+use Rattle.flt_gen.specs.Walk.{Walk, emit_node}
 use Rattle.flt_gen.proofs.Turned.{Stands, stands, first_stands, node_stands, both_stand}
 use Rattle.flt_gen.proofs.walk.Walk.emit_nodes.Goals as goal
 
