@@ -4,6 +4,8 @@
 #[cfg(test)]
 mod devices;
 #[cfg(test)]
+mod endings;
+#[cfg(test)]
 mod filters;
 #[cfg(test)]
 mod heaps;
@@ -11,5 +13,7 @@ mod heaps;
 mod host;
 #[cfg(test)]
 mod printing;
+#[cfg(test)]
+mod proper;
 #[cfg(test)]
 mod streams;

@@ -48,12 +48,18 @@ const COUNTS: &[(&str, Counts)] = &[
     ("broadcast or ip multicast", (5, 0, 0, 32)),
     ("arp net 10 or src host 1::1", (8, 0, 0, 50)),
     ("udp[len - 1 : 2] = ether[0]", (5, 6, 1, 68)),
+    // As many words as there are.
+    (
+        "1 - (1 - (1 - (1 - (1 - (1 - (1 - (1 - (1 - (1 - (1 - (1 - (1 - (1 - (1 - (1 - len))))))))))))))) = 0",
+        (1, 34, 16, 212),
+    ),
 ];
 
 /// Texts that stand so often before another one, and the counts of all.
-const CHAINS: [(&str, usize, &str, Counts); 2] = [
+const CHAINS: [(&str, usize, &str, Counts); 3] = [
     ("port 1 or ", 39, "port 2", (440, 0, 0, 2642)),
     ("ip proto 6 or ", 29, "-len = 1", (59, 3, 1, 374)),
+    ("len = 1 or ", 1820, "ip", (1821, 3640, 1, 32_768)),
 ];
 
 /// A text so many times, and what follows it.

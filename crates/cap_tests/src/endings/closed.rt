@@ -1,0 +1,126 @@
+//! Runs, and jobs that are closed after each of their steps.
+
+use crate::endings::watched::Asked;
+use crate::endings::works::{
+    Memory, WORKS, WatchedJob, Work, asked_of, command_of, files_of, inputs_of, names_of, unasked,
+};
+use cap_octet::MemOutput;
+use cap_tools::{Job, Turn, run};
+use cap_trial::Trial;
+use std::alloc::Global;
+use std::test::Fail;
+
+/// More steps than any of these jobs makes.
+const MOST_STEPS: usize = 1_000;
+
+/// How many bytes are written and reported at most.
+const ROOM: usize = 1_000;
+
+/// What was asked of each input up to the last of so many steps and up to the job's end, and the
+/// status, if a step returned it.
+#[derive(Drop)]
+struct Seen {
+    status: Option<u8>,
+    stepped: [Asked; 2],
+    ended: [Asked; 2],
+}
+
+/// Lets the job and its inputs go.
+fn end(job: WatchedJob<'_, '_>) {
+    let _ = job.close();
+}
+
+/// Makes so many steps of the work's job, and ends it.
+fn step_and_end(
+    memory: &Memory,
+    work: &Work,
+    files: &[Vec<u8>; 2],
+    (steps, lends): (usize, bool),
+) -> Result<Seen, Fail> {
+    let asked = unasked();
+    let (mut room, mut told) = ([0; ROOM], [0; ROOM]);
+    let (out, err) = (MemOutput::new(&mut room), MemOutput::new(&mut told));
+    let command = command_of(memory, work.task)?;
+    let names = names_of(memory, files)?;
+    let inputs = inputs_of(memory, files, &asked, lends)?;
+    if !command.is_proper(inputs.len()) {
+        return Err(Fail::from("the command may not be run"));
+    }
+    let Ok(mut job) = Job::new(memory, command, names, inputs, out, err) else {
+        return Err(Fail::from("no job"));
+    };
+    let mut status = None;
+    for _ in 0..steps {
+        status = match job.step() {
+            Turn::More => None,
+            Turn::Done(status) => Some(status),
+        };
+    }
+    let stepped = asked_of(&asked);
+    end(job);
+    let ended = asked_of(&asked);
+    Ok(Seen {
+        status,
+        stepped,
+        ended,
+    })
+}
+
+/// Whether the job, ended after each number of steps, reads as much of its inputs as its steps did,
+/// and after its last step as much as the work says, with its status.
+fn are_ends_quiet(alloc: Global, work: &Work, lends: bool) -> Result<bool, Fail> {
+    let memory = Trial::new(alloc);
+    let files = files_of(alloc, work)?;
+    for steps in 0..MOST_STEPS {
+        let seen = step_and_end(&memory, work, &files, (steps, lends))?;
+        if seen.stepped != seen.ended {
+            return Ok(false);
+        }
+        if let Some(status) = seen.status {
+            return Ok(status == work.status && are_bytes(&seen.ended, work));
+        }
+    }
+    Ok(false)
+}
+
+/// Whether so many bytes were given as the work says.
+fn are_bytes(asked: &[Asked; 2], work: &Work) -> bool {
+    asked[0].bytes == work.bytes[0] && asked[1].bytes == work.bytes[1]
+}
+
+/// Runs the work. Whether as much of its inputs is read as it says.
+fn is_run_quiet(alloc: Global, work: &Work, lends: bool) -> Result<bool, Fail> {
+    let memory = Trial::new(alloc);
+    let files = files_of(alloc, work)?;
+    let asked = unasked();
+    let (mut room, mut told) = ([0; ROOM], [0; ROOM]);
+    let (out, err) = (MemOutput::new(&mut room), MemOutput::new(&mut told));
+    let command = command_of(&memory, work.task)?;
+    let names = names_of(&memory, &files)?;
+    let inputs = inputs_of(&memory, &files, &asked, lends)?;
+    if !command.is_proper(inputs.len()) {
+        return Err(Fail::from("the command may not be run"));
+    }
+    let (status, _, _) = run(&memory, command, names, inputs, out, err);
+    Ok(status == work.status && are_bytes(&asked_of(&asked), work))
+}
+
+#[test]
+fn a_job_that_is_closed_reads_no_more(rt: HostRuntime) -> Result<(), Fail> {
+    for (number, work) in WORKS.iter().enumerate() {
+        for lends in [false, true] {
+            assert!(rt; are_ends_quiet(rt.alloc(), work, lends)?, "work {number}");
+        }
+    }
+    Ok(())
+}
+
+#[test]
+fn a_run_reads_no_more_than_its_steps(rt: HostRuntime) -> Result<(), Fail> {
+    for (number, work) in WORKS.iter().enumerate() {
+        for lends in [false, true] {
+            assert!(rt; is_run_quiet(rt.alloc(), work, lends)?, "work {number}");
+        }
+    }
+    Ok(())
+}

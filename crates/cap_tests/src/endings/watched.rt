@@ -1,0 +1,74 @@
+//! An input that is watched from outside, also where it is gone.
+
+use cap_octet::{DeviceFault, Input, MemInput};
+use std::cell::Cell;
+
+/// What was asked of an input.
+#[derive(Clone, Copy, PartialEq, Eq)]
+pub struct Asked {
+    /// The calls that take bytes, or would.
+    pub calls: u64,
+    /// The bytes that it gave.
+    pub bytes: usize,
+}
+
+impl Asked {
+    /// Nothing yet.
+    pub fn nothing() -> Self {
+        Asked { calls: 0, bytes: 0 }
+    }
+}
+
+/// Gives the bytes of a slice. What is asked of it is counted outside of it.
+#[derive(Drop)]
+pub struct Watched<'a> {
+    pub inner: MemInput<'a>,
+    pub asked: &'a Cell<Asked>,
+    /// Whether it shows what it has, so that bytes are taken without a read.
+    pub lends: bool,
+}
+
+impl Watched<'_> {
+    /// Counts a call that took so many bytes.
+    fn count(&self, bytes: usize) {
+        let mut new = self.asked.get();
+        new.calls = new.calls.saturating_add(1);
+        new.bytes = new.bytes.saturating_add(bytes);
+        self.asked.set(new);
+    }
+}
+
+impl Input for Watched<'_> {
+    ghost tells = { Prim.true };
+
+    ghost unread = { λ s. ⟦<MemInput<'static> as Input>⟧.unread s.inner };
+
+    ghost given = { λ s. ⟦<MemInput<'static> as Input>⟧.given s.inner };
+
+    ghost failures = { λ s. ⟦<MemInput<'static> as Input>⟧.failures s.inner };
+
+    fn read(&mut self, buf: &mut [u8]) -> Result<usize, DeviceFault> {
+        let returned = self.inner.read(buf);
+        self.count(returned.unwrap_or(0));
+        returned
+    }
+
+    fn at_hand(&self) -> &[u8] {
+        if self.lends {
+            self.inner.at_hand()
+        } else {
+            &[]
+        }
+    }
+
+    fn pass(&mut self, count: usize) -> bool {
+        if !self.lends || !self.inner.pass(count) {
+            self.count(0);
+            return false;
+        }
+        self.count(count);
+        true
+    }
+
+    ghost unfailed = { Prim.search rules };
+}

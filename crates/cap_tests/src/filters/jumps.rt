@@ -1,0 +1,106 @@
+//! Where the program of an expression has jumps (`ja`).
+
+use cap_command::{Command, Compile};
+use cap_octet::{Link, MemInput, MemOutput};
+use cap_tools::run;
+use flt_bpf::{Insn, read_listing};
+use std::alloc::{AllocError, Global};
+use std::test::Fail;
+
+/// The code of `ja`.
+const JUMP: u16 = 5;
+
+/// The bits of a code that say its class, and the class of jumps.
+const CLASS: u16 = 7;
+
+/// The farthest that a conditional jump reaches by its own offsets.
+const FARTHEST: usize = 255;
+
+/// How many bytes the listings of this module have at most.
+const ROOM: usize = 30_000;
+
+/// The command that compiles the text.
+fn compile(alloc: Global, text: &str) -> Result<Command, AllocError> {
+    let expr = String::from_str(alloc, text)?;
+    let link = Link::Ether;
+    Ok(Command::Compile(Compile { expr, link }))
+}
+
+/// The instructions of the listing that a run of `compile` writes.
+fn compiled(alloc: Global, text: &str) -> Result<Vec<Insn>, Fail> {
+    let command = compile(alloc, text)?;
+    let mut names = Vec::new(alloc);
+    names.push(String::from_str(alloc, "out")?)?;
+    let inputs: Vec<MemInput<'_>> = Vec::new(alloc);
+    let mut listing = vec![in alloc; 0u8; ROOM]?;
+    let (out, err) = (MemOutput::new(&mut listing), MemOutput::new(&mut []));
+    if !command.is_proper(inputs.len()) {
+        return Err(Fail::from("the command may not be run"));
+    }
+    let (status, out, _) = run(alloc, command, names, inputs, out, err);
+    if status != 0 {
+        return Err(Fail::from("no listing"));
+    }
+    Ok(read_listing(alloc, out.written())?)
+}
+
+/// Whether an offset of this instruction leads over so many others.
+fn leads_over(insn: &Insn, count: usize) -> bool {
+    usize::from(insn.jt) == count || usize::from(insn.jf) == count
+}
+
+/// Whether each `ja` stands behind a conditional jump, at most one other `ja` between them, that
+/// leads to it, and for a target that is more than 255 instructions past the one after that.
+fn jumps_are_needed(insns: &[Insn]) -> bool {
+    let mut test: Option<(usize, &Insn)> = None;
+    for (at, insn) in insns.iter().enumerate() {
+        if insn.code != JUMP {
+            test = Some((at, insn));
+            continue;
+        }
+        let Some((place, found)) = test else {
+            return false;
+        };
+        let past = at.saturating_sub(place).saturating_sub(1);
+        let target = past.saturating_add(1).saturating_add(insn.k as usize);
+        if found.code & CLASS != JUMP || !leads_over(found, past) || target <= FARTHEST {
+            return false;
+        }
+    }
+    true
+}
+
+/// How many instructions are `ja`.
+fn count_jumps(insns: &[Insn]) -> usize {
+    let mut count = 0usize;
+    for insn in insns {
+        if insn.code == JUMP {
+            count = count.saturating_add(1);
+        }
+    }
+    count
+}
+
+/// `ip or len = 1 or len = 1 ..`, with 0 to 200 tests of the length. Where 2, 4 for each test and 6
+/// for each node are at most 256, a program has at most as many instructions, and no `ja`.
+#[test]
+fn longer_and_longer(rt: HostRuntime) -> Result<(), Fail> {
+    let mut text = String::from_str(rt.alloc(), "ip")?;
+    let mut jumps = 0;
+    for times in 0..201usize {
+        let insns = compiled(rt.alloc(), &text)?;
+        jumps = count_jumps(&insns);
+        let (tests, nodes) = (times + 1, 2 * times);
+        let short = 2 + 4 * tests + 6 * nodes;
+        assert!(rt; jumps_are_needed(&insns), "{times} times");
+        assert!(rt;
+            short > 256 || jumps == 0 && insns.len() <= short,
+            "{times} times"
+        );
+        assert!(rt; insns.len() <= 2 + 6 * (tests + nodes), "{times} times");
+        text.push_str(" or len = 1")?;
+    }
+    // The longest program has some.
+    assert!(rt; jumps > 0);
+    Ok(())
+}
