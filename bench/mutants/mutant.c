@@ -1,5 +1,5 @@
 /* Which mutant a program is: the number that MUTANT has in its environment, 0 without it. With
- * MUTANT_TRACE=FILE the places that asked are written into that file at the end, a line each. */
+ * MUTANT_TRACE=FILE the places that asked are added to that file at the end, a line each. */
 #include <stdio.h>
 #include <stdlib.h>
 
@@ -9,7 +9,7 @@ static unsigned mutant;
 static unsigned char *asked;
 
 static void write_asked(void) {
-    FILE *file = fopen(getenv("MUTANT_TRACE"), "w");
+    FILE *file = fopen(getenv("MUTANT_TRACE"), "a");
     if (!file) return;
     for (unsigned place = 0; place < MOST_PLACES; place++)
         if (asked[place]) fprintf(file, "%u\n", place);

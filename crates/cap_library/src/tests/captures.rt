@@ -228,6 +228,7 @@ const FAULTS: &[(&[u8], usize, u8, u32, usize)] = &[
     (BLOCKS, 116, 200, 9, 96),
     (BLOCKS, 56, 13, 12, 28),
     (BLOCKS, 96, 2, 14, 96),
+    (SECTIONS, 132, 3, 7, 132),
 ];
 
 #[test]

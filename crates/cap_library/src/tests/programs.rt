@@ -117,6 +117,24 @@ fn a_short_text(rt: HostRuntime) -> Result<(), Fail> {
     Ok(())
 }
 
+/// A link type, and where its packets say by which byte that they are IPv4.
+const LINK_TYPES: [(u16, usize, u8); 3] = [(1, 12, 8), (101, 0, 0x45), (113, 14, 8)];
+
+#[test]
+fn link_types(rt: HostRuntime) -> Result<(), Fail> {
+    for (link_type, at, byte) in LINK_TYPES {
+        let (mut insns, mut count) = ([UNWRITTEN; 8], 77);
+        let status = capkit_compile(rt.alloc(), b"ip", link_type, &mut insns, &mut count);
+        let program = insns.get(..count).unwrap_or(&[]);
+        let mut packet = [0u8; 16];
+        let rejects = matches!(answer_of(program, &packet), Some((0, _)));
+        packet[at] = byte;
+        let accepts = matches!(answer_of(program, &packet), Some((262_144, _)));
+        assert!(rt; status == 0 && rejects && accepts, "link type {link_type}");
+    }
+    Ok(())
+}
+
 /// `tcp port 20000 or 20001` and so on up to 20,199: 2,002 bytes.
 fn many_ports(alloc: Global) -> Result<String, Fail> {
     let mut text = String::from_str(alloc, "tcp port 20000")?;

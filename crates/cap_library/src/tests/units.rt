@@ -131,19 +131,22 @@ const UNITS: &[(Unit, &[u8])] = &[
     ),
 ];
 
-/// Whether a unit is written into a buffer with room for more, and into none that is too small.
+/// Whether a unit is written into a buffer with room for more, into none that is too small, and into
+/// one of its size.
 fn is_written_as(unit: Unit, expected: &[u8]) -> bool {
     let bytes = [0xaa, 0xbb, 0xcc, 0xdd];
     let (mut buffer, mut length) = ([0xa5; 64], 77);
     let size = expected.len().min(64);
     let status = write(unit, &bytes, &mut buffer, &mut length);
     let is_kept = buffer[size..].iter().all(|byte| *byte == 0xa5);
-    let is_whole = status == 0 && length == expected.len() && &buffer[..size] == expected;
+    let is_whole = (status, length) == (0, expected.len()) && &buffer[..size] == expected;
     let (mut short, mut needed) = ([0xa5; 64], 77);
     let room = size.saturating_sub(1);
     let status = write(unit, &bytes, &mut short[..room], &mut needed);
     let is_empty = short.iter().all(|byte| *byte == 0xa5);
-    is_whole && is_kept && status == 25 && needed == expected.len() && is_empty
+    let is_refused = (status, needed) == (25, expected.len()) && is_empty;
+    let fits = write(unit, &bytes, &mut short[..size], &mut needed) == 0;
+    is_whole && is_kept && is_refused && fits && &short[..size] == expected
 }
 
 /// Units of zeros that are refused, and the number of the check that they fail. The last of each
