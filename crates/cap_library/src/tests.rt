@@ -1,0 +1,7 @@
+//! Tests of the calls as C makes them: each export on its happy path, with values from outside.
+
+mod captures;
+mod portable;
+mod programs;
+mod texts;
+mod units;

@@ -1,0 +1,281 @@
+//! Captures that are read: one of each form, put together by the formats' drafts.
+
+use crate::reading::{capkit_comment, capkit_next};
+use cap_memory::{Interface, Packet, Reader};
+use std::test::Fail;
+
+/// The start of a capture.
+const START: Reader = Reader {
+    offset: 0,
+    snap: 0,
+    interfaces: 0,
+    link_type: 0,
+    has_link_type: 0,
+    form: 0,
+    big_endian: 0,
+    nanoseconds: 0,
+};
+
+const NO_INTERFACE: Interface = Interface {
+    units: 0,
+    offset: 0,
+    snap: 0,
+    link_type: 0,
+    name_length: 0,
+    name: [0; 255],
+};
+
+const NO_PACKET: Packet = Packet {
+    time: 77,
+    at: 77,
+    options_at: 77,
+    captured: 77,
+    original: 77,
+    options_length: 77,
+    interface: 77,
+    snap: 77,
+    link_type: 77,
+};
+
+/// A packet: its time and place, its captured and original length, its interface with snapshot
+/// length and link type, its comment.
+type Seen = ((u64, usize), (u32, u32), (u32, u32, u16), &'static [u8]);
+
+/// The room of the table, the number that a call returns, and the packet that it finds.
+type Call = (usize, u32, Option<Seen>);
+
+/// Microseconds, little-endian, Ethernet, snapshot length 262,144: one record.
+const MICROSECONDS: &[u8] = &[
+    0xd4, 0xc3, 0xb2, 0xa1, 2, 0, 4, 0, 0, 0, 0, 0, 0, 0, 0, 0, 0, 0, 4, 0, 1, 0, 0, 0, 1, 0, 0, 0,
+    5, 0, 0, 0, 4, 0, 0, 0, 9, 0, 0, 0, 0xaa, 0xbb, 0xcc, 0xdd,
+];
+
+/// Nanoseconds, big-endian, raw IP, snapshot length 96: two records.
+const NANOSECONDS: &[u8] = &[
+    0xa1, 0xb2, 0x3c, 0x4d, 0, 2, 0, 4, 0, 0, 0, 0, 0, 0, 0, 0, 0, 0, 0, 0x60, 0, 0, 0, 0x65, 0, 0,
+    0, 1, 0, 0, 0, 5, 0, 0, 0, 2, 0, 0, 0, 9, 0xaa, 0xbb, 0, 0, 0, 2, 0, 0, 0, 6, 0, 0, 0, 0, 0, 0,
+    0, 0,
+];
+
+/// A section, an interface `eth0` of nanoseconds that adds ten seconds, statistics, a packet with a
+/// comment, an interface of microseconds, a packet of it, a simple packet.
+const BLOCKS: &[u8] = &[
+    0x0a, 0x0d, 0x0d, 0x0a, 0x1c, 0, 0, 0, 0x4d, 0x3c, 0x2b, 0x1a, 1, 0, 0, 0, 0xff, 0xff, 0xff,
+    0xff, 0xff, 0xff, 0xff, 0xff, 0x1c, 0, 0, 0, 1, 0, 0, 0, 0x34, 0, 0, 0, 1, 0, 0, 0, 0x60, 0, 0,
+    0, 2, 0, 4, 0, 0x65, 0x74, 0x68, 0x30, 9, 0, 1, 0, 9, 0, 0, 0, 0x0e, 0, 8, 0, 0x0a, 0, 0, 0, 0,
+    0, 0, 0, 0, 0, 0, 0, 0x34, 0, 0, 0, 5, 0, 0, 0, 0x10, 0, 0, 0, 0, 0, 0, 0, 0x10, 0, 0, 0, 6, 0,
+    0, 0, 0x30, 0, 0, 0, 0, 0, 0, 0, 0, 0, 0, 0, 7, 0, 0, 0, 3, 0, 0, 0, 0x3c, 0, 0, 0, 0xaa, 0xbb,
+    0xcc, 0, 1, 0, 2, 0, 0x68, 0x69, 0, 0, 0, 0, 0, 0, 0x30, 0, 0, 0, 1, 0, 0, 0, 0x14, 0, 0, 0,
+    0x65, 0, 0, 0, 0, 0, 0, 0, 0x14, 0, 0, 0, 6, 0, 0, 0, 0x24, 0, 0, 0, 1, 0, 0, 0, 0, 0, 0, 0, 3,
+    0, 0, 0, 1, 0, 0, 0, 1, 0, 0, 0, 0xdd, 0, 0, 0, 0x24, 0, 0, 0, 3, 0, 0, 0, 0x14, 0, 0, 0, 2, 0,
+    0, 0, 0xee, 0xff, 0, 0, 0x14, 0, 0, 0,
+];
+
+/// A big-endian section with an interface of eighths of a second, a packet with a comment, and a
+/// little-endian section with a packet of no interface.
+const SECTIONS: &[u8] = &[
+    0x0a, 0x0d, 0x0d, 0x0a, 0, 0, 0, 0x1c, 0x1a, 0x2b, 0x3c, 0x4d, 0, 1, 0, 0, 0xff, 0xff, 0xff,
+    0xff, 0xff, 0xff, 0xff, 0xff, 0, 0, 0, 0x1c, 0, 0, 0, 1, 0, 0, 0, 0x20, 0, 0x71, 0, 0, 0, 0, 0,
+    0, 0, 9, 0, 1, 0x83, 0, 0, 0, 0, 0, 0, 0, 0, 0, 0, 0x20, 0, 0, 0, 6, 0, 0, 0, 0x2c, 0, 0, 0, 0,
+    0, 0, 0, 0, 0, 0, 0, 0x0c, 0, 0, 0, 1, 0, 0, 0, 1, 0xaa, 0, 0, 0, 0, 1, 0, 3, 0x62, 0x69, 0x67,
+    0, 0, 0, 0, 0x2c, 0x0a, 0x0d, 0x0d, 0x0a, 0x1c, 0, 0, 0, 0x4d, 0x3c, 0x2b, 0x1a, 1, 0, 0, 0,
+    0xff, 0xff, 0xff, 0xff, 0xff, 0xff, 0xff, 0xff, 0x1c, 0, 0, 0, 6, 0, 0, 0, 0x20, 0, 0, 0, 0, 0,
+    0, 0, 0, 0, 0, 0, 0, 0, 0, 0, 0, 0, 0, 0, 0, 0, 0, 0, 0x20, 0, 0, 0,
+];
+
+const CAPTURES: &[(&[u8], &[Call])] = &[
+    (
+        MICROSECONDS,
+        &[
+            (0, 23, None),
+            (
+                0,
+                0,
+                Some(((1_000_005_000, 40), (4, 9), (0, 262_144, 1), b"")),
+            ),
+            (0, 22, None),
+        ],
+    ),
+    (
+        NANOSECONDS,
+        &[
+            (0, 23, None),
+            (0, 0, Some(((1_000_000_005, 40), (2, 9), (0, 96, 101), b""))),
+            (0, 0, Some(((2_000_000_006, 58), (0, 0), (0, 96, 101), b""))),
+            (0, 22, None),
+        ],
+    ),
+    (
+        BLOCKS,
+        &[
+            (0, 23, None),
+            (0, 24, None),
+            (1, 23, None),
+            (1, 23, None),
+            (
+                1,
+                0,
+                Some(((10_000_000_007, 124), (3, 60), (0, 96, 1), b"hi")),
+            ),
+            (1, 24, None),
+            (2, 23, None),
+            (2, 0, Some(((3_000, 192), (1, 1), (1, 0, 101), b""))),
+            (2, 0, Some(((0, 212), (2, 2), (0, 96, 1), b""))),
+            (2, 22, None),
+        ],
+    ),
+    (
+        SECTIONS,
+        &[
+            (2, 23, None),
+            (2, 23, None),
+            (
+                2,
+                0,
+                Some(((1_500_000_000, 88), (1, 1), (0, 0, 113), b"big")),
+            ),
+            (2, 23, None),
+            (2, 7, None),
+        ],
+    ),
+];
+
+/// Whether what a call left is the packet of a row, with its comment.
+fn is_seen(seen: &Seen, reader: &Reader, capture: &[u8], packet: &Packet) -> bool {
+    let (place, lengths, interface, comment) = *seen;
+    let mut buffer = [b'~'; 4];
+    let length = capkit_comment(reader, capture, packet, &mut buffer);
+    let size = comment.len().min(4);
+    let is_commented = length == comment.len() && &buffer[..size] == &comment[..size];
+    let is_kept = buffer[size..].iter().all(|byte| *byte == b'~');
+    (packet.time, packet.at) == place
+        && (packet.captured, packet.original) == lengths
+        && (packet.interface, packet.snap, packet.link_type) == interface
+        && is_commented
+        && is_kept
+}
+
+/// Whether a call is as its row says; without a packet it writes none.
+fn is_right(call: &Call, reader: &mut Reader, table: &mut [Interface; 2], capture: &[u8]) -> bool {
+    let mut packet = NO_PACKET;
+    let room = call.0.min(2);
+    let number = capkit_next(reader, &mut table[..room], capture, &mut packet);
+    number == call.1
+        && match &call.2 {
+            Some(seen) => is_seen(seen, reader, capture, &packet),
+            None => packet.time == 77 && packet.at == 77 && packet.link_type == 77,
+        }
+}
+
+#[test]
+fn captures_are_read(rt: HostRuntime) -> Result<(), Fail> {
+    for (number, (capture, calls)) in CAPTURES.iter().enumerate() {
+        let (mut reader, mut table) = (START, [NO_INTERFACE; 2]);
+        for (at, call) in calls.iter().enumerate() {
+            let is_right = is_right(call, &mut reader, &mut table, capture);
+            assert!(rt; is_right, "capture {number}, call {at}");
+        }
+    }
+    Ok(())
+}
+
+/// Reads units up to a fault or the end, and gives its number, with the reader as it is then.
+fn read_all(capture: &[u8], table: &mut [Interface]) -> (u32, Reader) {
+    let (mut reader, mut packet) = (START, NO_PACKET);
+    let mut number = 0;
+    for _ in 0..300 {
+        number = capkit_next(&mut reader, table, capture, &mut packet);
+        if number != 0 && number != 23 {
+            break;
+        }
+    }
+    (number, reader)
+}
+
+/// What C sees of the reader and of the table.
+#[test]
+fn what_is_declared(rt: HostRuntime) -> Result<(), Fail> {
+    let mut table = [NO_INTERFACE; 2];
+    let (_, reader) = read_all(NANOSECONDS, &mut table);
+    assert!(rt; (reader.form, reader.big_endian, reader.nanoseconds) == (1, 1, 1));
+    assert!(rt; (reader.link_type, reader.has_link_type, reader.snap) == (101, 1, 96));
+    let (_, reader) = read_all(SECTIONS, &mut table);
+    assert!(rt; (reader.form, reader.big_endian, reader.interfaces) == (2, 0, 0));
+    assert!(rt; (reader.link_type, reader.has_link_type) == (113, 1));
+    let (_, reader) = read_all(BLOCKS, &mut table);
+    assert!(rt; (reader.form, reader.big_endian, reader.interfaces) == (2, 0, 2));
+    assert!(rt; (reader.link_type, reader.has_link_type) == (1, 1));
+    let first = &table[0];
+    assert!(rt; (first.units, first.offset, first.snap) == (1_000_000_000, 10, 96));
+    assert!(rt; (first.link_type, first.name_length) == (1, 4));
+    assert!(rt; first.name.starts_with(b"eth0"));
+    assert!(rt; (table[1].units, table[1].name_length) == (1_000_000, 0));
+    Ok(())
+}
+
+/// A capture, the place of a byte and what is put there, the number of the first check that fails,
+/// and the offset of its unit.
+const FAULTS: &[(&[u8], usize, u8, u32, usize)] = &[
+    (MICROSECONDS, 0, 0, 1, 0),
+    (MICROSECONDS, 6, 5, 3, 0),
+    (MICROSECONDS, 34, 16, 4, 24),
+    (MICROSECONDS, 30, 16, 10, 24),
+    (MICROSECONDS, 22, 1, 13, 0),
+    (BLOCKS, 32, 53, 5, 28),
+    (BLOCKS, 8, 0, 6, 0),
+    (BLOCKS, 104, 9, 7, 96),
+    (BLOCKS, 46, 200, 8, 28),
+    (BLOCKS, 116, 200, 9, 96),
+    (BLOCKS, 56, 13, 12, 28),
+    (BLOCKS, 96, 2, 14, 96),
+    (SECTIONS, 132, 3, 7, 132),
+];
+
+#[test]
+fn faults_are_found(rt: HostRuntime) -> Result<(), Fail> {
+    let mut table = [NO_INTERFACE; 2];
+    for (capture, at, byte, expected, offset) in FAULTS {
+        let mut altered = Vec::from_slice(rt.alloc(), capture)?;
+        if let Some(place) = altered.get_mut(*at) {
+            *place = *byte;
+        }
+        let (number, reader) = read_all(&altered, &mut table);
+        assert!(rt;
+            number == *expected && reader.offset == *offset,
+            "{number} at {at}"
+        );
+    }
+    Ok(())
+}
+
+/// A section with 256 interfaces, and one more.
+#[test]
+fn most_interfaces(rt: HostRuntime) -> Result<(), Fail> {
+    let mut capture = Vec::from_slice(rt.alloc(), &BLOCKS[..28])?;
+    for _ in 0..257 {
+        capture.extend_from_slice(&BLOCKS[144..164])?;
+    }
+    let mut table = vec![in rt.alloc(); NO_INTERFACE; 300]?;
+    let (number, reader) = read_all(&capture, &mut table);
+    assert!(rt; (number, reader.offset, reader.interfaces) == (11, 28 + 256 * 20, 256));
+    Ok(())
+}
+
+/// A prefix of a capture is whole behind a unit, no capture before its first number, and else
+/// truncated.
+#[test]
+fn prefixes_are_truncated(rt: HostRuntime) -> Result<(), Fail> {
+    let mut table = [NO_INTERFACE; 2];
+    for capture in [MICROSECONDS, NANOSECONDS, BLOCKS] {
+        for size in 0..capture.len() {
+            let (number, reader) = read_all(&capture[..size], &mut table);
+            let is_whole = size > 0 && reader.offset == size;
+            let cut = if size < 4 { 1 } else { 2 };
+            assert!(rt;
+                number == if is_whole { 22 } else { cut },
+                "{number} at {size}"
+            );
+        }
+    }
+    Ok(())
+}

@@ -1,0 +1,94 @@
+//! Which programs are portable: what libpcap and Linux do otherwise is in none of them.
+
+use super::programs::{Row, UNWRITTEN, filled};
+use crate::portable::capkit_is_portable;
+use std::test::Fail;
+
+const RETURN: Row = (22, 0, 0, 0);
+
+/// 2^31.
+const HALF: u32 = 0x8000_0000;
+
+/// Instructions, and whether they run alike.
+const PROGRAMS: &[(&[Row], u32)] = &[
+    // Loads below 2^31 and at it.
+    (&[(0x20, 0, 0, HALF - 1), (0x28, 0, 0, HALF - 1), RETURN], 1),
+    (&[(0x30, 0, 0, HALF - 1), (0xb1, 0, 0, HALF - 1), RETURN], 1),
+    (&[(0x20, 0, 0, HALF), RETURN], 0),
+    (&[(0x28, 0, 0, HALF), RETURN], 0),
+    (&[(0x30, 0, 0, HALF), RETURN], 0),
+    (&[(0xb1, 0, 0, HALF), RETURN], 0),
+    // Indexed loads, where X is small, and where it may not be.
+    (&[(0x01, 0, 0, HALF - 1), (0x50, 0, 0, HALF - 1), RETURN], 1),
+    (
+        &[(0x01, 0, 0, 0), (0x40, 0, 0, 9), (0x48, 0, 0, 9), RETURN],
+        1,
+    ),
+    (&[(0x01, 0, 0, HALF), (0x50, 0, 0, 0), RETURN], 0),
+    (&[(0x07, 0, 0, 0), (0x40, 0, 0, 0), RETURN], 0),
+    (&[(0x07, 0, 0, 0), (0x48, 0, 0, 0), RETURN], 0),
+    (
+        &[(0x02, 0, 0, 0), (0x61, 0, 0, 0), (0x50, 0, 0, 0), RETURN],
+        0,
+    ),
+    (&[(0xb1, 0, 0, 14), (0x40, 0, 0, HALF), RETURN], 0),
+    (&[(0xb1, 0, 0, 14), (0x48, 0, 0, HALF), RETURN], 0),
+    (&[(0xb1, 0, 0, 14), (0x50, 0, 0, HALF), RETURN], 0),
+    (&[(0xb1, 0, 0, 14), (0x50, 0, 0, HALF - 1), RETURN], 1),
+    (&[(0x07, 0, 0, 0), RETURN], 1),
+    // The length, and shifts by X.
+    (&[(0x80, 0, 0, 0), RETURN], 0),
+    (&[(0x81, 0, 0, 0), RETURN], 0),
+    (&[(0x6c, 0, 0, 0), RETURN], 0),
+    (&[(0x7c, 0, 0, 0), RETURN], 0),
+    (&[(0x64, 0, 0, 1), (0x74, 0, 0, 1), RETURN], 1),
+    // Words of memory, read behind a write of them, of another one, of none.
+    (&[(0x02, 0, 0, 15), (0x60, 0, 0, 15), RETURN], 1),
+    (&[(0x03, 0, 0, 0), (0x61, 0, 0, 0), RETURN], 1),
+    (&[(0x02, 0, 0, 14), (0x60, 0, 0, 15), RETURN], 0),
+    (&[(0x03, 0, 0, 1), (0x61, 0, 0, 0), RETURN], 0),
+    (&[(0x60, 0, 0, 0), (0x02, 0, 0, 0), RETURN], 0),
+    (&[(0x60, 0, 0, 7), RETURN], 0),
+    (&[(0x60, 0, 0, 0), RETURN], 0),
+    (&[(0x61, 0, 0, 15), RETURN], 0),
+    // Jumps to the read, past it, past the write, and returns before it.
+    (&[(0x05, 0, 0, 1), (0x60, 0, 0, 0), RETURN], 1),
+    (&[(0x05, 0, 0, 0), (0x60, 0, 0, 0), RETURN], 0),
+    (
+        &[(0x15, 1, 0, 0), (0x02, 0, 0, 3), (0x60, 0, 0, 3), RETURN],
+        0,
+    ),
+    (
+        &[(0x15, 0, 1, 0), (0x02, 0, 0, 3), (0x60, 0, 0, 3), RETURN],
+        0,
+    ),
+    (&[(0x15, 1, 1, 0), (0x60, 0, 0, 3), RETURN], 1),
+    (
+        &[
+            (0x15, 1, 0, 0),
+            RETURN,
+            (0x06, 0, 0, 0),
+            (0x60, 0, 0, 3),
+            RETURN,
+        ],
+        1,
+    ),
+    (
+        &[(0x02, 0, 0, 3), (0x15, 0, 0, 0), (0x60, 0, 0, 3), RETURN],
+        1,
+    ),
+];
+
+#[test]
+fn what_runs_alike(rt: HostRuntime) -> Result<(), Fail> {
+    for (at, (rows, expected)) in PROGRAMS.iter().enumerate() {
+        let mut place = [UNWRITTEN; 8];
+        let insns = filled(rows, &mut place);
+        assert!(rt; capkit_is_portable(insns) == *expected, "row {at}");
+    }
+    let most = vec![in rt.alloc(); UNWRITTEN; 4096]?;
+    assert!(rt; capkit_is_portable(&most) == 1);
+    let over = vec![in rt.alloc(); UNWRITTEN; 4097]?;
+    assert!(rt; capkit_is_portable(&over) == 0);
+    Ok(())
+}

@@ -1,0 +1,237 @@
+//! Compilations, checks and runs.
+
+use crate::bounding::capkit_bound;
+use crate::compiling::capkit_compile;
+use crate::portable::capkit_is_portable;
+use crate::running::{capkit_check, capkit_run, capkit_run_any};
+use flt_bpf::Insn;
+use std::alloc::Global;
+use std::test::Fail;
+
+/// What instructions hold that no call wrote.
+pub(super) const UNWRITTEN: Insn = Insn {
+    code: 0xaaaa,
+    jt: 0xaa,
+    jf: 0xaa,
+    k: 0xaaaa_aaaa,
+};
+
+/// An instruction: its code, how many a test skips where it holds and where not, its number.
+pub(super) type Row = (u16, u8, u8, u32);
+
+/// Puts rows into a place for eight instructions, and gives these.
+pub(super) fn filled<'a>(rows: &[Row], place: &'a mut [Insn; 8]) -> &'a [Insn] {
+    let count = rows.len().min(8);
+    for (insn, row) in place.iter_mut().zip(rows) {
+        let (code, jt, jf, k) = *row;
+        *insn = Insn { code, jt, jf, k };
+    }
+    &place[..count]
+}
+
+/// `tcpdump -ddd ip` of Ethernet (4.99.3).
+const IPV4: [Row; 4] = [
+    (40, 0, 0, 12),
+    (21, 0, 1, 2048),
+    (6, 0, 0, 262_144),
+    (6, 0, 0, 0),
+];
+
+/// A text, its link type, the room, and what a compilation returns beside which number.
+type Refusal = (&'static [u8], u16, usize, (u32, usize));
+
+const REFUSALS: &[Refusal] = &[
+    (b"ip @", 1, 4, (2, 4)),
+    (b"ip or sctpp", 1, 4, (3, 7)),
+    (b"port 99999999999", 1, 4, (4, 6)),
+    (b"ip and", 1, 4, (5, 0)),
+    (b"ether port 80", 1, 4, (7, 0)),
+    (b"port 65536", 1, 4, (8, 0)),
+    (b"net 10.0.0.1/8", 1, 4, (9, 0)),
+    (b"len / 0 = 1", 1, 4, (10, 0)),
+    (b"ip \xff", 1, 4, (14, 3)),
+    (b"ip", 12, 4, (15, 0)),
+    (b"ip", 1, 3, (16, 4)),
+];
+
+/// Whether a compilation of a row fails as it says and writes nothing, and the bound is that of a
+/// text that is refused.
+fn is_refused(alloc: Global, row: &Refusal) -> bool {
+    let (text, link_type, room, expected) = row;
+    let mut insns = [UNWRITTEN; 4];
+    let mut number = 77;
+    let room = (*room).min(4);
+    let status = capkit_compile(alloc, text, *link_type, &mut insns[..room], &mut number);
+    let mut place = 77;
+    let of_bound = capkit_bound(alloc, text, &mut place);
+    let is_of_text = status < 15 && (of_bound, place) == *expected;
+    let is_kept = insns.iter().all(|insn| *insn == UNWRITTEN);
+    (status, number) == *expected && is_kept && (is_of_text || of_bound == 0 && 4 <= place)
+}
+
+#[test]
+fn refused_texts(rt: HostRuntime) -> Result<(), Fail> {
+    for row in REFUSALS {
+        assert!(rt; is_refused(rt.alloc(), row), "status {}", row.3.0);
+    }
+    let blanks = vec![in rt.alloc(); b' '; 65_537]?;
+    let mut number = 77;
+    assert!(rt; capkit_bound(rt.alloc(), &blanks, &mut number) == 1 && number == 0);
+    Ok(())
+}
+
+/// What a program that passes the check returns on a packet, and after how many steps, where both
+/// runs agree in it.
+fn answer_of(insns: &[Insn], packet: &[u8]) -> Option<(u32, u32)> {
+    let (mut index, mut steps, mut counted) = (77, 77, 77);
+    if capkit_check(insns, &mut index) != 0 {
+        return None;
+    }
+    let len = packet.len().min(60) as u32;
+    let answer = capkit_run(insns, packet, len, &mut steps);
+    let same = capkit_run_any(insns, packet, len, &mut counted);
+    if (answer, steps as usize) == (same, counted) && index == 0 {
+        Some((answer, steps))
+    } else {
+        None
+    }
+}
+
+#[test]
+fn a_short_text(rt: HostRuntime) -> Result<(), Fail> {
+    let (mut insns, mut place, mut number) = ([UNWRITTEN; 6], [UNWRITTEN; 8], 77);
+    // 2, and 6 for its test.
+    assert!(rt; capkit_bound(rt.alloc(), b"ip", &mut number) == 0 && number == 8);
+    let status = capkit_compile(rt.alloc(), b"ip", 1, &mut insns, &mut number);
+    assert!(rt; (status, number) == (0, 4));
+    let program = insns.get(..4).unwrap_or(&[]);
+    assert!(rt; program == filled(&IPV4, &mut place));
+    assert!(rt; insns[4] == UNWRITTEN && insns[5] == UNWRITTEN);
+    assert!(rt; capkit_is_portable(program) == 1);
+    let mut packet = [0u8; 14];
+    packet[12] = 8;
+    assert!(rt; answer_of(program, &packet) == Some((262_144, 3)));
+    packet[13] = 6;
+    assert!(rt; answer_of(program, &packet) == Some((0, 3)));
+    assert!(rt; answer_of(program, &packet[..13]) == Some((0, 1)));
+    Ok(())
+}
+
+/// A link type, and where its packets say by which byte that they are IPv4.
+const LINK_TYPES: [(u16, usize, u8); 3] = [(1, 12, 8), (101, 0, 0x45), (113, 14, 8)];
+
+#[test]
+fn link_types(rt: HostRuntime) -> Result<(), Fail> {
+    for (link_type, at, byte) in LINK_TYPES {
+        let (mut insns, mut count) = ([UNWRITTEN; 8], 77);
+        let status = capkit_compile(rt.alloc(), b"ip", link_type, &mut insns, &mut count);
+        let program = insns.get(..count).unwrap_or(&[]);
+        let mut packet = [0u8; 16];
+        let rejects = matches!(answer_of(program, &packet), Some((0, _)));
+        packet[at] = byte;
+        let accepts = matches!(answer_of(program, &packet), Some((262_144, _)));
+        assert!(rt; status == 0 && rejects && accepts, "link type {link_type}");
+    }
+    Ok(())
+}
+
+/// `tcp port 20000 or 20001` and so on up to 20,199: 2,002 bytes.
+fn many_ports(alloc: Global) -> Result<String, Fail> {
+    let mut text = String::from_str(alloc, "tcp port 20000")?;
+    for port in 20_001..20_200u32 {
+        text.push_str(&format!(in alloc; " or {port}")?)?;
+    }
+    Ok(text)
+}
+
+/// Ethernet, IPv4 and TCP from port 1024 to another one.
+fn segment(port: u16) -> [u8; 54] {
+    let mut packet = [0; 54];
+    packet[12] = 8;
+    packet[14] = 0x45;
+    packet[23] = 6;
+    packet[34] = 4;
+    packet[36..38].copy_from_slice(&port.to_be_bytes());
+    packet
+}
+
+#[test]
+fn a_long_text(rt: HostRuntime) -> Result<(), Fail> {
+    let text = many_ports(rt.alloc())?;
+    assert!(rt; text.len() > 1_000);
+    let mut insns = vec![in rt.alloc(); UNWRITTEN; 32_768]?;
+    let (mut bound, mut count) = (0, 0);
+    assert!(rt; capkit_bound(rt.alloc(), text.as_bytes(), &mut bound) == 0);
+    let status = capkit_compile(rt.alloc(), text.as_bytes(), 1, &mut insns, &mut count);
+    assert!(rt; status == 0 && 200 < count && count <= bound && bound <= 32_768);
+    for (port, is_taken) in [
+        (19_999, false),
+        (20_000, true),
+        (20_199, true),
+        (20_200, false),
+    ] {
+        let answer = answer_of(&insns[..count], &segment(port));
+        let expected = if is_taken { 262_144 } else { 0 };
+        assert!(rt;
+            matches!(answer, Some((number, _)) if number == expected),
+            "port {port}"
+        );
+    }
+    Ok(())
+}
+
+/// Instructions, the first rule that they break, and where.
+const CHECKS: &[(&[Row], u32, usize)] = &[
+    (&[(6, 0, 0, 1)], 0, 0),
+    (&[], 1, 0),
+    (
+        &[(6, 0, 0, 1), (7, 0, 0, 0), (8, 0, 0, 0), (6, 0, 0, 0)],
+        3,
+        2,
+    ),
+    (&[(5, 0, 0, 1), (6, 0, 0, 0)], 4, 0),
+    (&[(0, 0, 0, 1), (2, 0, 0, 16), (6, 0, 0, 0)], 5, 1),
+    (&[(52, 0, 0, 0), (6, 0, 0, 0)], 6, 0),
+    (&[(100, 0, 0, 32), (6, 0, 0, 0)], 7, 0),
+    (&[(0, 0, 0, 1)], 8, 0),
+];
+
+#[test]
+fn programs_are_checked(rt: HostRuntime) -> Result<(), Fail> {
+    for (rows, rule, at) in CHECKS {
+        let (mut place, mut index) = ([UNWRITTEN; 8], 77);
+        let found = capkit_check(filled(rows, &mut place), &mut index);
+        assert!(rt; found == *rule && index == *at, "rule {rule}");
+    }
+    let long = vec![in rt.alloc(); UNWRITTEN; 32_769]?;
+    let mut index = 77;
+    assert!(rt; capkit_check(&long, &mut index) == 2 && index == 0);
+    Ok(())
+}
+
+/// Instructions, valid or not, and what any run returns, on two bytes of a packet of 60.
+const RUNS: &[(&[Row], (u32, usize))] = &[
+    (&[(128, 0, 0, 0), (22, 0, 0, 0)], (60, 2)),
+    (
+        &[(48, 0, 0, 1), (21, 1, 0, 9), (6, 0, 0, 2), (6, 0, 0, 3)],
+        (3, 3),
+    ),
+    (&[(48, 0, 0, 2), (6, 0, 0, 1)], (0, 1)),
+    // It goes past the end, jumps out, meets an unknown code.
+    (&[(0, 0, 0, 1)], (0, 0)),
+    (&[(5, 0, 0, 9), (6, 0, 0, 1)], (0, 0)),
+    (&[(9, 0, 0, 9), (6, 0, 0, 1)], (0, 0)),
+    (&[], (0, 0)),
+    // What it doesn't come to may break rules.
+    (&[(6, 0, 0, 5), (9, 0, 0, 0)], (5, 1)),
+];
+
+#[test]
+fn any_instructions_run(rt: HostRuntime) -> Result<(), Fail> {
+    for (rows, expected) in RUNS {
+        let (mut place, mut steps) = ([UNWRITTEN; 8], 77);
+        let answer = capkit_run_any(filled(rows, &mut place), &[7, 9], 60, &mut steps);
+        assert!(rt; (answer, steps) == *expected, "{} in {steps}", answer);
+    }
+    Ok(())
+}
