@@ -8,6 +8,7 @@ pub mod held;
 pub mod message;
 pub mod opening;
 pub mod overwrites;
+pub mod program;
 pub mod progress;
 pub mod refusal;
 pub mod runner;

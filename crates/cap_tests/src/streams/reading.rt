@@ -1,5 +1,6 @@
 //! What a source returns and reads after its end or its error.
-ghost use Rattle.std.specs.Prelude.{refl, true};
+ghost use Rattle.std.specs.Prelude.{true};
+ghost use Rattle.std.proofs.Common.{rules};
 
 use crate::streams::captures::{PACKET, SECTION, capture, joined, read_on};
 use cap_io::Source;
@@ -24,14 +25,14 @@ impl Input for Counting<'_> {
 
     ghost failures = { λ s. ⟦<MemInput<'static> as Input>⟧.failures s.inner };
 
-    ghost never_fails = { λ s. ⟦<MemInput<'static> as Input>⟧.never_fails s.inner };
+    ghost sure = { λ s. ⟦<MemInput<'static> as Input>⟧.sure s.inner };
 
     fn read(&mut self, buf: &mut [u8]) -> Result<usize, DeviceFault> {
         self.reads.set(self.reads.get().saturating_add(1));
         self.inner.read(buf)
     }
 
-    ghost unfailed = { λ _ _. refl };
+    ghost unfailed = { Prim.search rules };
 }
 
 /// Reads to the end or error and then on. Whether the result stays, and nothing more is read.

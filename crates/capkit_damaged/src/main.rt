@@ -1,0 +1,10 @@
+//! The program again, over a capture that ends inside a record: the stored run of its status.
+#![tactic(auto)]
+
+use cap_streams::program::status;
+use cap_tools::Jobs;
+use std::process::ExitCode;
+
+fn main(rt: HostRuntime) -> ExitCode {
+    ExitCode::from(status::<Jobs>(&rt))
+}
