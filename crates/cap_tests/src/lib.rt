@@ -17,3 +17,5 @@ mod printing;
 mod proper;
 #[cfg(test)]
 mod streams;
+#[cfg(test)]
+mod surface;

@@ -2,8 +2,9 @@
 ghost use Rattle.std.specs.Prelude.{◌≤◌};
 
 use crate::devices::marked::Manner;
-use std::io::ErrorKind;
+use std::io::{ErrorKind, Result};
 use std::process::Abort;
+use std::time::{SystemTime, UNIX_EPOCH};
 
 /// So many bytes go through a buffer of this capacity, in calls of these sizes by turns.
 #[derive(Clone, Copy)]
@@ -15,10 +16,10 @@ pub struct Course {
 }
 
 impl Course {
-    /// Past 4 MiB, in small calls and one that is large.
-    pub fn long(capacity: usize, piece: usize, failing: usize, large: usize) -> Self {
+    /// So many bytes, in small calls and one that is large.
+    pub fn long(len: usize, (capacity, piece, failing, large): LongCourse) -> Self {
         Course {
-            len: 5_000_000,
+            len,
             capacity,
             sizes: [16, 1, 1500, 24, large, 8],
             manner: Manner {
@@ -55,8 +56,8 @@ impl Course {
         let Manner { piece, failing, .. } = self.manner;
         assert!(rt;
             holds,
-            "capacity {}, {piece} a call, failing {failing}",
-            self.capacity
+            "{} bytes, capacity {}, {piece} a call, failing {failing}",
+            self.len, self.capacity
         );
     }
 
@@ -71,9 +72,23 @@ impl Course {
 /// The most bytes of one call.
 pub const LARGEST: usize = 70_000;
 
-/// Long courses: capacity, piece, failing calls and the size of large ones. In turn: every call
-/// goes through; large calls go past the buffer; small calls alone fill the program's buffer.
-pub const LONG: [(usize, usize, usize, usize); 3] = [
+/// How many bytes go through a device on long courses: more than 4 MiB, and as many as the clock
+/// says, so that no number of bytes is the last one in each run.
+pub fn drawn_length(rt: &HostRuntime) -> Result<usize> {
+    let now = SystemTime::now(rt)?;
+    let nanos = match now.duration_since(UNIX_EPOCH) {
+        Ok(since) => since.subsec_nanos(),
+        Err(_) => 0,
+    };
+    Ok(5_000_000 + nanos as usize % 3_000_000)
+}
+
+/// Capacity, piece, failing calls and the size of large ones.
+pub type LongCourse = (usize, usize, usize, usize);
+
+/// Long courses. In turn: every call goes through; large calls go past the buffer; small calls
+/// alone fill the program's buffer.
+pub const LONG: [LongCourse; 3] = [
     (0, 4096, 5, LARGEST),
     (8192, 1000, 7, LARGEST),
     (65_536, usize::MAX, 3, 1000),

@@ -1,5 +1,5 @@
 //! Reads of the device over std's readers, each beside what the reader did in that call.
-use crate::devices::courses::{CAPACITIES, Course, FAILING, LARGEST, LONG, PIECES};
+use crate::devices::courses::{CAPACITIES, Course, FAILING, LARGEST, LONG, PIECES, drawn_length};
 use crate::devices::marked::{Counts, MarkedReader, are_marks};
 use cap_octet::{DeviceFault, Input, StdInput, read_full};
 use std::alloc::Global;
@@ -175,8 +175,9 @@ fn reads_hold(alloc: Global, course: &Course, way: Way, room: &mut [u8]) -> Resu
 #[test]
 fn reads_past_4_mib_are_the_readers(rt: HostRuntime) -> Result<(), Fail> {
     let mut room = vec![in rt.alloc(); 0; LARGEST]?;
-    for (capacity, piece, failing, large) in LONG {
-        let course = Course::long(capacity, piece, failing, large);
+    let len = drawn_length(&rt)?;
+    for row in LONG {
+        let course = Course::long(len, row);
         course.expect(
             &rt,
             reads_hold(rt.alloc(), &course, Way::Single, &mut room)?,

@@ -1,5 +1,5 @@
 //! Writes of the device over std's writers, each beside what the writer did in that call.
-use crate::devices::courses::{CAPACITIES, Course, FAILING, LARGEST, LONG, PIECES};
+use crate::devices::courses::{CAPACITIES, Course, FAILING, LARGEST, LONG, PIECES, drawn_length};
 use crate::devices::marked::{Counts, MarkedWriter, write_marks};
 use cap_octet::{DeviceFault, Output, StdOutput, write_all};
 use std::alloc::Global;
@@ -85,8 +85,9 @@ fn writes_hold(alloc: Global, course: &Course, whole: bool, room: &mut [u8]) -> 
 #[test]
 fn writes_past_4_mib_come_to_the_writer(rt: HostRuntime) -> Result<(), Fail> {
     let mut room = vec![in rt.alloc(); 0; LARGEST]?;
-    for (capacity, piece, failing, large) in LONG {
-        let course = Course::long(capacity, piece, failing, large);
+    let len = drawn_length(&rt)?;
+    for row in LONG {
+        let course = Course::long(len, row);
         course.expect(&rt, writes_hold(rt.alloc(), &course, false, &mut room)?);
     }
     Ok(())
