@@ -41,9 +41,10 @@ pub fn one_reading()
         → ¬ IsRefusedAt text line }
 {}
 
-/// What `run_any` returns of the machine's run: where that meets no instruction that breaks a rule,
-/// its answer and count, or nothing where it goes past the end. So of every valid program. Where it
-/// meets a broken rule there is nothing. What is returned is always the machine's.
+/// What `run_any` returns, in terms of the machine's run. Where that meets no instruction that
+/// breaks a rule, as with every valid program, it is the machine's answer and count, or `None` where
+/// the run goes past the end. Where the run meets a broken rule it is `None`. An answer and count
+/// are always the machine's.
 pub fn any_run()
     ensures unbroken { (insns : List Insn) (packet : List ℕ) (len : ℕ)
         → MeetsNoBrokenRule insns packet len
