@@ -2,10 +2,10 @@
 
 use crate::endings::watched::Asked;
 use crate::endings::works::{
-    Memory, WORKS, WatchedJob, Work, asked_of, command_of, files_of, inputs_of, names_of, unasked,
+    Memory, Place, WORKS, WatchedJob, Work, asked_of, begin, files_of, run_with, unasked,
 };
 use cap_octet::MemOutput;
-use cap_tools::{Job, Turn, run};
+use cap_tools::Turn;
 use cap_trial::Trial;
 use std::alloc::Global;
 use std::test::Fail;
@@ -25,6 +25,18 @@ struct Seen {
     ended: [Asked; 2],
 }
 
+/// Makes so many steps. The status, if the last one returned it.
+fn make_steps(job: &mut WatchedJob<'_, '_>, steps: usize) -> Option<u8> {
+    let mut status = None;
+    for _ in 0..steps {
+        status = match job.step() {
+            Turn::More => None,
+            Turn::Done(status) => Some(status),
+        };
+    }
+    status
+}
+
 /// Lets the job and its inputs go.
 fn end(job: WatchedJob<'_, '_>) {
     let _ = job.close();
@@ -38,24 +50,18 @@ fn step_and_end(
     (steps, lends): (usize, bool),
 ) -> Result<Seen, Fail> {
     let asked = unasked();
-    let (mut room, mut told) = ([0; ROOM], [0; ROOM]);
-    let (out, err) = (MemOutput::new(&mut room), MemOutput::new(&mut told));
-    let command = command_of(memory, work.task)?;
-    let names = names_of(memory, files)?;
-    let inputs = inputs_of(memory, files, &asked, lends)?;
-    if !command.is_proper(inputs.len()) {
-        return Err(Fail::from("the command may not be run"));
-    }
-    let Ok(mut job) = Job::new(memory, command, names, inputs, out, err) else {
+    let mut room = [0; ROOM];
+    let mut told = [0; ROOM];
+    let place = Place {
+        files,
+        asked: &asked,
+        lends,
+    };
+    let outputs = (MemOutput::new(&mut room), MemOutput::new(&mut told));
+    let Ok(mut job) = begin(memory, work, place, outputs, 0)? else {
         return Err(Fail::from("no job"));
     };
-    let mut status = None;
-    for _ in 0..steps {
-        status = match job.step() {
-            Turn::More => None,
-            Turn::Done(status) => Some(status),
-        };
-    }
+    let status = make_steps(&mut job, steps);
     let stepped = asked_of(&asked);
     end(job);
     let ended = asked_of(&asked);
@@ -93,15 +99,15 @@ fn is_run_quiet(alloc: Global, work: &Work, lends: bool) -> Result<bool, Fail> {
     let memory = Trial::new(alloc);
     let files = files_of(alloc, work)?;
     let asked = unasked();
-    let (mut room, mut told) = ([0; ROOM], [0; ROOM]);
-    let (out, err) = (MemOutput::new(&mut room), MemOutput::new(&mut told));
-    let command = command_of(&memory, work.task)?;
-    let names = names_of(&memory, &files)?;
-    let inputs = inputs_of(&memory, &files, &asked, lends)?;
-    if !command.is_proper(inputs.len()) {
-        return Err(Fail::from("the command may not be run"));
-    }
-    let (status, _, _) = run(&memory, command, names, inputs, out, err);
+    let mut room = [0; ROOM];
+    let mut told = [0; ROOM];
+    let place = Place {
+        files: &files,
+        asked: &asked,
+        lends,
+    };
+    let outputs = (MemOutput::new(&mut room), MemOutput::new(&mut told));
+    let (status, _, _) = run_with(&memory, work, place, outputs, 0)?;
     Ok(status == work.status && are_bytes(&asked_of(&asked), work))
 }
 

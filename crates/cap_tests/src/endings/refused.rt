@@ -2,10 +2,9 @@
 
 use crate::endings::watched::Asked;
 use crate::endings::works::{
-    Memory, WORKS, Work, asked_of, command_of, files_of, inputs_of, names_of, unasked,
+    Begun, Memory, Place, WORKS, Work, asked_of, begin, files_of, run_with, unasked,
 };
 use cap_octet::MemOutput;
-use cap_tools::{Job, run};
 use cap_trial::Trial;
 use std::alloc::Global;
 use std::test::Fail;
@@ -16,6 +15,22 @@ const MOST_GROWTHS: u64 = 1_000;
 /// How many bytes are reported at most.
 const ROOM: usize = 1_000;
 
+/// Whether nothing was written or reported.
+fn are_silent(out: &MemOutput<'_>, err: &MemOutput<'_>) -> bool {
+    out.written().is_empty() && err.written().is_empty()
+}
+
+/// Whether a job is begun, and if not, whether nothing was written.
+fn is_begun<'d, 'm>(begun: Begun<'d, 'm>) -> (bool, bool) {
+    match begun {
+        Ok(_) => (true, true),
+        Err(left) => {
+            let (out, err) = left;
+            (false, are_silent(&out, &err))
+        }
+    }
+}
+
 /// Begins the work's job, with this growth refused. Whether it begins; and whether its inputs were
 /// asked for nothing and nothing was written.
 fn begins(
@@ -25,25 +40,18 @@ fn begins(
     (growth, lends): (u64, bool),
 ) -> Result<(bool, bool), Fail> {
     let asked = unasked();
-    let (mut room, mut told) = ([0; ROOM], [0; ROOM]);
-    let (out, err) = (MemOutput::new(&mut room), MemOutput::new(&mut told));
-    let command = command_of(memory, work.task)?;
-    let names = names_of(memory, files)?;
-    let inputs = inputs_of(memory, files, &asked, lends)?;
-    if !command.is_proper(inputs.len()) {
-        return Err(Fail::from("the command may not be run"));
-    }
-    memory.refuse(growth);
-    let begun = Job::new(memory, command, names, inputs, out, err);
+    let mut room = [0; ROOM];
+    let mut told = [0; ROOM];
+    let place = Place {
+        files,
+        asked: &asked,
+        lends,
+    };
+    let outputs = (MemOutput::new(&mut room), MemOutput::new(&mut told));
+    let begun = begin(memory, work, place, outputs, growth)?;
+    let (is_begun, is_silent) = is_begun(begun);
     memory.refuse(0);
-    let is_unread = is_unasked(&asked_of(&asked));
-    Ok(match begun {
-        Ok(_) => (true, is_unread),
-        Err((out, err)) => {
-            let is_silent = out.written().is_empty() && err.written().is_empty();
-            (false, is_unread && is_silent)
-        }
-    })
+    Ok((is_begun, is_silent && is_unasked(&asked_of(&asked))))
 }
 
 /// Whether nothing was asked of either.
@@ -75,19 +83,33 @@ fn is_run_refused(alloc: Global, work: &Work, (growth, lends): (u64, bool)) -> R
     let memory = Trial::new(alloc);
     let files = files_of(alloc, work)?;
     let asked = unasked();
-    let (mut room, mut told) = ([0; ROOM], [0; ROOM]);
-    let (out, err) = (MemOutput::new(&mut room), MemOutput::new(&mut told));
-    let command = command_of(&memory, work.task)?;
-    let names = names_of(&memory, &files)?;
-    let inputs = inputs_of(&memory, &files, &asked, lends)?;
-    if !command.is_proper(inputs.len()) {
-        return Err(Fail::from("the command may not be run"));
-    }
-    memory.refuse(growth);
-    let (status, out, err) = run(&memory, command, names, inputs, out, err);
+    let mut room = [0; ROOM];
+    let mut told = [0; ROOM];
+    let place = Place {
+        files: &files,
+        asked: &asked,
+        lends,
+    };
+    let outputs = (MemOutput::new(&mut room), MemOutput::new(&mut told));
+    let (status, out, err) = run_with(&memory, work, place, outputs, growth)?;
     let is_told = err.written() == b"capkit: no memory\n".as_slice();
     let is_silent = out.written().is_empty() && is_told;
     Ok(status == 1 && is_silent && is_unasked(&asked_of(&asked)))
+}
+
+/// Refuses each growth that the work's job begins with. How many there are, if each is as it should
+/// be.
+fn refused_in(alloc: Global, work: &Work, lends: bool) -> Result<Option<u64>, Fail> {
+    let Some(refused) = refusals(alloc, work, lends)? else {
+        return Ok(None);
+    };
+    for growth in 0..refused {
+        let turn = (growth.saturating_add(1), lends);
+        if !is_run_refused(alloc, work, turn)? {
+            return Ok(None);
+        }
+    }
+    Ok(Some(refused))
 }
 
 #[test]
@@ -95,13 +117,8 @@ fn a_job_that_cannot_be_begun_reads_nothing(rt: HostRuntime) -> Result<(), Fail>
     let mut all = 0u64;
     for (number, work) in WORKS.iter().enumerate() {
         for lends in [false, true] {
-            let refused = refusals(rt.alloc(), work, lends)?;
+            let refused = refused_in(rt.alloc(), work, lends)?;
             assert!(rt; refused.is_some(), "work {number}");
-            for growth in 0..refused.unwrap_or(0) {
-                let turn = (growth.saturating_add(1), lends);
-                let holds = is_run_refused(rt.alloc(), work, turn)?;
-                assert!(rt; holds, "work {number}, growth {growth}");
-            }
             all = all.saturating_add(refused.unwrap_or(0));
         }
     }

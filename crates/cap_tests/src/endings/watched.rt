@@ -1,4 +1,6 @@
 //! An input that is watched from outside, also where it is gone.
+ghost use Rattle.std.specs.Prelude.{true};
+ghost use Rattle.std.proofs.Common.{rules};
 
 use cap_octet::{DeviceFault, Input, MemInput};
 use std::cell::Cell;
@@ -39,7 +41,7 @@ impl Watched<'_> {
 }
 
 impl Input for Watched<'_> {
-    ghost tells = { Prim.true };
+    ghost tells = { true };
 
     ghost unread = { λ s. ⟦<MemInput<'static> as Input>⟧.unread s.inner };
 

@@ -3,22 +3,29 @@
 use crate::endings::watched::{Asked, Watched};
 use cap_command::{Command, Edit, Merge, Print, Shift};
 use cap_octet::{Format, MemInput, MemOutput};
-use cap_tools::Job;
+use cap_tools::{Job, run};
 use cap_trial::Trial;
 use std::alloc::{AllocError, Global};
 use std::cell::Cell;
+use std::test::Fail;
 
 /// An allocator that refuses what it is told to.
 pub type Memory = Trial<Global>;
 
 /// The names of inputs and of an output.
-pub type Names<'m> = Vec<String<&'m Memory>, &'m Memory>;
+type Names<'m> = Vec<String<&'m Memory>, &'m Memory>;
 
 /// Watched inputs.
-pub type Inputs<'d, 'm> = Vec<Watched<'d>, &'m Memory>;
+type Inputs<'d, 'm> = Vec<Watched<'d>, &'m Memory>;
 
 /// A job over watched inputs.
 pub type WatchedJob<'d, 'm> = Job<Watched<'d>, MemOutput<'d>, MemOutput<'d>, &'m Memory>;
+
+/// An output and messages.
+pub type Outputs<'d> = (MemOutput<'d>, MemOutput<'d>);
+
+/// A job over watched inputs, or what a refused one hands back.
+pub type Begun<'d, 'm> = Result<WatchedJob<'d, 'm>, Outputs<'d>>;
 
 /// A file header of pcap, Ethernet, one of another version, and a record of one byte at 1, 2 and 3
 /// seconds.
@@ -158,7 +165,7 @@ pub fn files_of(alloc: Global, work: &Work) -> Result<[Vec<u8>; 2], AllocError> 
 }
 
 /// The command of a task.
-pub fn command_of(memory: &Memory, task: Task) -> Result<Command<&Memory>, AllocError> {
+fn command_of(memory: &Memory, task: Task) -> Result<Command<&Memory>, AllocError> {
     let format = Format::Pcap;
     Ok(match task {
         Task::Edit => Command::Edit(Edit {
@@ -190,7 +197,7 @@ pub fn command_of(memory: &Memory, task: Task) -> Result<Command<&Memory>, Alloc
 }
 
 /// Two names and that of an output; one and that of an output where the second file is empty.
-pub fn names_of<'m>(memory: &'m Memory, files: &[Vec<u8>; 2]) -> Result<Names<'m>, AllocError> {
+fn names_of<'m>(memory: &'m Memory, files: &[Vec<u8>; 2]) -> Result<Names<'m>, AllocError> {
     let mut names = Vec::new(memory);
     names.push(String::from_str(memory, "a")?)?;
     if !files[1].is_empty() {
@@ -201,20 +208,15 @@ pub fn names_of<'m>(memory: &'m Memory, files: &[Vec<u8>; 2]) -> Result<Names<'m
 }
 
 /// Inputs over the files, the second one where it isn't empty.
-pub fn inputs_of<'d, 'm>(
-    memory: &'m Memory,
-    files: &'d [Vec<u8>; 2],
-    asked: &'d [Cell<Asked>; 2],
-    lends: bool,
-) -> Result<Inputs<'d, 'm>, AllocError> {
+fn inputs_of<'d, 'm>(memory: &'m Memory, place: Place<'d>) -> Result<Inputs<'d, 'm>, AllocError> {
     let mut inputs = Vec::new(memory);
+    let (files, asked) = (place.files, place.asked);
     for (bytes, asked) in files.iter().zip(asked.iter()) {
         if !bytes.is_empty() {
-            let inner = MemInput::new(bytes);
             inputs.push(Watched {
-                inner,
+                inner: MemInput::new(bytes),
                 asked,
-                lends,
+                lends: place.lends,
             })?;
         }
     }
@@ -229,4 +231,48 @@ pub fn unasked() -> [Cell<Asked>; 2] {
 /// What was asked of each.
 pub fn asked_of(asked: &[Cell<Asked>; 2]) -> [Asked; 2] {
     [asked[0].get(), asked[1].get()]
+}
+
+/// What a work runs over: its files, what is asked of them, and whether they are lent.
+#[derive(Clone, Copy)]
+pub struct Place<'d> {
+    pub files: &'d [Vec<u8>; 2],
+    pub asked: &'d [Cell<Asked>; 2],
+    pub lends: bool,
+}
+
+/// Begins the work's job, with this growth refused, none at 0.
+pub fn begin<'d, 'm>(
+    memory: &'m Memory,
+    work: &Work,
+    place: Place<'d>,
+    (out, err): Outputs<'d>,
+    growth: u64,
+) -> Result<Begun<'d, 'm>, Fail> {
+    let command = command_of(memory, work.task)?;
+    let names = names_of(memory, place.files)?;
+    let inputs = inputs_of(memory, place)?;
+    if !command.is_proper(inputs.len()) {
+        return Err(Fail::from("the command may not be run"));
+    }
+    memory.refuse(growth);
+    Ok(Job::new(memory, command, names, inputs, out, err))
+}
+
+/// Runs the work, with this growth refused, none at 0.
+pub fn run_with<'d>(
+    memory: &Memory,
+    work: &Work,
+    place: Place<'d>,
+    (out, err): Outputs<'d>,
+    growth: u64,
+) -> Result<(u8, MemOutput<'d>, MemOutput<'d>), Fail> {
+    let command = command_of(memory, work.task)?;
+    let names = names_of(memory, place.files)?;
+    let inputs = inputs_of(memory, place)?;
+    if !command.is_proper(inputs.len()) {
+        return Err(Fail::from("the command may not be run"));
+    }
+    memory.refuse(growth);
+    Ok(run(memory, command, names, inputs, out, err))
 }
