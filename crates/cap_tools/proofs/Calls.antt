@@ -8,7 +8,7 @@ use Rattle.cap_octet.specs.Device.{HasGiven, Stops}
 use Rattle.cap_octet.specs.Packet.{Captured}
 use Rattle.cap_octet.specs.declared.fault.Fault.{Fault}
 use Rattle.cap_io.specs.Capture.{Declared, Placed, kind_of}
-use Rattle.cap_io.specs.Position.{IsCutShort, ReadFailsAt, given_in_all}
+use Rattle.cap_io.specs.Position.{ReadFailsAt, given_in_all}
 use Rattle.cap_io.specs.Reading.{decisive_length}
 use Rattle.cap_octet.specs.declared.link.Link.{Link}
 use Rattle.flt_words.specs.declared.fault.ExprFault.TheVariants as expression
