@@ -58,9 +58,7 @@ fn step_and_end(
         lends,
     };
     let outputs = (MemOutput::new(&mut room), MemOutput::new(&mut told));
-    let Ok(mut job) = begin(memory, work, place, outputs, 0)? else {
-        return Err(Fail::from("no job"));
-    };
+    let mut job = begin(memory, work, place, outputs)?;
     let status = make_steps(&mut job, steps);
     let stepped = asked_of(&asked);
     end(job);

@@ -2,7 +2,7 @@
 
 use crate::endings::watched::Asked;
 use crate::endings::works::{
-    Begun, Memory, Place, WORKS, Work, asked_of, begin, files_of, run_with, unasked,
+    Memory, Place, WORKS, Work, asked_of, begin_and_end, files_of, run_with, unasked,
 };
 use cap_octet::MemOutput;
 use cap_trial::Trial;
@@ -18,17 +18,6 @@ const ROOM: usize = 1_000;
 /// Whether nothing was written or reported.
 fn are_silent(out: &MemOutput<'_>, err: &MemOutput<'_>) -> bool {
     out.written().is_empty() && err.written().is_empty()
-}
-
-/// Whether a job is begun, and if not, whether nothing was written.
-fn is_begun<'d, 'm>(begun: Begun<'d, 'm>) -> (bool, bool) {
-    match begun {
-        Ok(_) => (true, true),
-        Err(left) => {
-            let (out, err) = left;
-            (false, are_silent(&out, &err))
-        }
-    }
 }
 
 /// Begins the work's job, with this growth refused. Whether it begins; and whether its inputs were
@@ -48,10 +37,10 @@ fn begins(
         lends,
     };
     let outputs = (MemOutput::new(&mut room), MemOutput::new(&mut told));
-    let begun = begin(memory, work, place, outputs, growth)?;
-    let (is_begun, is_silent) = is_begun(begun);
+    let (is_begun, out, err) = begin_and_end(memory, work, place, outputs, growth)?;
     memory.refuse(0);
-    Ok((is_begun, is_silent && is_unasked(&asked_of(&asked))))
+    let is_quiet = are_silent(&out, &err) && is_unasked(&asked_of(&asked));
+    Ok((is_begun, is_quiet))
 }
 
 /// Whether nothing was asked of either.

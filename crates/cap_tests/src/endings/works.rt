@@ -24,9 +24,6 @@ pub type WatchedJob<'d, 'm> = Job<Watched<'d>, MemOutput<'d>, MemOutput<'d>, &'m
 /// An output and messages.
 pub type Outputs<'d> = (MemOutput<'d>, MemOutput<'d>);
 
-/// A job over watched inputs, or what a refused one hands back.
-pub type Begun<'d, 'm> = Result<WatchedJob<'d, 'm>, Outputs<'d>>;
-
 /// A file header of pcap, Ethernet, one of another version, and a record of one byte at 1, 2 and 3
 /// seconds.
 const HEADER: [u8; 24] = [
@@ -241,14 +238,34 @@ pub struct Place<'d> {
     pub lends: bool,
 }
 
-/// Begins the work's job, with this growth refused, none at 0.
+/// Begins the work's job.
 pub fn begin<'d, 'm>(
     memory: &'m Memory,
     work: &Work,
     place: Place<'d>,
     (out, err): Outputs<'d>,
+) -> Result<WatchedJob<'d, 'm>, Fail> {
+    let command = command_of(memory, work.task)?;
+    let names = names_of(memory, place.files)?;
+    let inputs = inputs_of(memory, place)?;
+    if !command.is_proper(inputs.len()) {
+        return Err(Fail::from("the command may not be run"));
+    }
+    match Job::new(memory, command, names, inputs, out, err) {
+        Ok(job) => Ok(job),
+        Err(_) => Err(Fail::from("no job")),
+    }
+}
+
+/// Begins the work's job, with this growth refused, and ends it at once. Whether it was begun, and
+/// the outputs.
+pub fn begin_and_end<'d, 'm>(
+    memory: &'m Memory,
+    work: &Work,
+    place: Place<'d>,
+    (out, err): Outputs<'d>,
     growth: u64,
-) -> Result<Begun<'d, 'm>, Fail> {
+) -> Result<(bool, MemOutput<'d>, MemOutput<'d>), Fail> {
     let command = command_of(memory, work.task)?;
     let names = names_of(memory, place.files)?;
     let inputs = inputs_of(memory, place)?;
@@ -256,7 +273,16 @@ pub fn begin<'d, 'm>(
         return Err(Fail::from("the command may not be run"));
     }
     memory.refuse(growth);
-    Ok(Job::new(memory, command, names, inputs, out, err))
+    match Job::new(memory, command, names, inputs, out, err) {
+        Ok(job) => {
+            let (out, err) = job.close();
+            Ok((true, out, err))
+        }
+        Err(left) => {
+            let (out, err) = left;
+            Ok((false, out, err))
+        }
+    }
 }
 
 /// Runs the work, with this growth refused, none at 0.
