@@ -76,7 +76,7 @@ def split(toks, at):
     return parts
 
 
-def is_within_macro(toks, at):
+def begins_macro(toks, at):
     """Whether a macro's rules begin at an index."""
     return toks[at].text == "macro_rules"
 
@@ -105,7 +105,7 @@ def functions(toks):
     """Returns the bodies of all functions that aren't tests or within macros."""
     found, at = [], 0
     while at < len(toks):
-        if is_within_macro(toks, at):
+        if begins_macro(toks, at):
             at = closing(toks, find(toks, at, len(toks), ("{",))) + 1
         elif toks[at].text == "#" and toks[at + 1].text == "[":
             at = behind_attribute(toks, at)
@@ -128,7 +128,7 @@ def tables(toks):
     found, at = [], 0
     while at < len(toks):
         token = toks[at]
-        if is_within_macro(toks, at):
+        if begins_macro(toks, at):
             begin = find(toks, at, len(toks), ("{",))
             end = closing(toks, begin)
             name = toks[at + 2].text
