@@ -49,17 +49,17 @@ address_text V4 p at = ipv4_text p at
 address_text V6 p at = ipv6_text p at
 
 -- the address at a place, and its port, if there is one
-abbrev pub end_text : Ip → List ℕ → ℕ → Option ℕ → List ℕ
-end_text ip p at port = address_text ip p at ++ port_text port
+abbrev pub address_with_port : Ip → List ℕ → ℕ → Option ℕ → List ℕ
+address_with_port ip p at port = address_text ip p at ++ port_text port
 
 -- `IP A > B: ` or `IP6 A > B: `, each address with its port, where there are ports
 unfoldable pub ip_ends : Ip → ℕ → List ℕ → Option (ℕ × ℕ) → List ℕ
 ip_ends ip l p ports =
     ip_name ip
     ++ (32 ∷
-    (end_text ip p (l + (layout_of ip).addresses) (option_map (λ both. both.0) ports)
+    (address_with_port ip p (l + (layout_of ip).addresses) (option_map (λ both. both.0) ports)
     ++ (codes " > "
-    ++ (end_text ip p (l + (layout_of ip).addresses + (layout_of ip).address_length)
+    ++ (address_with_port ip p (l + (layout_of ip).addresses + (layout_of ip).address_length)
     (option_map (λ both. both.1) ports) ++ codes ": "))))
 
 -- a later fragment of IPv4: its offset isn't 0

@@ -1,6 +1,6 @@
 //! What a line says of a packet's network header.
 ghost use Rattle.std.specs.Prelude.{◌≡◌, ◌+◌, ◌*◌, ◌≤◌, ◌<◌, ◌++◌, decimal, length};
-ghost use Rattle.cap_print.specs.Network.{address_text, arp_part, end_text, has_ports};
+ghost use Rattle.cap_print.specs.Network.{address_text, arp_part, address_with_port, has_ports};
 ghost use Rattle.cap_print.specs.Network.{header_end, header_part, ip_ends, ip_name, ip_part};
 ghost use Rattle.cap_print.specs.Network.{is_later_fragment, layout_of, least_end, network_part};
 ghost use Rattle.cap_print.specs.Network.{ports_at, protocol_text};
@@ -112,7 +112,7 @@ fn push_address(text: &mut Text, ip: Ip, bytes: &[u8], at: usize)
 fn push_end(text: &mut Text, ip: Ip, bytes: &[u8], at: usize, port: Option<u16>)
     requires room { length text.old + 54 ≤ 256 }
     requires there { at + (layout_of ip).address_length ≤ length bytes.now }
-    ensures value { text.new ≡ text.old ++ end_text ip bytes.now at port }
+    ensures value { text.new ≡ text.old ++ address_with_port ip bytes.now at port }
     ensures bound { length text.new ≤ length text.old + 54 }
 {
     push_address(text, ip, bytes, at);

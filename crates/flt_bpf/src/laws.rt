@@ -8,7 +8,7 @@ ghost use Rattle.flt_bpf.specs.declared.operation.Operation.{Operation};
 ghost use Rattle.flt_bpf.specs.Instructions.{code_of, operation_of};
 ghost use Rattle.flt_bpf.specs.Listing.{listing, HasFieldsInRange, IsListing, IsRefusedAt};
 ghost use Rattle.flt_bpf.specs.Machine.{machine, Stands, Answered};
-ghost use Rattle.flt_bpf.specs.RunByRules.{run_by_rules, end_of, BreaksAt, MeetsNoBrokenRule};
+ghost use Rattle.flt_bpf.specs.RunByRules.{run_by_rules, run_end, BreaksRuleAt, MeetsNoBrokenRule};
 ghost use Rattle.flt_bpf.specs.Valid.{IsValid};
 
 /// An operation that a code gives has this code. The other way round is in the contract of
@@ -48,12 +48,12 @@ pub fn one_reading()
 pub fn any_run()
     ensures unbroken { (insns : List Insn) (packet : List ℕ) (len : ℕ)
         → MeetsNoBrokenRule insns packet len
-        → run_by_rules insns packet len ≡ end_of (machine insns packet len (length insns)) }
+        → run_by_rules insns packet len ≡ run_end (machine insns packet len (length insns)) }
     ensures valid { (insns : List Insn) (packet : List ℕ) (len : ℕ) → IsValid insns
-        → run_by_rules insns packet len ≡ end_of (machine insns packet len (length insns)) }
+        → run_by_rules insns packet len ≡ run_end (machine insns packet len (length insns)) }
     ensures broken { (insns : List Insn) (packet : List ℕ) (len met place : ℕ) (state : State)
         (fault : CheckFault) → machine insns packet len met ≡ Stands place state
-        → BreaksAt insns fault place → run_by_rules insns packet len ≡ None }
+        → BreaksRuleAt insns fault place → run_by_rules insns packet len ≡ None }
     ensures answer { (insns : List Insn) (packet : List ℕ) (len answer count : ℕ)
         → run_by_rules insns packet len ≡ Some (answer, count)
         → machine insns packet len (length insns) ≡ Answered answer count }

@@ -148,17 +148,17 @@ emit_truth_node link w node.Not = record w { to = targets w.to.no w.to.yes }
 emit_truth_node link w _ = finish_truth (block w.code w.to.no) w
 
 -- a number, or the length of the packet
-abbrev pub emit_number : Link → Source → ℕ → Walk → Walk
-emit_number link source n w =
+abbrev pub emit_loaded : Link → Source → ℕ → Walk → Walk
+emit_loaded link source n w =
     finish_number link w.numbers (with_insns (plain (Load Accumulator source) n ∷ w.code) w)
 
 -- one more node
 abbrev pub emit_node : Link → Walk → Node → Walk
 emit_node link w (node.Join join) = emit_join link join w
 emit_node link w (node.Qualified q v) = emit_value link q v w (larger_group q v w.group)
-emit_node link w (node.Literal n) = emit_number link Immediate n w
-emit_node link w (node.Named n) = emit_number link Immediate n w
-emit_node link w node.Len = emit_number link Length 0 w
+emit_node link w (node.Literal n) = emit_loaded link Immediate n w
+emit_node link w (node.Named n) = emit_loaded link Immediate n w
+emit_node link w node.Len = emit_loaded link Length 0 w
 emit_node link w (node.Load protocol size) = record w {
   code = emit_accessor link protocol (width_of size) w.code;
   numbers = Index protocol ∷ w.numbers;

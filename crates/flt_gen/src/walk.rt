@@ -9,7 +9,7 @@ ghost use Rattle.flt_code.specs.Code.{block};
 ghost use Rattle.flt_code.specs.Emits.{HasRoom};
 ghost use Rattle.flt_gen.specs.Walk.{start_walk, finish_truth, finish_relation, finish_number};
 ghost use Rattle.flt_gen.specs.Walk.{is_number_node, is_truth_node, begin_operands, begin_right};
-ghost use Rattle.flt_gen.specs.Walk.{emit_number, flush_group};
+ghost use Rattle.flt_gen.specs.Walk.{emit_loaded, flush_group};
 ghost use Rattle.flt_gen.specs.Walk.{finish_group, emit_value, emit_join, emit_truth_node};
 ghost use Rattle.flt_gen.specs.Walk.{emit_node, insns_of, emit_applied, emit_compared};
 ghost use Rattle.flt_gen.specs.Walk.{emit_both_nodes, emit_nodes};
@@ -128,9 +128,9 @@ impl<A: Allocator> Walk<A> {
     }
 
     /// A number, or the length of the packet.
-    fn emit_number(&mut self, link: Link, source: Source, number: u32) -> Result<(), AllocError>
-        requires { length (emit_number link source number self.old).code < 2 ^ 30 }
-        ensures { OnOk result (self.new ≡ emit_number link source number self.old) }
+    fn emit_loaded(&mut self, link: Link, source: Source, number: u32) -> Result<(), AllocError>
+        requires { length (emit_loaded link source number self.old).code < 2 ^ 30 }
+        ensures { OnOk result (self.new ≡ emit_loaded link source number self.old) }
     {
         self.code
             .emit_plain(Operation::Load(Register::Accumulator, source), number)?;
@@ -145,8 +145,8 @@ impl<A: Allocator> Walk<A> {
         ensures { OnOk result (self.new ≡ emit_node link self.old node.now) }
     {
         match node {
-            Node::Literal(n) | Node::Named(n) => self.emit_number(link, Source::Immediate, *n),
-            Node::Len => self.emit_number(link, Source::Length, 0),
+            Node::Literal(n) | Node::Named(n) => self.emit_loaded(link, Source::Immediate, *n),
+            Node::Len => self.emit_loaded(link, Source::Length, 0),
             Node::Load(protocol, size) => {
                 emit_accessor(&mut self.code, link, *protocol, width_of(*size))?;
                 self.numbers.push(Waiting::Index(*protocol))

@@ -168,7 +168,7 @@ fn same_step(new: Insn, landing: Landing, old: Insn, behind: &[Landing]) -> bool
     }
 }
 
-/// A test of bits stands for a mask, and a test of what is left for 0.
+/// A test of bits means a mask, and a test of whether what is left is 0.
 fn tests_bits(new: Insn, mask: Insn, test: Insn) -> bool
     ensures { result ≡ ((mask.code == MASK && test.code == EQUAL)
         && (test.k == 0 && (new.code == ANY_BIT && mask.k == new.k))) }
