@@ -1,5 +1,6 @@
 //! What no command line shows of expressions and programs.
 
+mod clone_only;
 mod expressions;
 mod jumps;
 mod machine;

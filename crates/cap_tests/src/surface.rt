@@ -3,4 +3,5 @@
 mod captures;
 mod devices;
 mod expressions;
+mod formats;
 mod jobs;
