@@ -122,6 +122,33 @@ fn long_files_are_copied(rt: HostRuntime) {
     assert!(rt; leave(&rt).is_ok());
 }
 
+/// The words of a merge of 256 files into `out`, the second of which is no capture.
+fn longest_merge(alloc: Global) -> Result<String, AllocError> {
+    let mut words = String::from_str(alloc, "merge -a -F pcap -w out in")?;
+    for _ in 0..255 {
+        words.push_str(" code")?;
+    }
+    Ok(words)
+}
+
+/// Whether that merge ends by the second file, with the first one's packets in `out`.
+fn is_longest_run(rt: &HostRuntime) -> Result<bool, AllocError> {
+    let words = longest_merge(rt.alloc())?;
+    let Some(line) = line_of(rt.alloc(), words.as_str()) else {
+        return Ok(false);
+    };
+    let status = run::<Jobs>(rt, line);
+    Ok(status == 1 && matches!(has_output(rt, Some(84)), Ok(true)))
+}
+
+/// With as many inputs as may be, the output is the file that the line names.
+#[test]
+fn runs_of_256_files_write_their_output(rt: HostRuntime) {
+    assert!(rt; enter(&rt, "many").is_ok());
+    assert!(rt; matches!(is_longest_run(&rt), Ok(true)));
+    assert!(rt; leave(&rt).is_ok());
+}
+
 /// Whether this is the text of a stop.
 fn tells(alloc: Global, stop: Option<Stop<'_>>, text: &str) -> bool {
     match stop {
