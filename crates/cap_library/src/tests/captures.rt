@@ -248,16 +248,22 @@ fn faults_are_found(rt: HostRuntime) -> Result<(), Fail> {
     Ok(())
 }
 
-/// A section with 256 interfaces, and one more.
+/// A section with 256 interfaces, and one more: a good one, and one whose name doesn't fit.
 #[test]
 fn most_interfaces(rt: HostRuntime) -> Result<(), Fail> {
     let mut capture = Vec::from_slice(rt.alloc(), &BLOCKS[..28])?;
-    for _ in 0..257 {
+    for _ in 0..256 {
         capture.extend_from_slice(&BLOCKS[144..164])?;
     }
     let mut table = vec![in rt.alloc(); NO_INTERFACE; 300]?;
-    let (number, reader) = read_all(&capture, &mut table);
-    assert!(rt; (number, reader.offset, reader.interfaces) == (11, 28 + 256 * 20, 256));
+    for is_good in [false, true] {
+        let mut whole = Vec::from_slice(rt.alloc(), &capture)?;
+        whole.extend_from_slice(&BLOCKS[28..46])?;
+        whole.push(if is_good { 4 } else { 200 })?;
+        whole.extend_from_slice(&BLOCKS[47..80])?;
+        let (number, reader) = read_all(&whole, &mut table);
+        assert!(rt; (number, reader.offset, reader.interfaces) == (11, 28 + 256 * 20, 256));
+    }
     Ok(())
 }
 
