@@ -18,12 +18,13 @@ const MIB: usize = 1_048_576;
 /// which second, and the line that is shown then.
 type Read = (bool, usize, u64, &'static str);
 
-const READS: [Read; 6] = [
+const READS: [Read; 7] = [
     (true, 10 * MIB, 1, ""),
     (true, 90 * MIB, 2, "\r\x1b[K50% read, 50 MiB/s"),
     (true, 20 * MIB, 2, ""),
     (true, 0, 3, "\r\x1b[K60% read, 40 MiB/s"),
-    (true, 200 * MIB, 10, "\r\x1b[K100% read, 32 MiB/s"),
+    (true, 79 * MIB, 4, "\r\x1b[K99% read, 49 MiB/s"),
+    (true, 200 * MIB, 10, "\r\x1b[K100% read, 39 MiB/s"),
     (false, 7 * MIB, 3, "\r\x1b[K7 MiB read, 2 MiB/s"),
 ];
 
