@@ -62,7 +62,7 @@ refused frame interfaces block fault exact whole least fails is never =
       | inl body ↦ inl body
       | inr more ↦ elim more [
         | inl among ↦ inr among
-        | inr memory ↦ absurd (block_not frame block fault whole least fails (never memory))
+        | inr memory ↦ absurd (block_not frame block fault whole least fails (never memory.0))
       ]
     ]
 
