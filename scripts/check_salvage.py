@@ -12,8 +12,9 @@ of the capture:
   changed  packets at the place of one whose bytes were damaged, with its time, lengths or bytes
   false    all others
 
-The status is 1 if salvage.py wrote a false packet, fewer whole ones than another program, fewer
-whole and changed ones together, or changed its input. Such files are kept with --keep.
+The status is 1 if salvage.py wrote a false packet, fewer whole ones than tcpdump or editcap, fewer
+whole and changed ones together, or changed its input. Such files are kept with --keep. With
+--pcapfix that program, which puts captures right in its own way, is shown beside them.
 """
 import argparse
 import bisect
@@ -181,7 +182,9 @@ def commands(capkit):
     if os.geteuid() == 0:
         tcpdump += ["-Z", "root"]
     path = f"{capkit.parent}:{os.environ['PATH']}"
-    return dict(zip(PROGRAMS, [salvage, tcpdump, ["editcap", "-F", "nsecpcap", "IN", "OUT"]])), path
+    pcapfix = ["sh", "-c", 'cd "${2%/*}" && pcapfix -k -o fixed "$1"; test -e fixed || cp "$1" fixed; '
+               'editcap -F nsecpcap fixed "$2"', "sh", "IN", "OUT"]
+    return dict(zip(PROGRAMS, [salvage, tcpdump, ["editcap", "-F", "nsecpcap", "IN", "OUT"], pcapfix])), path
 
 
 def try_one(number, given):
@@ -201,7 +204,7 @@ def try_one(number, given):
             results[name] = counts(packets_of(out), packets)
             if name == "salvage.py" and b"Traceback" in done.stderr:
                 print(done.stderr.decode(), file=sys.stderr)
-        own, others = results["salvage.py"], [results[name] for name in PROGRAMS[1:]]
+        own, others = results["salvage.py"], [results[name] for name in ("tcpdump", "editcap")]
         faults = ["a false packet"] * (own[2] > 0)
         faults += ["fewer whole packets"] * any(own[0] < it[0] for it in others)
         faults += ["fewer packets"] * any(own[0] + own[1] < it[0] + it[1] for it in others)
@@ -233,8 +236,6 @@ def report(done):
             sums[key].update(runs=1, packets=of_packets, damaged=of_damaged)
             for name, (whole, changed, false) in results.items():
                 sums[key].update({(name, "whole"): whole, (name, "changed"): changed, (name, "false"): false})
-                others = [results[it][0] + results[it][1] for it in PROGRAMS]
-                sums[key].update({(name, "most"): others[PROGRAMS.index(name)] == max(others)})
     print(f"{'damage':10} {'runs':>5} {'packets':>9} {'damaged':>8}  " + "  ".join(
         f"{name + ': whole':>18} {'changed':>7} {'false':>6}" for name in PROGRAMS))
     for key in [*(it for it in sums if it != "all"), "all"]:
@@ -251,10 +252,12 @@ def main():
     parser.add_argument("--jobs", type=int, default=len(os.sched_getaffinity(0)))
     parser.add_argument("--seed", type=int, default=1)
     parser.add_argument("--first", type=int, default=0)
+    parser.add_argument("--pcapfix", action="store_true")
     parser.add_argument("--keep", default=None)
     parser.add_argument("--show", action="store_true", help="runs in which undamaged packets are missed")
     given = parser.parse_args()
     given.capkit = given.capkit or str(check_examples.built_program())
+    PROGRAMS.extend(["pcapfix"] * given.pcapfix)
     missing = [name for name in PROGRAMS[1:] if shutil.which(name) is None]
     if missing:
         sys.exit(f"not installed: {', '.join(missing)}")

@@ -23,6 +23,7 @@ import argparse
 import mmap
 import os
 import re
+import shutil
 import struct
 import subprocess
 import sys
@@ -56,15 +57,16 @@ class File:
 
     def __init__(self, data, row):
         self.data, self.row, self.size = data, row, len(data)
-        self.notes, self.left_out, self.pieces = [], 0, []
+        self.notes, self.gaps, self.pieces = [], [], []
 
     def note(self, at, text):
         self.notes.append((at, text))
 
     def leave_out(self, begin, end, why=""):
-        if begin < end:
-            self.left_out += end - begin
-            self.note(begin, f"{end - begin} bytes left out{why}")
+        if self.gaps and self.gaps[-1][1:] == [begin, why]:
+            self.gaps[-1][1] = end
+        elif begin < end:
+            self.gaps.append([begin, end, why])
 
     def keep(self, begin, end, mended=None):
         """Keeps a unit as it is in the file, or as it is put right."""
@@ -545,6 +547,8 @@ def main():
     parser.add_argument("IN")
     parser.add_argument("OUT")
     given = parser.parse_args()
+    if shutil.which("capkit") is None:
+        sys.exit("salvage.py: capkit isn't in PATH")
     if os.path.exists(given.OUT) and os.path.samefile(given.IN, given.OUT):
         parser.error("IN and OUT are one file")
     try:
@@ -557,10 +561,12 @@ def main():
                 count = write(file, given.OUT, given.form)
     except (OSError, Refused) as error:
         sys.exit(f"salvage.py: {given.IN}: {error}")
-    for at, text in sorted(file.notes):
+    gaps = [(begin, f"{end - begin} bytes left out{why}") for begin, end, why in file.gaps]
+    for at, text in sorted(file.notes + gaps):
         print(f"{given.IN}: offset {at}: {text}")
-    print(f"{given.OUT}: {count} packets; {file.left_out} of {file.size} bytes left out")
-    sys.exit(1 if file.notes else 0)
+    left_out = sum(end - begin for begin, end, _ in file.gaps)
+    print(f"{given.OUT}: {count} packets; {left_out} of {file.size} bytes left out")
+    sys.exit(1 if file.notes or gaps else 0)
 
 
 if __name__ == "__main__":
