@@ -102,7 +102,8 @@ class Piece:
                 split = [[begin, at, None], [at, to, plain], [to, end, None]]
                 self.parts[number : number + 1] = [it for it in split if it[0] < it[1] and it[2] != b""]
                 if plain:
-                    file.note(at, f"options of an interface left out ({why})")
+                    units = ", times are read as microseconds" if why == "bad time resolution" else ""
+                    file.note(at, f"options of an interface left out ({why}){units}")
                 else:
                     file.leave_out(at, to, f" ({why})")
                 return
@@ -175,6 +176,15 @@ class Records:
             return is_near and part < self.units and original > 0
         return is_near or part < self.units or captured <= original
 
+    def end_by_original(self, at):
+        """Where the record ends if its captured length is damaged, is above the original length, and
+        a row comes after as many bytes as that says: else it would take in the next packets."""
+        if at + 16 > self.size:
+            return None
+        captured, original = self.fields.unpack_from(self.data, at)[2:]
+        is_less = 0 < original < captured and at + 16 + original < self.size
+        return at + 16 + original if is_less and self.is_row(at + 16 + original, self.near) else None
+
     def leads_on(self, at):
         """Whether the records from a place on lead to a row of plausible ones or to the end."""
         for _ in range(HOPS):
@@ -228,6 +238,10 @@ class Records:
         start of another capture."""
         if reader_at(self.file, at):
             return at, True
+        shorter = self.end_by_original(at)
+        if shorter is not None:
+            self.mend(at, end, shorter)
+            return shorter, False
         if end is not None and self.leads_on(at):
             self.keep(at, end)
             return end, False
