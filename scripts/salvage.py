@@ -46,6 +46,11 @@ NEAR = 30 * 86_400
 # Over how many records with a damaged time or original length a record may lead to a row.
 HOPS = 8
 ETHERNET = 1
+# What is done where capkit refuses a block.
+PLAIN = {
+    "bad time resolution": "its times are read as microseconds",
+    "time out of range": "written as 0",
+}
 
 
 class Refused(Exception):
@@ -98,12 +103,11 @@ class Piece:
             if offset < start + size:
                 at = begin + (offset - start if mended is None else 0)
                 to = end if mended is not None else self.reader.length_at(at) + at
-                plain = self.reader.plain(at) if mended is None else None
+                plain = self.reader.plain(at) if mended is None else b""
                 split = [[begin, at, None], [at, to, plain], [to, end, None]]
                 self.parts[number : number + 1] = [it for it in split if it[0] < it[1] and it[2] != b""]
                 if plain:
-                    units = ", times are read as microseconds" if why == "bad time resolution" else ""
-                    file.note(at, f"options of an interface left out ({why}){units}")
+                    file.note(at, f"{why}: {PLAIN.get(why, 'an interface without its options')}")
                 else:
                     file.leave_out(at, to, f" ({why})")
                 return
@@ -353,7 +357,7 @@ class Blocks:
         block, length, whole = self.data[at:place], self.number(at + 4), place - at
         size = struct.pack(self.order + "I", whole)
         captured, original = self.number(at + 20), self.number(at + 24)
-        is_packet = self.number(at) == ENHANCED and captured <= original
+        is_packet = self.number(at) == ENHANCED and 0 < captured <= original
         if whole % 4 == 0 and (length == whole or block[-4:] == size):
             self.file.note(at, f"a block with two lengths, read as one of {whole} bytes")
             self.take(at, place, block[:4] + size + block[8:-4] + size, True)
@@ -414,6 +418,8 @@ class Blocks:
         if len(block) < 32 or not self.interfaces:
             return None
         number, captured, original = (self.number(place, block) for place in (8, 20, 24))
+        if not captured and not original:
+            return None
         if number >= self.interfaces:
             if self.interfaces > 1:
                 return None
@@ -427,8 +433,11 @@ class Blocks:
         return block[:20] + struct.pack(self.order + "I", original) + block[24:]
 
     def plain(self, at):
-        """An interface with no options but its times, in place of one that capkit refuses."""
+        """A block that capkit reads in place of one that it refuses: a packet at time 0, or an
+        interface with no options but its times; nothing for other blocks."""
         block = self.data[at : self.end_of(at)]
+        if self.number(0, block) == ENHANCED and self.number(12, block):
+            return block[:12] + bytes(8) + block[20:]
         if self.number(0, block) != INTERFACE:
             return b""
         options, place = b"", 16
