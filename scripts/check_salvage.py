@@ -11,6 +11,7 @@ of the capture:
   whole    packets that are equal in time, lengths and bytes
   changed  packets at the place of one whose bytes were damaged, with its time, lengths or bytes
   false    all others
+  missed   undamaged packets that weren't read
 
 The status is 1 if salvage.py wrote a false packet, fewer whole ones than tcpdump or editcap, fewer
 whole and changed ones together, or changed its input. Such files are kept with --keep. With
@@ -147,11 +148,13 @@ def is_like(packet, other):
 
 
 def counts(read, packets):
-    """How many of the packets that were read are whole, changed and false."""
+    """How many of the packets that were read are whole, changed and false, and how many undamaged
+    ones are missed."""
     places = collections.defaultdict(list)
     for place, (packet, _) in enumerate(packets):
         places[packet].append(place)
     whole = changed = false = 0
+    missed = sum(not is_damaged for _, is_damaged in packets)
     before, others = -1, []
 
     def settle(end):
@@ -172,8 +175,9 @@ def counts(read, packets):
             continue
         settle(found[at])
         before, whole = found[at], whole + 1
+        missed -= not packets[before][1]
     settle(len(packets))
-    return whole, changed, false
+    return whole, changed, false, missed
 
 
 def commands(capkit):
@@ -208,10 +212,9 @@ def try_one(number, given):
         faults = ["a false packet"] * (own[2] > 0)
         faults += ["fewer whole packets"] * any(own[0] < it[0] for it in others)
         faults += ["fewer packets"] * any(own[0] + own[1] < it[0] + it[1] for it in others)
-        missed = sum(not is_damaged for _, is_damaged in packets) - own[0]
-        if given.show and missed > 0:
+        if given.show and own[3]:
             said = done_by["salvage.py"].stdout + done_by["salvage.py"].stderr
-            print(f"run {number}, {kind}, {form}: {missed} missed\n{said.decode()}", flush=True)
+            print(f"run {number}, {kind}, {form}: {own[3]} missed\n{said.decode()}", flush=True)
         faults += ["its input changed"] * (source.read_bytes() != data)
         if faults and given.keep:
             shutil.copy(source, pathlib.Path(given.keep) / f"{number}.{kind}")
@@ -234,14 +237,16 @@ def report(done):
     for _, kind, _, of_packets, of_damaged, results, _ in done:
         for key in (kind, "all"):
             sums[key].update(runs=1, packets=of_packets, damaged=of_damaged)
-            for name, (whole, changed, false) in results.items():
+            for name, (whole, changed, false, missed) in results.items():
                 sums[key].update({(name, "whole"): whole, (name, "changed"): changed, (name, "false"): false})
+                sums[key].update({(name, "missed"): missed})
     print(f"{'damage':10} {'runs':>5} {'packets':>9} {'damaged':>8}  " + "  ".join(
-        f"{name + ': whole':>18} {'changed':>7} {'false':>6}" for name in PROGRAMS))
+        f"{name + ': whole':>18} {'changed':>7} {'false':>6} {'missed':>8}" for name in PROGRAMS))
     for key in [*(it for it in sums if it != "all"), "all"]:
         of = sums[key]
         print(f"{key:10} {of['runs']:5} {of['packets']:9} {of['damaged']:8}  " + "  ".join(
-            f"{of[name, 'whole']:18} {of[name, 'changed']:7} {of[name, 'false']:6}" for name in PROGRAMS))
+            f"{of[name, 'whole']:18} {of[name, 'changed']:7} {of[name, 'false']:6} {of[name, 'missed']:8}"
+            for name in PROGRAMS))
 
 
 def main():
