@@ -4,9 +4,10 @@
 usage: check_examples.py [--capkit PROGRAM] [--update] [PAGE..]
 
 An example is a fenced block whose first line begins with "$ ". The examples under one heading run one after another in one
-shell, in a folder of their own with a copy of samples/. Standard output and standard error are shown together. A line that
-begins with "> " continues the command above it. With --update the pages get what is printed, to be read before it is
-committed. A heading under which a program is called that isn't installed is left out, and told.
+shell, in a folder of their own, after the line of docs/RECIPES.md that sets up a checkout. That of a package has to leave
+the same files. Standard output and standard error are shown together. A line that begins with "> " continues the command
+above it. With --update the pages get what is printed, to be read before it is committed. A heading under which a program
+is called that isn't installed is left out, and told.
 """
 import argparse
 import os
@@ -21,6 +22,9 @@ ROOT = pathlib.Path(__file__).resolve().parent.parent
 PAGES = ["README.md", "docs/RECIPES.md", "docs/SCALE.md"]
 OTHER_PROGRAMS = ["tcpdump", "editcap", "mergecap", "capinfos", "parallel", "dot", "python3"]
 MARK = "==== next example ===="
+# The folders that the set-up copies, and where a package has them.
+FOLDERS = ["samples", "bench", "scale", "scripts"]
+INSTALLED = "/usr/share/doc/capkit"
 
 
 def built_program():
@@ -80,26 +84,44 @@ def command_of(lines):
     return "\n".join(line[2:] for line in lines)
 
 
+def set_up(where):
+    """The line that RECIPES has for the set-up in a checkout, or where a package is installed."""
+    found = re.search(rf"^\| {where} \| `(.*)` \|$", (ROOT / "docs" / "RECIPES.md").read_text(), re.MULTILINE)
+    return found[1]
+
+
+def checkout(folder, capkit):
+    """Makes of the folder a checkout, as far as the set-up needs it, and returns what a shell there is called with."""
+    for name in FOLDERS:
+        shutil.copytree(ROOT / name, folder / name, ignore=shutil.ignore_patterns("__pycache__"))
+    (folder / "capkit").symlink_to(pathlib.Path(capkit).resolve())
+    kept = {"PATH": os.environ["PATH"], "TZ": "UTC", "LC_ALL": "C", "HOME": str(folder)}
+    pipes = {"stdin": subprocess.DEVNULL, "stdout": subprocess.PIPE, "stderr": subprocess.STDOUT}
+    return {"cwd": folder, "env": kept, **pipes}
+
+
 def run(commands, capkit):
     """What each of the commands prints, in one shell and a new folder."""
-    script = ""
+    script = set_up("in a checkout") + "\n"
     for command in commands:
         script += f"__status=$?; printf '{MARK}\\n'; (exit $__status)\n{command}\n"
     with tempfile.TemporaryDirectory() as temporary:
-        folder = pathlib.Path(temporary)
-        shutil.copytree(ROOT / "samples", folder / "samples")
-        (folder / "bin").mkdir()
-        (folder / "bin" / "capkit").symlink_to(pathlib.Path(capkit).resolve())
-        for name in ("bench", "scale"):
-            (folder / name).symlink_to(ROOT / name)
-        path = f"{folder / 'bin'}:{os.environ['PATH']}"
-        kept = {"PATH": path, "TZ": "UTC", "LC_ALL": "C", "HOME": temporary}
-        words = ["bash", "-c", script]
-        place = folder / "samples"
-        pipes = {"stdin": subprocess.DEVNULL, "stdout": subprocess.PIPE, "stderr": subprocess.STDOUT}
-        done = subprocess.run(words, cwd=place, env=kept, **pipes)
+        done = subprocess.run(["bash", "-c", script], **checkout(pathlib.Path(temporary), capkit))
     printed = done.stdout.decode(errors="replace").split(MARK + "\n")[1:]
     return [text.rstrip("\n").split("\n") if text.rstrip("\n") else [] for text in printed]
+
+
+def same_set_up(capkit):
+    """Whether both lines of the set-up leave the same files, that of a package with its folder in place of /usr/share."""
+    shown = []
+    for where in ("in a checkout", "installed as a package"):
+        with tempfile.TemporaryDirectory() as temporary:
+            how = checkout(pathlib.Path(temporary), capkit)
+            line = set_up(where).replace(INSTALLED, temporary)
+            script = f"mkdir new; cd new; {line}" if where.startswith("installed") else line
+            done = subprocess.run(["bash", "-c", f"{script}\n test ${{PWD##*/}} = samples && cd .. && find . | sort"], **how)
+            shown.append((done.returncode, done.stdout))
+    return shown[0] == shown[1] and shown[0][0] == 0
 
 
 def missing_program(commands):
@@ -152,6 +174,9 @@ def main():
     capkit = arguments.capkit or built_program()
     names = arguments.pages or [page for page in PAGES if (ROOT / page).exists()]
     wrong = sum(check_page(name, capkit, arguments.update) for name in names)
+    if not same_set_up(capkit):
+        wrong += 1
+        print("docs/RECIPES.md: the two lines of the set-up don't leave the same files")
     sys.exit(1 if wrong else 0)
 
 

@@ -44,11 +44,12 @@ needs=$(cd "$work" && dpkg-shlibdeps -O "$tree/usr/bin/capkit" | sed -n 's/^shli
 
 # What a user copies to work on many machines.
 install -D -m 644 -t "$documents/scale" "$root/scale/filter.sbatch" "$root/scale/filter.py"
+install -D -m 644 -t "$documents/scripts" "$root/scripts/salvage.py"
 
 # The manual pages and completions.
 place() {
     case $1 in
-    *.1) printf 'usr/share/man/man1/%s' "$1" ;;
+    *.[17]) printf 'usr/share/man/man%s/%s' "${1##*.}" "$1" ;;
     *.bash) printf 'usr/share/bash-completion/completions/%s' "${1%.bash}" ;;
     *.fish) printf 'usr/share/fish/vendor_completions.d/%s' "$1" ;;
     _*) printf 'usr/share/zsh/vendor-completions/%s' "$1" ;;
@@ -59,7 +60,7 @@ place() {
 for page in "$work"/pages/*; do
     install -D -m 644 "$page" "$tree/$(place "${page##*/}")"
 done
-gzip -9n "$tree"/usr/share/man/man1/*
+gzip -9n "$tree"/usr/share/man/man?/*
 
 # The documents that a user reads, the samples, and what the recipes call beside them.
 install -m 644 "$root"/samples/* "$documents/samples/"
@@ -68,6 +69,9 @@ install -m 644 "$root/bench/draw_listing.py" "$root/bench/make_capture.py" "$doc
 for page in README.md $(cd "$root" && echo docs/*.md) docs/inside/FORMATS.md docs/inside/MACHINE.md; do
     install -D -m 644 "$root/$page" "$documents/$page"
 done
+# What only a checkout has is left out.
+awk '/^## / { is_left_out = $2 ~ /^(Run|Install|Test)$/ } !is_left_out && !/^\| carry on/' "$root/README.md" |
+    sed 's#packaging/copyright#copyright#g' >"$documents/README.md"
 for page in "$documents"/*.md "$documents"/docs/*.md "$documents"/docs/inside/*.md; do
     drop_dead_links "$page"
 done

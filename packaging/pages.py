@@ -6,6 +6,7 @@ usage: packaging/pages.py FOLDER
 A page is a file of packaging/pages/, with lists of what the command line says of itself in the places of lines with @.
 The table crates/cap_cases/data/lines has what it says: cases in which words ask for the version, or for the help of the
 program or of a command, with the lines of the answer. `rt ci` compares these with what the program says.
+capkit-filter(7) is docs/FILTER.md in the form of a manual page.
 """
 import dataclasses
 import pathlib
@@ -17,6 +18,9 @@ STORED = ROOT / "crates/cap_cases/data/lines"
 # The columns of a terminal, which no line of help exceeds.
 COLUMNS = 80
 TEMPLATES = ROOT / "packaging/pages"
+LANGUAGE = ROOT / "docs/FILTER.md"
+# How far a manual page stands in from the left, and a display of it.
+MARGIN, DISPLAY = 5, 6
 # The values and arguments that name files.
 FILES = {"IN", "OUT", "FILE", "LISTING", "MORE"}
 # What stands before the values that an option may have, at the end of its line or on one of its own.
@@ -159,9 +163,18 @@ def roff_examples(lines):
             shown += [".Ed", ".Pp"]
         if is_command and not was_command:
             shown.append(".Bd -literal -offset indent")
-        shown.append(roff(line.strip()))
+        shown += map(roff, folded(line.strip()) if is_command else [line.strip()])
         was_command = is_command
     return shown + [".Ed"]
+
+
+def folded(line):
+    """The line of a display as lines that a shell joins."""
+    most = COLUMNS - MARGIN - DISPLAY
+    if len(line) <= most:
+        return [line]
+    first = line[: most - 1].rsplit(" ", 1)[0]
+    return [first + " \\", *folded("    " + line[len(first) :].strip())]
 
 
 def manual_parts(help, version):
@@ -173,6 +186,86 @@ def manual_parts(help, version):
         "@examples": roff_examples(help.examples),
         "@version": [roff(version) + "."],
     }
+
+
+# ---- the language, from Markdown
+
+def roff_text(text):
+    """A text of Markdown: code and what is bold in bold, what is stressed in italics, links by their text."""
+    pieces = re.split(r"(`[^`]+`)", text)
+    shown = "".join(bold(piece[1:-1]) if piece.startswith("`") else emphasis(piece) for piece in pieces)
+    return shown if shown[:1] not in ".'" else r"\&" + shown
+
+
+def bold(code):
+    return rf"\fB{roff(code)}\fP"
+
+
+def emphasis(text):
+    text = re.sub(r"\[([^]]*)\]\([^)]*\)", r"\1", text)
+    text = re.sub(r"\*\*([^*]+)\*\*", r"\\fB\1\\fP", roff(text))
+    return re.sub(r"(?<![\w*])\*([^* ][^*]*)\*(?!\w)", r"\\fI\1\\fP", text)
+
+
+def table(lines):
+    """A table as a list of its first cells, each with the others: by their names, if there are several."""
+    rows = [[cell.strip().replace("\\|", "|") for cell in re.split(r"(?<!\\)\|", line)[1:-1]] for line in lines]
+    names, *rows = rows[:1] + rows[2:]
+    shown = [".Bl -tag -width Ds"]
+    for first, *others in rows:
+        shown.append('.It "' + r"\&" + roff_text(first).replace('"', r"\(dq") + '"')
+        named = [(name, cell) for name, cell in zip(names[1:], others) if cell]
+        if len(names) == 2:
+            shown += [roff_text(cell) for _, cell in named]
+        else:
+            for place, (name, cell) in enumerate(named):
+                shown += [".br"] * (place > 0) + [roff_text(f"*{name}*: {cell}")]
+    return shown + [".El"]
+
+
+def code(lines):
+    if wide := [line for line in lines if MARGIN + len(line) > COLUMNS]:
+        sys.exit(f"over {COLUMNS} columns in a manual page: {wide[0]}")
+    return [".Bd -literal", *(r"\&" + roff(line) for line in lines), ".Ed"]
+
+
+def points(lines):
+    """A list; a point goes on where a line stands deeper."""
+    shown = [".Bl -bullet"]
+    for line in lines:
+        shown += [".It"] * line.startswith("- ") + [roff_text(line[2:].strip())]
+    return shown + [".El"]
+
+
+def paragraphs(text):
+    """The parts of a page of Markdown: the kind of each, and its lines."""
+    kinds = {"`": "code", "#": "header", "|": "table", "-": "points"}
+    lines, is_fenced = [], False
+    for line in [*text.splitlines(), ""]:
+        is_fenced ^= line.startswith("```")
+        if line or is_fenced:
+            lines.append(line)
+        elif lines:
+            kind = kinds.get(lines[0][0], "text")
+            if kind == "code" and not lines[0].startswith("```"):
+                kind = "text"
+            yield kind, lines[1:-1] if kind == "code" else lines
+            lines = []
+
+
+def language_parts():
+    """The sections of the page on the filter language."""
+    shown, was_header = [], True
+    for kind, lines in paragraphs(LANGUAGE.read_text().partition("\n")[2]):
+        if kind == "header":
+            mark, _, name = lines[0].partition(" ")
+            shown.append((".Ss " if len(mark) == 3 else ".Sh ") + roff(name.upper() if len(mark) == 2 else name))
+        else:
+            shown += [".Pp"] * (not was_header and kind == "text")
+            shape = {"table": table, "code": code, "points": points}.get(kind, lambda them: map(roff_text, them))
+            shown += shape(lines)
+        was_header = kind == "header"
+    return {"@language": shown}
 
 
 # ---- the completion for bash
@@ -296,6 +389,7 @@ def pages():
     commands = [help_of(name, texts[f"capkit {name} -h"]) for name in (command.form for command in program.commands)]
     parts = {f"capkit-{help.name}.1": manual_parts(help, version) for help in commands}
     parts["capkit.1"] = manual_parts(program, version)
+    parts["capkit-filter.7"] = language_parts()
     parts["capkit.bash"] = bash_parts(program, commands)
     parts["_capkit"] = zsh_parts(program, commands)
     parts["capkit.fish"] = fish_parts(program, commands)

@@ -1,6 +1,6 @@
 #!/usr/bin/env python3
 """Writes the captures of this folder that show a day of an office network: day.pcap, mirror.pcap, ring.pcap0 to
-ring.pcap2 and damaged.pcap. The addresses are those of RFC 1918, RFC 3849 and RFC 5737.
+ring.pcap2, damaged.pcap, tagged.pcap and any.pcap. The addresses are those of RFC 1918, RFC 3849 and RFC 5737.
 
 usage: make_samples.py [FOLDER]
 """
@@ -152,9 +152,26 @@ def day():
     yield from conversation(at(14, 20, 0), (LAPTOP, 49200), (WEB, 443), hello, answer)
 
 
-def write(path, packets):
+def tagged():
+    """The page of the web in VLAN 7, a question for a name without a tag, and a chunk of SCTP, whose checksum is wrong."""
+    for time, data in web():
+        yield time, data[:12] + struct.pack(">HH", 0x8100, 7) + data[12:]
+    yield at(12, 50, 0), udp((PC, 49160), (NAMES, 53), query(1, False))
+    start = struct.pack(">HHIIBBHIIHHI", 49300, 3868, 0, 0, 1, 0, 20, 1, 65535, 10, 10, 1)
+    yield at(12, 51, 0), ip(PC, WEB, 132, start, 8)
+
+
+def on_any():
+    """The page of the web as `tcpdump -i any` writes it: sent, or received, by the second device."""
+    for time, data in web():
+        is_sent = data[6:12] == bytes.fromhex(MAC[PC])
+        head = struct.pack(">HHIHBB", 0x0800, 0, 2, 1, 4 if is_sent else 0, 6)
+        yield time, head + data[6:12] + b"\0\0" + data[14:]
+
+
+def write(path, packets, link=1):
     with open(path, "wb") as file:
-        file.write(struct.pack("<IHHIIII", 0xA1B2C3D4, 2, 4, 0, 0, 262144, 1))
+        file.write(struct.pack("<IHHIIII", 0xA1B2C3D4, 2, 4, 0, 0, 262144, link))
         for time, data in packets:
             file.write(struct.pack("<IIII", time // 1_000_000, time % 1_000_000, len(data), len(data)))
             file.write(data)
@@ -170,6 +187,9 @@ def main():
     # The third file was full, so the first one was begun anew: it is the newest.
     for name, first, last in (("ring.pcap1", 0, 15), ("ring.pcap2", 15, 30), ("ring.pcap0", 30, None)):
         write(folder / name, packets[first:last])
+    write(folder / "tagged.pcap", tagged())
+    # Link type 276, LINUX_SLL2.
+    write(folder / "any.pcap", on_any(), 276)
     # The captured length of the 31st record is overwritten.
     damaged = bytearray((folder / "day.pcap").read_bytes())
     place = 24 + sum(16 + len(data) for _, data in packets[:30]) + 8

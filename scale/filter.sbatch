@@ -4,7 +4,8 @@
 # usage: sbatch --wait --array=0-LAST filter.sbatch EXPRESSION FILE..
 #
 # LAST is the number of files less one. All nodes see the files, and have capkit in PATH. With --wait, the status of
-# sbatch is the greatest of the tasks' statuses. What a task reports is in capkit-NUMBER.log.
+# sbatch is the greatest of the tasks' statuses. What a task reports is in capkit-NUMBER.log. Of a file that can't be
+# read, and of an expression that is refused, no .match is left, so that all there are can be joined.
 #SBATCH --job-name=capkit
 #SBATCH --ntasks=1
 #SBATCH --mem=64M
@@ -14,4 +15,8 @@ expression=$1
 shift
 files=("$@")
 file=${files[SLURM_ARRAY_TASK_ID]}
-exec capkit print -w "${file%.pcap}.match" --format pcap "$file" "$expression"
+out=${file%.pcap}.match
+status=0
+capkit print -w "$out" --format pcap "$file" "$expression" || status=$?
+[ -s "$out" ] || rm -f "$out"
+exit "$status"

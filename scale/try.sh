@@ -1,6 +1,7 @@
 #!/bin/bash
 # Runs filter.sbatch by Slurm and filter.py by dask.distributed over sixteen files, on this machine alone, and compares
-# what they write with what one run writes. Of a refused expression both have to tell.
+# what they write with what one run writes. Then one of the files is empty, and one is damaged in its middle: both have
+# to write all packets but these, and to report the two files with status 1. Of a refused expression both have to tell.
 #
 # usage: scale/try.sh [PROGRAM]
 #
@@ -112,17 +113,43 @@ start_dask() {
     scheduler=$(sed -n 's/.*"address": "\([^"]*\)".*/\1/p' "$work/scheduler.json" | head -n 1)
 }
 
-# Looks whether a command ends with the status of a refused expression.
-is_refused() {
+# Looks whether a command ends with a status, and keeps what it reports.
+ends_with() { # STATUS COMMAND..
     result=0
-    "$@" 2>/dev/null || result=$?
-    [ "$result" = 2 ]
+    "${@:2}" 2>reported || result=$?
+    if [ "$result" != "$1" ]; then
+        cat reported >&2
+        printf '%s: %s ended with status %s\n' "$0" "$2" "$result" >&2
+        return 1
+    fi
 }
 
-# Looks whether a capture is that of one run, and says so.
-compare() {
-    cmp "$1" one.pcap
-    printf '%s: sixteen files, the same bytes as one run\n' "$2"
+# Runs a job of Slurm over all parts, and joins what its tasks write.
+by_slurm() { # STATUS EXPRESSION OUT
+    rm -f part-*.match capkit-*.log
+    ends_with "$1" sbatch --quiet --wait --array=0-15 "$root/scale/filter.sbatch" "$2" part-*.pcap
+    cat capkit-*.log >reported
+    if [ "$1" -lt 2 ]; then
+        capkit merge -a -F pcap -w "$3" part-*.match
+    fi
+}
+
+by_dask() { # STATUS EXPRESSION OUT
+    ends_with "$1" "$python" "$root/scale/filter.py" "$scheduler" "$3" "$2" part-*.pcap
+}
+
+# Runs an engine over files that are whole, by an expression that is refused, and over an empty and a damaged file.
+try_engine() { # COMMAND NAME
+    cp whole/part-*.pcap .
+    "$1" 0 "$expression" whole.pcap
+    cmp whole.pcap one.pcap
+    "$1" 2 'tcp port' none.pcap
+    cp bad/part-*.pcap .
+    "$1" 1 "$expression" bad.pcap
+    cmp bad.pcap without.pcap
+    grep -q 'part-05.pcap: offset 0: not a capture file' reported
+    grep -q 'part-09.pcap: offset [0-9]*: too long' reported
+    printf '%s: sixteen files, the same bytes as one run; with an empty and a damaged one, all other packets\n' "$2"
 }
 
 mkdir "$work/bin" "$work/run"
@@ -130,19 +157,21 @@ ln -s "$program" "$work/bin/capkit"
 export PATH=$work/bin:$PATH
 cd "$work/run"
 python3 "$root/bench/make_capture.py" all.pcap 1600
+mkdir whole bad
 for part in $(seq -w 16); do
     last=$((10#$part * 100))
-    capkit edit -r -F pcap all.pcap "part-$part.pcap" $((last - 99))-$last
+    capkit edit -r -F pcap all.pcap "whole/part-$part.pcap" $((last - 99))-$last
 done
 capkit print -w one.pcap --format pcap all.pcap "$expression"
 
-start_slurm
-sbatch --quiet --wait --array=0-15 "$root/scale/filter.sbatch" "$expression" part-*.pcap
-capkit merge -a -F pcap -w slurm.pcap part-*.match
-is_refused sbatch --quiet --wait --array=0-15 "$root/scale/filter.sbatch" 'tcp port' part-*.pcap
-compare slurm.pcap "$(sinfo --version)"
+# Part 5 is empty, and the captured length of packet 51 of part 9 is damaged.
+: >bad/part-05.pcap
+capkit edit -r -F pcap whole/part-09.pcap start.pcap 1-50
+cp whole/part-09.pcap bad/
+printf '\377\377\377\377' | dd of=bad/part-09.pcap bs=1 seek=$(($(wc -c <start.pcap) + 8)) conv=notrunc status=none
+capkit edit all.pcap - 401-500 851-900 | capkit print -w without.pcap --format pcap - "$expression"
 
+start_slurm
+try_engine by_slurm "$(sinfo --version)"
 start_dask
-"$python" "$root/scale/filter.py" "$scheduler" dask.pcap "$expression" part-*.pcap
-is_refused "$python" "$root/scale/filter.py" "$scheduler" none.pcap 'tcp port' part-*.pcap
-compare dask.pcap "dask.distributed $("$python" -c 'import distributed; print(distributed.__version__)')"
+try_engine by_dask "dask.distributed $("$python" -c 'import distributed; print(distributed.__version__)')"
