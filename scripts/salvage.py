@@ -188,6 +188,19 @@ class Records:
             return is_near and part < self.units and original > 0
         return is_near or part < self.units or captured <= original
 
+    def is_timely(self, at):
+        """Whether a record's time is plausible."""
+        seconds, part = self.fields.unpack_from(self.data, at)[:2]
+        return part < self.units and (self.near is None or abs(seconds - self.near) <= NEAR)
+
+    def takes_in_header(self, end):
+        """Whether a record ends with a file header after which times are microseconds, where those
+        of this file are nanoseconds: else it would make no difference to what comes after."""
+        if self.units == 10**6 or FORMS.get(self.data[end - 24 : end - 20]) != (self.order, 10**6):
+            return False
+        start = reader_at(self.file, end - 24)
+        return start is not None and end < self.size and start[0].is_row(end, None)
+
     def end_by_original(self, at):
         """Where the record ends if its captured length is damaged, is above the original length, and
         a row comes after as many bytes as that says: else it would take in the next packets."""
@@ -197,16 +210,18 @@ class Records:
         is_less = 0 < original < captured and at + 16 + original < self.size
         return at + 16 + original if is_less and self.is_row(at + 16 + original, self.near) else None
 
-    def leads_on(self, at):
-        """Whether the records from a place on lead to a row of plausible ones or to the end, or are
-        themselves many in a row."""
+    def leads_on(self, at, *near):
+        """Whether the records from a place on lead to the end or to a row of plausible ones, near one
+        of these times, or are themselves many in a row, with plausible times."""
+        are_timely = True
         for _ in range(HOPS):
-            if at == self.size or self.is_row(at, self.near) or self.is_row(at, None):
+            if at == self.size or any(self.is_row(at, it) for it in near):
                 return True
             if not self.can_pass(at):
                 return False
+            are_timely &= self.is_timely(at)
             at = self.end_of(at)
-        return True
+        return are_timely
 
     def next_row(self, at):
         """The next place from which a row is plausible, at a time near the last one if there is
@@ -237,6 +252,9 @@ class Records:
         while at < self.size:
             end = self.end_of(at)
             if end is not None and self.near is not None and self.is_good(at, self.near):
+                if self.takes_in_header(end):
+                    self.file.leave_out(at, end - 24)
+                    return end - 24
                 if end == self.size or self.is_good(end, self.near):
                     self.keep(at, end)
                     at = end
@@ -255,7 +273,15 @@ class Records:
         if shorter is not None:
             self.mend(at, end, shorter)
             return shorter, False
-        if end is not None and self.leads_on(at):
+        if end is not None and self.leads_on(at, self.near):
+            self.keep(at, end)
+            return end, False
+        # Times that go on elsewhere may be those of another capture, whose header this record takes in.
+        start = end and next_start(self.file, at + 1, end)
+        if start:
+            self.mend(at, end, start)
+            return start, True
+        if end is not None and self.leads_on(at, None):
             self.keep(at, end)
             return end, False
         place = self.next_row(at + 1)
