@@ -20,7 +20,7 @@ import tempfile
 
 ROOT = pathlib.Path(__file__).resolve().parent.parent
 PAGES = ["README.md", "docs/RECIPES.md", "docs/SCALE.md"]
-OTHER_PROGRAMS = ["tcpdump", "editcap", "mergecap", "capinfos", "parallel", "dot", "python3"]
+OTHER_PROGRAMS = ["tcpdump", "editcap", "mergecap", "capinfos", "parallel", "dot", "python3", "xxd"]
 MARK = "==== next example ===="
 # The folders that the set-up copies, and where a package has them.
 FOLDERS = ["samples", "bench", "scale", "scripts"]

@@ -1,7 +1,8 @@
 #!/usr/bin/env python3
 """Damages captures at random, and compares what salvage.py, tcpdump and editcap read of them.
 
-usage: check_salvage.py [--capkit PROGRAM] [--runs N] [--packets N] [--jobs N] [--seed N] [--keep FOLDER]
+usage: check_salvage.py [--capkit PROGRAM] [--runs N] [--packets N] [--jobs N] [--seed N] [--first N]
+                        [--pcapfix] [--show] [--keep FOLDER]
 
 A capture of PACKETS packets (10,000) is damaged RUNS times (100), in pcap of all four forms and
 pcapng in both byte orders in turn: cut short, a range cut out, bytes changed (half of them in
@@ -181,6 +182,7 @@ def counts(read, packets):
 
 
 def commands(capkit):
+    """The words that call each program, with IN and OUT for the files, and a PATH with capkit."""
     salvage = [sys.executable, str(ROOT / "scripts" / "salvage.py"), "-F", "nsecpcap", "IN", "OUT"]
     tcpdump = ["tcpdump", "-r", "IN", "--nano", "-w", "OUT"]
     if os.geteuid() == 0:
@@ -191,33 +193,44 @@ def commands(capkit):
     return dict(zip(PROGRAMS, [salvage, tcpdump, ["editcap", "-F", "nsecpcap", "IN", "OUT"], pcapfix])), path
 
 
+def run_all(source, folder, capkit):
+    """Runs the programs on a file: what each wrote, and what salvage.py said."""
+    lines, path = commands(pathlib.Path(capkit).resolve())
+    read, said = {}, ""
+    for name, words in lines.items():
+        out = folder / f"{name}.out"
+        words = [str({"IN": source, "OUT": out}.get(word, word)) for word in words]
+        done = subprocess.run(words, capture_output=True, env={**os.environ, "PATH": path})
+        read[name] = packets_of(out)
+        if name == "salvage.py":
+            said = (done.stdout + done.stderr).decode(errors="replace")
+    return read, said
+
+
+def faults_of(results):
+    """What salvage.py did worse than it should, by the counts of all programs."""
+    own, others = results["salvage.py"], [results[name] for name in ("tcpdump", "editcap")]
+    faults = ["a false packet"] * (own[2] > 0)
+    faults += ["fewer whole packets"] * any(own[0] < it[0] for it in others)
+    return faults + ["fewer packets"] * any(own[0] + own[1] < it[0] + it[1] for it in others)
+
+
 def try_one(number, given):
-    """Runs the programs on one damaged file."""
+    """Runs the programs on one damaged file, and returns what was done and what came of it."""
     data, packets, form, kind = damaged(number, given)
-    lines, path = commands(pathlib.Path(given.capkit).resolve())
-    results, done_by = {}, {}
     with tempfile.TemporaryDirectory() as temporary:
-        folder = pathlib.Path(temporary)
-        source = folder / "damaged"
+        source = pathlib.Path(temporary) / "damaged"
         source.write_bytes(data)
-        for name, words in lines.items():
-            out = folder / f"{name}.out"
-            words = [str({"IN": source, "OUT": out}.get(word, word)) for word in words]
-            done = subprocess.run(words, capture_output=True, env={**os.environ, "PATH": path})
-            done_by[name] = done
-            results[name] = counts(packets_of(out), packets)
-            if name == "salvage.py" and b"Traceback" in done.stderr:
-                print(done.stderr.decode(), file=sys.stderr)
-        own, others = results["salvage.py"], [results[name] for name in ("tcpdump", "editcap")]
-        faults = ["a false packet"] * (own[2] > 0)
-        faults += ["fewer whole packets"] * any(own[0] < it[0] for it in others)
-        faults += ["fewer packets"] * any(own[0] + own[1] < it[0] + it[1] for it in others)
-        if given.show and own[3]:
-            said = done_by["salvage.py"].stdout + done_by["salvage.py"].stderr
-            print(f"run {number}, {kind}, {form}: {own[3]} missed\n{said.decode()}", flush=True)
+        read, said = run_all(source, source.parent, given.capkit)
+        results = {name: counts(them, packets) for name, them in read.items()}
+        faults = faults_of(results)
         faults += ["its input changed"] * (source.read_bytes() != data)
+        faults += ["a traceback"] * ("Traceback" in said)
         if faults and given.keep:
             shutil.copy(source, pathlib.Path(given.keep) / f"{number}.{kind}")
+    missed = results["salvage.py"][3]
+    if given.show and missed:
+        print(f"run {number}, {kind}, {form}: {missed} missed\n{said}", flush=True)
     of_damaged = sum(is_damaged for _, is_damaged in packets)
     return number, kind, form, len(packets), of_damaged, results, faults
 
@@ -233,7 +246,7 @@ def made_packets(count, folder):
 
 def report(done):
     """Prints the sums of all runs of a kind of damage."""
-    sums = collections.defaultdict(lambda: collections.Counter())
+    sums = collections.defaultdict(collections.Counter)
     for _, kind, _, of_packets, of_damaged, results, _ in done:
         for key in (kind, "all"):
             sums[key].update(runs=1, packets=of_packets, damaged=of_damaged)
@@ -256,7 +269,7 @@ def main():
     parser.add_argument("--packets", type=int, default=10_000)
     parser.add_argument("--jobs", type=int, default=len(os.sched_getaffinity(0)))
     parser.add_argument("--seed", type=int, default=1)
-    parser.add_argument("--first", type=int, default=0)
+    parser.add_argument("--first", type=int, default=0, help="the number of the first run")
     parser.add_argument("--pcapfix", action="store_true")
     parser.add_argument("--keep", default=None)
     parser.add_argument("--show", action="store_true", help="runs in which undamaged packets are missed")

@@ -96,7 +96,7 @@ class Piece:
                 out.write(data[begin:end] if mended is None else mended)
 
     def drop(self, offset, file, why):
-        """Leaves out the unit at this offset of the capture, or puts an interface right."""
+        """Leaves out the unit at this offset of the capture, or puts it right."""
         start = len(self.header)
         for number, (begin, end, mended) in enumerate(self.parts):
             size = end - begin if mended is None else len(mended)
@@ -114,6 +114,18 @@ class Piece:
             start += size
 
 
+def likely_record(order, units):
+    """What finds places where a record's fraction of a second and captured length may be in range."""
+    if order == "<":
+        part = b"..[\0-\x0f]\0" if units == 10**6 else b"...[\0-\x3b]"
+        length = b"..[\0-\x04]\0"
+    else:
+        part = b"\0[\0-\x0f].." if units == 10**6 else b"[\0-\x3b]..."
+        length = b"\0[\0-\x04].."
+    # An original length of 0 isn't plausible: so holes of zeros are passed at once.
+    return re.compile(b"(?s)(?!.{12}\0{4})(?=...." + part + length + b"....)")
+
+
 class Records:
     """The records of pcap."""
 
@@ -125,13 +137,7 @@ class Records:
         self.near = None
         magic = next(magic for magic, form in FORMS.items() if form == (order, units))
         self.header = magic + struct.pack(order + "HHIIII", 2, 4, 0, 0, LONGEST, link)
-        top = b"\x0f" if units == 10**6 else b"\x3b"
-        part = b"..[\x00-" + top + b"]\x00" if units == 10**6 else b"...[\x00-" + top + b"]"
-        length = b"..[\x00-\x04]\x00"
-        if order == ">":
-            part = b"\x00[\x00-" + top + b"].." if units == 10**6 else b"[\x00-" + top + b"]..."
-            length = b"\x00[\x00-\x04].."
-        self.likely = re.compile(b"(?s)(?=...." + part + length + b"....)")
+        self.likely = likely_record(order, units)
 
     def end_of(self, at):
         """Where the record ends, or None where it has an impossible length."""
@@ -141,9 +147,11 @@ class Records:
         return at + 16 + captured if captured <= LONGEST and at + 16 + captured <= self.size else None
 
     def length_at(self, at):
+        """How long the record is."""
         return 16 + self.fields.unpack_from(self.data, at)[2]
 
     def plain(self, _at):
+        """A record that capkit reads in place of one that it refuses: there is none."""
         return b""
 
     def is_good(self, at, near, needs_data=False):
@@ -180,6 +188,19 @@ class Records:
             return is_near and part < self.units and original > 0
         return is_near or part < self.units or captured <= original
 
+    def is_timely(self, at):
+        """Whether a record's time is plausible."""
+        seconds, part = self.fields.unpack_from(self.data, at)[:2]
+        return part < self.units and (self.near is None or abs(seconds - self.near) <= NEAR)
+
+    def takes_in_header(self, end):
+        """Whether a record ends with a file header after which times are microseconds, where those
+        of this file are nanoseconds: else it would make no difference to what comes after."""
+        if self.units == 10**6 or FORMS.get(self.data[end - 24 : end - 20]) != (self.order, 10**6):
+            return False
+        start = reader_at(self.file, end - 24)
+        return start is not None and end < self.size and start[0].is_row(end, None)
+
     def end_by_original(self, at):
         """Where the record ends if its captured length is damaged, is above the original length, and
         a row comes after as many bytes as that says: else it would take in the next packets."""
@@ -189,15 +210,18 @@ class Records:
         is_less = 0 < original < captured and at + 16 + original < self.size
         return at + 16 + original if is_less and self.is_row(at + 16 + original, self.near) else None
 
-    def leads_on(self, at):
-        """Whether the records from a place on lead to a row of plausible ones or to the end."""
+    def leads_on(self, at, *near):
+        """Whether the records from a place on lead to the end or to a row of plausible ones, near one
+        of these times, or are themselves many in a row, with plausible times."""
+        are_timely = True
         for _ in range(HOPS):
-            if at == self.size or self.is_row(at, self.near) or self.is_row(at, None):
+            if at == self.size or any(self.is_row(at, it) for it in near):
                 return True
             if not self.can_pass(at):
                 return False
+            are_timely &= self.is_timely(at)
             at = self.end_of(at)
-        return False
+        return are_timely
 
     def next_row(self, at):
         """The next place from which a row is plausible, at a time near the last one if there is
@@ -228,6 +252,9 @@ class Records:
         while at < self.size:
             end = self.end_of(at)
             if end is not None and self.near is not None and self.is_good(at, self.near):
+                if self.takes_in_header(end):
+                    self.file.leave_out(at, end - 24)
+                    return end - 24
                 if end == self.size or self.is_good(end, self.near):
                     self.keep(at, end)
                     at = end
@@ -246,7 +273,15 @@ class Records:
         if shorter is not None:
             self.mend(at, end, shorter)
             return shorter, False
-        if end is not None and self.leads_on(at):
+        if end is not None and self.leads_on(at, self.near):
+            self.keep(at, end)
+            return end, False
+        # Times that go on elsewhere may be those of another capture, whose header this record takes in.
+        start = end and next_start(self.file, at + 1, end)
+        if start:
+            self.mend(at, end, start)
+            return start, True
+        if end is not None and self.leads_on(at, None):
             self.keep(at, end)
             return end, False
         place = self.next_row(at + 1)
@@ -510,8 +545,8 @@ def guessed_reader(file):
         file.leave_out(24, place)
         return reader, place
     size = struct.pack(reader.order + "I", 28)
-    reader.header = struct.pack(reader.order + "I", SECTION) + size + struct.pack(reader.order + "IHH", BYTE_ORDER, 1, 0)
-    reader.header += b"\xff" * 8 + size
+    version = struct.pack(reader.order + "IHH", BYTE_ORDER, 1, 0)
+    reader.header = struct.pack(reader.order + "I", SECTION) + size + version + b"\xff" * 8 + size
     file.note(0, "no section header that is known")
     file.leave_out(0, place)
     return reader, place
@@ -572,9 +607,9 @@ def main():
     given = parser.parse_args()
     if shutil.which("capkit") is None:
         sys.exit("salvage.py: capkit isn't in PATH")
-    if os.path.exists(given.OUT) and os.path.samefile(given.IN, given.OUT):
-        parser.error("IN and OUT are one file")
     try:
+        if os.path.exists(given.OUT) and os.path.samefile(given.IN, given.OUT):
+            parser.error("IN and OUT are one file")
         with open(given.IN, "rb") as held:
             if not os.fstat(held.fileno()).st_size:
                 raise Refused("a file of 0 bytes")
