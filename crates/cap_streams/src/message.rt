@@ -1,7 +1,8 @@
-//! Messages: no control character of a name reaches the terminal.
+//! Messages: no control character of a name reaches the terminal, and each is written by one call,
+//! so that those of runs side by side don't mix.
 
-use std::alloc::{AllocError, Global};
-use std::fmt;
+use std::alloc::{AllocError, Allocator, Global};
+use std::{fmt, io};
 
 /// Where clap's advice begins to pass a word behind `--`: it fails, since that word is no name of a
 /// file, and no range or part of an expression either.
@@ -43,7 +44,28 @@ pub fn refusal_text(alloc: Global, error: &clap::Error) -> Result<String, AllocE
     Ok(text)
 }
 
+/// Standard error, which takes a text of any length by one call.
+pub trait Errors: Eprint {
+    /// Writes the text by one call, as far as the system takes it whole.
+    fn write_text(&self, text: &str) -> io::Result<()>;
+}
+
+impl Errors for HostRuntime {
+    fn write_text(&self, text: &str) -> io::Result<()> {
+        self.stderr().write_all(text.as_bytes())
+    }
+}
+
+impl<R: Errors, A: Allocator> Errors for (R, A) {
+    fn write_text(&self, text: &str) -> io::Result<()> {
+        self.0.write_text(text)
+    }
+}
+
 /// Writes a message to standard error. One that can't be written is lost.
-pub fn tell(rt: &impl Eprint, message: impl fmt::Display + Drop) {
-    let _ = rt.eprintln(format_args!("capkit: {message}"));
+pub fn tell(rt: &(impl AllocGlobal + Errors), message: impl fmt::Display + Drop) {
+    let _ = match format!(in rt.alloc(); "capkit: {message}\n") {
+        Ok(line) => rt.write_text(&line),
+        Err(_) => rt.eprintln(format_args!("capkit: {message}")),
+    };
 }
