@@ -294,6 +294,7 @@ def bash_parts(program, commands):
     names = "".join(command.name + " " for command in commands)
     return {
         "@first": [f"        _capkit_offer '{names}{all_names(program.options)}' \"$word\""],
+        "@help": [f"    help) [ \"$COMP_CWORD\" != 2 ] || _capkit_offer '{names}' \"$word\" ;;"],
         "@commands": [line for command in commands for line in bash_command(command)],
     }
 
@@ -366,9 +367,16 @@ def fish_command(help):
 
 def fish_parts(program, commands):
     first = "__fish_use_subcommand"
+    names = " ".join(command.form for command in program.commands)
+    behind_help = f"'__fish_seen_subcommand_from help; and not __fish_seen_subcommand_from {names}'"
     options = [fish(first + fish_option(option), option.text) for option in program.options]
+
+    def offered(place):
+        return [fish(f"{place} -a {command.form}", command.text) for command in program.commands]
+
     return {
-        "@first": options + [fish(f"{first} -a {command.form}", command.text) for command in program.commands],
+        "@first": options + offered(first),
+        "@help": offered(behind_help),
         "@commands": [line for command in commands for line in fish_command(command)],
     }
 

@@ -17,6 +17,7 @@ _capkit() {
         return
     fi
     case ${COMP_WORDS[1]} in
+@help
 @commands
     esac
     case $word in

@@ -1,4 +1,5 @@
 # Completion of capkit for fish.
 complete -c capkit -f
 @first
+@help
 @commands

@@ -12,10 +12,12 @@ use crate::stop::Stop;
 use crate::streams::Created;
 use crate::{FAULT, USAGE};
 use cap_octet::StdOutput;
+use std::alloc::Global;
 use std::io::{self, ErrorKind, Write};
 
 /// Writes what is buffered, and tells the run's message and how its output ended.
 pub fn finish<'a, W: Write + Drop>(
+    alloc: Global,
     status: u8,
     target: StdOutput<Outlet<'_>>,
     messages: StdOutput<W>,
@@ -31,7 +33,8 @@ pub fn finish<'a, W: Write + Drop>(
     let flushed = settle(status, &mut target).err().map(|error| error.kind());
     let (messages, _) = messages.into_inner();
     let (mut errors, message) = messages.into_parts();
-    end(&mut errors, status, (cause, flushed), &message, output)
+    let causes = (cause, flushed);
+    end(alloc, &mut errors, status, causes, &message, output)
 }
 
 /// Whether it failed since the reader of a pipe went away.
@@ -73,10 +76,13 @@ fn message_line(message: &[u8]) -> Option<&str>
     }
 }
 
-/// Writes the message of a run, if there is one. One that can't be written is lost.
-fn tell_message<W: Write>(errors: &mut W, message: &[u8]) {
+/// Writes the message of a run, if there is one, by one call. One that can't be written is lost.
+fn tell_message<W: Write>(alloc: Global, errors: &mut W, message: &[u8]) {
     if let Some(text) = message_line(message) {
-        let _ = writeln!(errors, "{}", Shown { text });
+        let _ = match format!(in alloc; "{}\n", Shown { text }) {
+            Ok(line) => errors.write_all(line.as_bytes()),
+            Err(_) => writeln!(errors, "{}", Shown { text }),
+        };
     }
 }
 
@@ -101,6 +107,7 @@ fn status_by(status: u8, cause: Option<ErrorKind>, flushed: Option<ErrorKind>) -
 /// Where the reader of a pipe went away, as of `| head`, nobody hears that the rest can't be
 /// written.
 pub fn end<'a, W: Write>(
+    alloc: Global,
     errors: &mut W,
     status: u8,
     causes: (Option<ErrorKind>, Option<ErrorKind>),
@@ -113,7 +120,7 @@ pub fn end<'a, W: Write>(
 {
     let (cause, flushed) = causes;
     if !(is_unread(cause) || cause.is_some() && is_unread(flushed)) {
-        tell_message(errors, message);
+        tell_message(alloc, errors, message);
     }
     status_by(status, cause, flushed).ok_or(Stop::WriteFailed(output))
 }

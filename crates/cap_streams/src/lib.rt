@@ -5,6 +5,7 @@
 pub mod ending;
 pub mod files;
 pub mod held;
+mod hints;
 pub mod message;
 pub mod opening;
 pub mod overwrites;

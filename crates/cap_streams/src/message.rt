@@ -1,11 +1,22 @@
-//! Messages: no control character of a name reaches the terminal.
+//! Messages: no control character of a name reaches the terminal, and each is written by one call,
+//! so that those of runs side by side don't mix.
 
-use std::alloc::{AllocError, Global};
-use std::fmt;
+use crate::hints::{add_commands, hint_on};
+use std::alloc::{AllocError, Allocator, Global};
+use std::{fmt, io};
 
 /// Where clap's advice begins to pass a word behind `--`: it fails, since that word is no name of a
 /// file, and no range or part of an expression either.
 const VALUE_TIP: &str = "  tip: to pass '";
+
+/// What each line of clap's advice begins with.
+const TIP: &str = "  tip: ";
+
+/// What the line that names a command's words begins with.
+const USAGE_LINE: &str = "Usage: ";
+
+/// What the line begins with that names the commands and not what they do.
+const COMMAND_NAMES: &str = "  [subcommands: ";
 
 /// A text that is shown with the numbers of its control characters, as `\x1b`, which a terminal
 /// would obey.
@@ -27,23 +38,65 @@ impl fmt::Display for Shown<'_> {
     }
 }
 
-/// Why clap refuses the words, without advice that fails.
+/// Adds a line of why clap refuses the words, with the hint before the usage.
+fn add_line(
+    alloc: Global,
+    text: &mut String,
+    line: &str,
+    hint: Option<&str>,
+) -> Result<(), AllocError> {
+    if line.starts_with(COMMAND_NAMES) {
+        return add_commands(alloc, text);
+    }
+    if let Some(hint) = hint
+        && line.starts_with(USAGE_LINE)
+    {
+        writeln!(text, "{TIP}{hint}\n")?;
+    }
+    writeln!(text, "{}", Shown { text: line })
+}
+
+/// Why clap refuses the words, without advice that fails, with what does here what a habit of other
+/// tools asks for, and where there is no command with what each is for.
 pub fn refusal_text(alloc: Global, error: &clap::Error) -> Result<String, AllocError> {
     let told = format!(in alloc; "{error}")?;
+    let hint = hint_on(&told);
     let mut text = String::new(alloc);
     let mut is_after_blank = false;
     for line in told.lines() {
         let is_second_blank = is_after_blank && line.is_empty();
-        if is_second_blank || line.starts_with(VALUE_TIP) {
+        let is_worse = hint.is_some() && line.starts_with(TIP);
+        if is_second_blank || is_worse || line.starts_with(VALUE_TIP) {
             continue;
         }
         is_after_blank = line.is_empty();
-        writeln!(text, "{}", Shown { text: line })?;
+        add_line(alloc, &mut text, line, hint)?;
     }
     Ok(text)
 }
 
+/// Standard error, which takes a text of any length by one call.
+pub trait Errors: Eprint {
+    /// Writes the text by one call, as far as the system takes it whole.
+    fn write_text(&self, text: &str) -> io::Result<()>;
+}
+
+impl Errors for HostRuntime {
+    fn write_text(&self, text: &str) -> io::Result<()> {
+        self.stderr().write_all(text.as_bytes())
+    }
+}
+
+impl<R: Errors, A: Allocator> Errors for (R, A) {
+    fn write_text(&self, text: &str) -> io::Result<()> {
+        self.0.write_text(text)
+    }
+}
+
 /// Writes a message to standard error. One that can't be written is lost.
-pub fn tell(rt: &impl Eprint, message: impl fmt::Display + Drop) {
-    let _ = rt.eprintln(format_args!("capkit: {message}"));
+pub fn tell(rt: &(impl AllocGlobal + Errors), message: impl fmt::Display + Drop) {
+    let _ = match format!(in rt.alloc(); "capkit: {message}\n") {
+        Ok(line) => rt.write_text(&line),
+        Err(_) => rt.eprintln(format_args!("capkit: {message}")),
+    };
 }

@@ -2,7 +2,7 @@
 ghost use Rattle.std.specs.Prelude.{◌≡◌, Bool};
 ghost use Rattle.cap_streams.specs.Status.{status_of};
 
-use crate::message::{refusal_text, tell};
+use crate::message::{Errors, refusal_text, tell};
 use crate::stop::Stop;
 use crate::{FAULT, USAGE};
 use capkit::{STANDARD, Usage};
@@ -11,7 +11,7 @@ use std::io::ErrorKind;
 /// Prints what the user asked to know of the command line, and returns whether it could be written.
 ///
 /// Where the reader of a pipe went away nobody hears that it can't.
-fn print_answer(rt: &(impl Print + Eprint), answer: &clap::Error) -> bool {
+fn print_answer(rt: &(impl AllocGlobal + Print + Errors), answer: &clap::Error) -> bool {
     match answer.print(rt) {
         Ok(()) => true,
         Err(error) => {
@@ -24,16 +24,16 @@ fn print_answer(rt: &(impl Print + Eprint), answer: &clap::Error) -> bool {
 }
 
 /// Reports why clap refuses the words.
-pub fn tell_refusal(rt: &(impl AllocGlobal + Print + Eprint), error: &clap::Error) {
+pub fn tell_refusal(rt: &(impl AllocGlobal + Print + Errors), error: &clap::Error) {
     let _ = match refusal_text(rt.alloc(), error) {
-        Ok(text) => rt.eprint(text.as_str()),
+        Ok(text) => rt.write_text(&text),
         Err(_) => error.print(rt),
     };
 }
 
 /// Reports why words are no command line, or prints what the user asked to know of it, and returns
 /// whether such an answer could be written.
-fn tell_usage(rt: &(impl AllocGlobal + Print + Eprint), usage: &Usage) -> bool {
+fn tell_usage(rt: &(impl AllocGlobal + Print + Errors), usage: &Usage) -> bool {
     match usage {
         Usage::Refused(error) if error.use_stderr() => tell_refusal(rt, error),
         Usage::Refused(answer) => return print_answer(rt, answer),
@@ -57,7 +57,7 @@ fn status_of(usage: &Usage, is_written: bool) -> u8
 
 /// Reports why words are no command line, or what the user asked to know of it, and returns the
 /// status.
-pub fn refuse(rt: &(impl AllocGlobal + Print + Eprint), usage: Usage) -> u8
+pub fn refuse(rt: &(impl AllocGlobal + Print + Errors), usage: Usage) -> u8
     ensures { (is_written : Bool) × (result ≡ status_of usage is_written) }
 {
     let is_written = tell_usage(rt, &usage);

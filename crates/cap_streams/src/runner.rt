@@ -64,7 +64,7 @@ fn run_over<J: Engine>(
     } = devices;
     let (status, target, messages) = J::run(rt.alloc(), command, names, inputs, out, messages);
     progress.erase(rt);
-    match finish(status, target, messages, output) {
+    match finish(rt.alloc(), status, target, messages, output) {
         Ok(status) => status,
         Err(stop) => stopped(rt, stop),
     }

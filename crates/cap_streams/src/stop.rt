@@ -2,7 +2,7 @@
 ghost use Rattle.std.specs.Prelude.{◌≡◌};
 
 use crate::FAULT;
-use crate::message::{Shown, tell};
+use crate::message::{Errors, Shown, tell};
 use std::alloc::{AllocError, AllocFailed};
 use std::fmt;
 
@@ -43,7 +43,7 @@ impl<T: Drop> From<AllocFailed<T>> for Stop<'_> {
 }
 
 /// Reports the stop, and returns its status.
-pub fn stopped(rt: &impl Eprint, stop: Stop<'_>) -> u8
+pub fn stopped(rt: &(impl AllocGlobal + Errors), stop: Stop<'_>) -> u8
     ensures { result ≡ 1 }
 {
     tell(rt, stop);

@@ -40,7 +40,7 @@ fn makes_last_write(rt: &HostRuntime, status: u8) -> io::Result<bool>
     let is_buffered = matches!(target.write(b"a"), Ok(1));
     let is_written = is_full(settle(status, &mut target).err());
     let (out, err) = (StdOutput::new(target), StdOutput::new(messages));
-    let ended = finish(status, out, err, "out");
+    let ended = finish(rt.alloc(), status, out, err, "out");
     Ok(is_buffered && is_written && matches!(ended, Err(Stop::WriteFailed("out"))))
 }
 

@@ -1,24 +1,53 @@
 //! Standard streams that keep what is written to them.
 
+use cap_streams::message::Errors;
 use std::alloc::Global;
 use std::cell::RefCell;
 use std::fmt::Display;
 use std::io::{self, Error, ErrorKind, Write};
 
+/// What is written, and by how many calls.
+#[derive(Drop)]
+pub struct Written {
+    pub bytes: Vec<u8>,
+    pub calls: usize,
+}
+
+impl Written {
+    /// Nothing yet.
+    pub fn new(alloc: Global) -> Written {
+        Written {
+            bytes: Vec::new(alloc),
+            calls: 0,
+        }
+    }
+}
+
+impl Write for Written {
+    fn write(&mut self, buf: &[u8]) -> io::Result<usize> {
+        self.calls = self.calls.saturating_add(1);
+        self.bytes.write(buf)
+    }
+
+    fn flush(&mut self) -> io::Result<()> {
+        Ok(())
+    }
+}
+
 /// Standard streams that keep what is written to them. Standard output fails so, if at all.
 #[derive(Drop)]
 pub struct Streams {
     failure: Option<ErrorKind>,
-    output: RefCell<Vec<u8>>,
-    errors: RefCell<Vec<u8>>,
+    output: RefCell<Written>,
+    errors: RefCell<Written>,
 }
 
 impl Streams {
     pub fn new(alloc: Global, failure: Option<ErrorKind>) -> Streams {
         Streams {
             failure,
-            output: RefCell::new(Vec::new(alloc)),
-            errors: RefCell::new(Vec::new(alloc)),
+            output: RefCell::new(Written::new(alloc)),
+            errors: RefCell::new(Written::new(alloc)),
         }
     }
 
@@ -26,18 +55,23 @@ impl Streams {
     pub fn have(&self, output: &str, errors: &str) -> bool {
         holds(&self.output, output) && holds(&self.errors, errors)
     }
+
+    /// Whether so many calls wrote to standard error.
+    pub fn have_calls(&self, calls: usize) -> bool {
+        matches!(self.errors.try_borrow(), Ok(errors) if errors.calls == calls)
+    }
 }
 
 /// Whether this is all that was written to the stream.
-fn holds(stream: &RefCell<Vec<u8>>, text: &str) -> bool {
+fn holds(stream: &RefCell<Written>, text: &str) -> bool {
     match stream.try_borrow() {
-        Ok(written) => written.as_slice() == text.as_bytes(),
+        Ok(written) => written.bytes.as_slice() == text.as_bytes(),
         Err(_) => false,
     }
 }
 
 /// Writes the value to the stream, and then `end`.
-fn append(stream: &RefCell<Vec<u8>>, value: impl Display + Drop, end: &str) -> io::Result<()> {
+fn append(stream: &RefCell<Written>, value: impl Display + Drop, end: &str) -> io::Result<()> {
     match stream.try_borrow_mut() {
         Ok(mut written) => write!(*written, "{value}{end}"),
         Err(_) => Err(Error::from(ErrorKind::Other)),
@@ -70,5 +104,14 @@ impl Eprint for Streams {
 
     fn eprintln<D: Display + Drop>(&self, value: D) -> io::Result<()> {
         append(&self.errors, value, "\n")
+    }
+}
+
+impl Errors for Streams {
+    fn write_text(&self, text: &str) -> io::Result<()> {
+        match self.errors.try_borrow_mut() {
+            Ok(mut written) => written.write_all(text.as_bytes()),
+            Err(_) => Err(Error::from(ErrorKind::Other)),
+        }
     }
 }

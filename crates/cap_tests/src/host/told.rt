@@ -1,7 +1,7 @@
 //! What is told to a user, and how.
 
 use super::folder::words_of;
-use super::streams::Streams;
+use super::streams::{Streams, Written};
 use cap_streams::ending::end;
 use cap_streams::message::{Shown, refusal_text};
 use cap_streams::refusal::{refuse, tell_refusal};
@@ -34,12 +34,14 @@ const ENDINGS: [Ending; 6] = [
     ((None, FULL), None, TOLD),
 ];
 
-/// Whether a run ends as the row says.
+/// Whether a run ends as the row says, and its message is one call.
 fn is_ended(alloc: Global, row: Ending) -> bool {
     let (causes, status, told) = row;
-    let mut errors = Vec::new(alloc);
-    let ended = end(&mut errors, 0, causes, b"capkit: a\x1b: truncated\n", "out");
-    ended.ok() == status && errors.as_slice() == told.as_bytes()
+    let mut errors = Written::new(alloc);
+    let message = b"capkit: a\x1b: truncated\n";
+    let ended = end(alloc, &mut errors, 0, causes, message, "out");
+    let is_told = errors.bytes.as_slice() == told.as_bytes();
+    ended.ok() == status && is_told && errors.calls == usize::from(!told.is_empty())
 }
 
 /// The message of a run is told, but where its reader went away, with the numbers of its control
@@ -88,7 +90,7 @@ fn is_refused(alloc: Global, words: &str, has_tip: bool) -> bool {
     match refusal_text(alloc, &error) {
         Ok(text) => {
             let is_text = text.starts_with("error: ") && text.contains("tip: ") == has_tip;
-            is_text && streams.0.have("", &text)
+            is_text && streams.0.have("", &text) && streams.0.have_calls(1)
         }
         Err(_) => false,
     }
@@ -124,17 +126,18 @@ fn is_answered(
     Some(is_status && streams.0.have(output, errors))
 }
 
-/// Whether each fault is reported to standard error, with its status.
+/// Whether each fault is reported to standard error by one call, with its status.
 fn are_faults_told(alloc: Global) -> bool {
     let streams = (Streams::new(alloc, None), alloc);
     let are_statuses = refuse(&streams, Usage::BadRange) == 2
         && refuse(&streams, Usage::Memory) == 1
         && stopped(&streams, Stop::CannotOpen("in")) == 1;
     let errors = "capkit: usage: bad range\ncapkit: no memory\ncapkit: in: cannot open\n";
-    are_statuses && streams.0.have("", errors)
+    are_statuses && streams.0.have("", errors) && streams.0.have_calls(3)
 }
 
-/// What a user asks for goes to standard output, and all else to standard error. An answer that
+/// What a user asks for goes to standard output, and all else to standard error, each message by one
+/// call. An answer that
 /// can't be written is a fault, which is told but where its reader went away.
 #[test]
 fn faults_and_answers_are_told(rt: HostRuntime) {

@@ -1,0 +1,79 @@
+//! What a refusal of clap doesn't tell: what does here what a habit of other tools asks for, and
+//! what the commands are for.
+
+use capkit::command_of;
+use std::alloc::{AllocError, Global};
+
+/// What clap's refusal of an option that it doesn't know begins with.
+const UNKNOWN: &str = "error: unexpected argument '";
+
+/// What stands before the name of the command whose usage is told.
+const USAGE_OF: &str = "\nUsage: capkit ";
+
+/// The head of the list of commands in the help of the program.
+const COMMANDS: &str = "\nCommands:\n";
+
+/// A word that is a number with a dash before it, of which clap tells the first digit.
+const NEGATIVE: &str = "-N";
+
+/// Options of other tools: the command, the option, and what does the same here.
+const HINTS: [(&str, &str, &str); 9] = [
+    ("edit", "-t", "see --later, --earlier"),
+    ("edit", "-C", "see --chop-start, --chop-end"),
+    ("edit", "--chop", "see --chop-start, --chop-end"),
+    ("edit", "-c", "split by -r and ranges: 1-100, 101-200"),
+    ("edit", "-d", "see -D"),
+    (
+        "edit",
+        NEGATIVE,
+        "for --later -5 write --earlier 5; a range is 1-5",
+    ),
+    ("print", "-r", "the file is named without -r"),
+    ("print", "-n", "names are never looked up"),
+    ("print", "-X", "see -x"),
+];
+
+/// Whether clap tells the option of that name.
+fn is_named(option: &str, name: &str) -> bool {
+    let is_negative = matches!(option.as_bytes(), [b'-', b'0'..=b'9']);
+    option == name || is_negative && name == NEGATIVE
+}
+
+/// What is to be told of an option that a command doesn't know.
+fn hint_of(command: &str, option: &str) -> Option<&'static str> {
+    for (place, name, hint) in HINTS {
+        if place == command && is_named(option, name) {
+            return Some(hint);
+        }
+    }
+    None
+}
+
+/// What is to be told beside a refusal with this text.
+pub(crate) fn hint_on(refusal: &str) -> Option<&'static str> {
+    let (option, behind) = refusal.strip_prefix(UNKNOWN)?.split_once("'")?;
+    let (_, usage) = behind.split_once(USAGE_OF)?;
+    let (command, _) = usage.split_once(" ")?;
+    hint_of(command, option)
+}
+
+/// The help of the program.
+fn help_text(alloc: Global) -> Result<String, AllocError> {
+    let mut words = Vec::new(alloc);
+    words.push(String::from_str(alloc, "--help")?)?;
+    match command_of(alloc, words) {
+        Ok(_) => Ok(String::new(alloc)),
+        Err(usage) => format!(in alloc; "{usage}"),
+    }
+}
+
+/// Adds the list of the commands with what they do, as the help of the program has it.
+pub(crate) fn add_commands(alloc: Global, text: &mut String) -> Result<(), AllocError> {
+    let help = help_text(alloc)?;
+    if let Some((_, list)) = help.split_once(COMMANDS)
+        && let Some((list, _)) = list.split_once("\n\n")
+    {
+        write!(text, "{COMMANDS}{list}\n")?;
+    }
+    Ok(())
+}
