@@ -38,6 +38,31 @@ impl fmt::Display for Shown<'_> {
     }
 }
 
+/// Bytes that are shown as text, with the numbers of control characters, and of bytes that aren't
+/// UTF-8, as `\xe9`.
+#[derive(Drop)]
+pub struct ShownBytes<'a> {
+    pub bytes: &'a [u8],
+}
+
+impl fmt::Display for ShownBytes<'_> {
+    fn fmt<W: fmt::Write>(&self, f: &mut fmt::Formatter<W>) -> fmt::Result {
+        for chunk in self.bytes.utf8_chunks() {
+            write!(
+                f,
+                "{}",
+                Shown {
+                    text: chunk.valid()
+                }
+            )?;
+            for byte in chunk.invalid() {
+                write!(f, "\\x{byte:02x}")?;
+            }
+        }
+        Ok(())
+    }
+}
+
 /// Adds a line of why clap refuses the words, with the hint before the usage.
 fn add_line(
     alloc: Global,

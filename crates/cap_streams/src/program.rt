@@ -1,19 +1,55 @@
 //! What the program does with the words that it is given.
-ghost use Rattle.std.specs.Prelude.{◌≡◌, ◌≤◌, Bool, IfErr, IfOk, true};
+ghost use Rattle.std.specs.Prelude.{◌≡◌, ◌≤◌, Bool, IfErr, IfOk, IfSome, length, true};
 ghost use Rattle.std.specs.Result.{ForOk};
 ghost use Rattle.capkit.specs.Line.{is_ready};
 ghost use Rattle.cap_streams.specs.Status.{status_of};
 
 use crate::USAGE;
-use crate::message::tell;
+use crate::message::{ShownBytes, tell};
 use crate::refusal::refuse;
 use crate::runner::run;
 use crate::words::line_of;
 use cap_command::Engine;
 use capkit::{Line, Usage};
 use std::alloc::AllocError;
-use std::env;
+use std::env::{self, Env, FillError};
 use std::io::ErrorKind;
+
+/// The bytes of a word that isn't UTF-8 which a message has at most, as of a name.
+const SHOWN_BYTES: usize = 4096;
+
+/// Copies the first word that isn't UTF-8, and returns its length. None where the buffer holds none
+/// of them.
+pub fn foreign_word(rt: &impl Env, buf: &mut [u8]) -> Option<usize>
+    ensures { IfSome result (λ count. count ≤ length buf.new) }
+{
+    for place in 0..usize::MAX {
+        match rt.arg(place, buf) {
+            Ok(count) if str::from_utf8(&buf[..count]).is_err() => return Some(count),
+            Ok(_) | Err(FillError::TooLong) => {}
+            Err(FillError::NotPresent) => return None,
+        }
+    }
+    None
+}
+
+/// Reports which word isn't UTF-8, and returns the status.
+fn refuse_foreign(rt: &HostRuntime) -> u8
+    ensures { result ≡ 2 }
+{
+    let mut buf = [0u8; SHOWN_BYTES];
+    match foreign_word(rt, &mut buf) {
+        Some(count) => {
+            let bytes = &buf[..count];
+            tell(
+                rt,
+                format_args!("usage: not UTF-8: {}", ShownBytes { bytes }),
+            );
+        }
+        None => tell(rt, "usage: not UTF-8"),
+    }
+    USAGE
+}
 
 /// Does what the words after the program's name ask for, by this engine, and returns the status.
 pub fn status<J: Engine>(rt: &HostRuntime) -> u8
@@ -21,10 +57,7 @@ pub fn status<J: Engine>(rt: &HostRuntime) -> u8
 {
     let words = match env::args(rt) {
         Ok(words) => words.skip(1).collect(rt.alloc()),
-        Err(error) if error.kind() == ErrorKind::InvalidData => {
-            tell(rt, "usage: not UTF-8");
-            return USAGE;
-        }
+        Err(error) if error.kind() == ErrorKind::InvalidData => return refuse_foreign(rt),
         Err(_) => Err(AllocError),
     };
     let Ok(words) = words else {

@@ -55,6 +55,33 @@ fn is_drawable(rt: &HostRuntime) -> bool {
     )
 }
 
+/// What the system tells of the process.
+const STATUS: &str = "/proc/self/stat";
+
+/// Whether a process is in the foreground of its terminal, by what the system tells of it: fields,
+/// of which the second is a name in parentheses, the fifth the group of the process, and the eighth
+/// the group that has the terminal. True where there are no such fields.
+///
+/// The name may hold blanks and parentheses.
+pub fn is_in_foreground(status: &str) -> bool {
+    let Some((_, fields)) = status.rsplit_once(')') else {
+        return true;
+    };
+    let mut fields = fields.split_whitespace();
+    match (fields.nth(2), fields.nth(2)) {
+        (Some(group), Some(foreground)) => group == foreground,
+        _ => true,
+    }
+}
+
+/// Whether this process is in the foreground of its terminal, or can't tell.
+fn has_terminal(rt: &HostRuntime) -> bool {
+    match fs::read_to_string(rt, STATUS) {
+        Ok(status) => is_in_foreground(&status),
+        Err(_) => true,
+    }
+}
+
 /// Counts the bytes that the inputs of a job read.
 #[derive(Drop)]
 pub struct Progress<'a> {
@@ -103,29 +130,41 @@ impl<'a> Progress<'a> {
         self.start.is_some()
     }
 
-    /// Counts bytes that were read, and shows progress on standard error.
+    /// Counts bytes that were read, and shows progress on standard error, but from the background,
+    /// where the line could meet what is typed.
     fn count(&self, bytes: usize) {
         if let Some(start) = self.start {
             let elapsed = start.elapsed(self.rt);
             // Where the clock can't be read, nothing is shown.
             let seconds = elapsed.map_or(0, |elapsed| elapsed.as_secs());
-            self.count_at(self.rt, bytes, seconds);
+            if self.is_due(bytes, seconds) && has_terminal(self.rt) {
+                self.show(self.rt, seconds);
+            }
         }
     }
 
     /// Counts bytes that were read by that second, and shows progress once a second.
     pub fn count_at(&self, terminal: &impl Eprint, bytes: usize, seconds: u64) {
-        let read = self.read.get().saturating_add(bytes as u64);
-        self.read.set(read);
-        if seconds >= self.next.get() {
-            self.next.set(seconds.saturating_add(1));
-            self.show(terminal, read, seconds);
+        if self.is_due(bytes, seconds) {
+            self.show(terminal, seconds);
         }
     }
 
+    /// Counts bytes that were read by that second, and says once a second that progress is to be
+    /// shown.
+    fn is_due(&self, bytes: usize, seconds: u64) -> bool {
+        self.read.set(self.read.get().saturating_add(bytes as u64));
+        let is_due = seconds >= self.next.get();
+        if is_due {
+            self.next.set(seconds.saturating_add(1));
+        }
+        is_due
+    }
+
     /// Writes the line, over the one that stands there.
-    fn show(&self, terminal: &impl Eprint, read: u64, seconds: u64) {
+    fn show(&self, terminal: &impl Eprint, seconds: u64) {
         self.is_shown.set(true);
+        let read = self.read.get();
         let mib = read / MIB;
         let rate = mib / seconds.max(1);
         let _ = match self.share(read) {
@@ -141,6 +180,15 @@ impl<'a> Progress<'a> {
         }
         let share = u128::from(read) * 100 / u128::from(self.total);
         Some(share.min(100))
+    }
+
+    /// Erases the line at the end of a job, if one stands there; but not from the background, where
+    /// that would erase what is typed.
+    pub fn end(&self) {
+        if self.is_shown.get() && !has_terminal(self.rt) {
+            self.is_shown.set(false);
+        }
+        self.erase(self.rt);
     }
 
     /// Erases the line, if one stands there.

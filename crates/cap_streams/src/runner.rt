@@ -63,7 +63,7 @@ fn run_over<J: Engine>(
         messages,
     } = devices;
     let (status, target, messages) = J::run(rt.alloc(), command, names, inputs, out, messages);
-    progress.erase(rt);
+    progress.end();
     match finish(rt.alloc(), status, target, messages, output) {
         Ok(status) => status,
         Err(stop) => stopped(rt, stop),

@@ -3,7 +3,7 @@
 use super::folder::{CAPTURE, LISTING, enter, leave, line_of, words_of};
 use super::streams::Streams;
 use cap_streams::held::{Held, Outlet};
-use cap_streams::progress::{Progress, can_write_over, start_of, total_size};
+use cap_streams::progress::{Progress, can_write_over, is_in_foreground, start_of, total_size};
 use cap_streams::runner::run_command;
 use cap_tools::Jobs;
 use capkit::Line;
@@ -73,6 +73,26 @@ const TERMINALS: [(bool, Option<&str>, bool); 4] = [
     (true, Some("dumb"), false),
     (false, Some("xterm"), false),
 ];
+
+/// What the system tells of a process, and whether that is in the foreground of its terminal.
+const STATUSES: [(&str, bool); 8] = [
+    ("7 (capkit) R 6 7 6 34816 7 4194304 96", true),
+    ("7 (capkit) R 6 7 6 34816 6 4194304 96", false),
+    ("7 (capkit) R 6 7 6 0 -1 4194304 96", false),
+    ("7 (a) b) R 6 7 6 34816 7 0", true),
+    ("7 () R 1 2 3 4 2 (a) R 6 7 6 34816 9 0", false),
+    ("7 (capkit) R 6 7 6 34816", true),
+    ("7 (capkit", true),
+    ("", true),
+];
+
+/// A process is in the foreground where its group has the terminal, whatever its name is.
+#[test]
+fn the_foreground_is_known(rt: HostRuntime) {
+    for (status, wanted) in STATUSES {
+        assert!(rt; is_in_foreground(status) == wanted, "{status}");
+    }
+}
 
 /// Progress is shown on a terminal that can be written over, where the output is a file, be it a
 /// new one. The size of all inputs is known if they are plain files.

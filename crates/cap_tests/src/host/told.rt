@@ -3,7 +3,7 @@
 use super::folder::words_of;
 use super::streams::{Streams, Written};
 use cap_streams::ending::end;
-use cap_streams::message::{Shown, refusal_text};
+use cap_streams::message::{Shown, ShownBytes, refusal_text};
 use cap_streams::refusal::{refuse, tell_refusal};
 use cap_streams::stop::{Stop, stopped};
 use cap_streams::words::with_help_option;
@@ -74,6 +74,29 @@ fn control_characters_are_shown(rt: HostRuntime) {
     }
 }
 
+/// Bytes, and how they are shown.
+const SHOWN_BYTES: [(&[u8], &str); 5] = [
+    (b"caf\xe9", "caf\\xe9"),
+    (b"caf\xc3\xa9 1", "caf\u{e9} 1"),
+    (b"\xe2\x82a\xff", "\\xe2\\x82a\\xff"),
+    (b"\x1b[31m\xe9\n", "\\x1b[31m\\xe9\\x0a"),
+    (b"", ""),
+];
+
+/// Whether bytes are shown so.
+fn are_shown_as(alloc: Global, bytes: &[u8], wanted: &str) -> bool {
+    let shown = format!(in alloc; "{}", ShownBytes { bytes });
+    matches!(shown, Ok(shown) if shown.as_str() == wanted)
+}
+
+/// Bytes that aren't UTF-8 are shown by their numbers too.
+#[test]
+fn bytes_of_no_text_are_shown(rt: HostRuntime) {
+    for (bytes, wanted) in SHOWN_BYTES {
+        assert!(rt; are_shown_as(rt.alloc(), bytes, wanted), "{wanted}");
+    }
+}
+
 /// Why the words are no line. None where they are one, or memory ran out.
 fn usage_of(alloc: Global, words: &str) -> Option<Usage> {
     let words = words_of(alloc, words).ok()?;
@@ -99,8 +122,81 @@ fn is_refused(alloc: Global, words: &str, has_tip: bool) -> bool {
 /// Advice that can be followed stays.
 #[test]
 fn advice_that_fails_is_left_out(rt: HostRuntime) {
-    assert!(rt; is_refused(rt.alloc(), "print -r in", false));
+    assert!(rt; is_refused(rt.alloc(), "print -q in", false));
     assert!(rt; is_refused(rt.alloc(), "edit --latter 5 in out", true));
+}
+
+/// Words of other tools, the option of them that clap doesn't know, and what does the same here.
+const HABITS: [(&str, &str, &str); 10] = [
+    ("edit -t 3600 in out", "-t", "see --later, --earlier"),
+    ("edit in out -t3600", "-t", "see --later, --earlier"),
+    ("edit -C 14 in out", "-C", "see --chop-start, --chop-end"),
+    (
+        "edit --chop 3 in out",
+        "--chop",
+        "see --chop-start, --chop-end",
+    ),
+    (
+        "edit -c 100 in out",
+        "-c",
+        "split by -r and ranges: 1-100, 101-200",
+    ),
+    ("edit -d in out", "-d", "see -D"),
+    (
+        "edit --later -5 in out",
+        "-5",
+        "for --later -5 write --earlier 5; a range is 1-5",
+    ),
+    ("print -r in", "-r", "the file is named without -r"),
+    ("print -nr in", "-n", "names are never looked up"),
+    ("print -X in", "-X", "see -x"),
+];
+
+/// Whether the refusal of these words begins so and has no other tip.
+fn is_refused_so(alloc: Global, words: &str, wanted: &str) -> bool {
+    let Some(Usage::Refused(error)) = usage_of(alloc, words) else {
+        return false;
+    };
+    match refusal_text(alloc, &error) {
+        Ok(text) => match text.strip_prefix(wanted) {
+            Some(rest) => !rest.contains("tip: "),
+            None => false,
+        },
+        Err(_) => false,
+    }
+}
+
+/// Whether what does the same here is told of an option that clap doesn't know.
+fn is_hinted(alloc: Global, words: &str, option: &str, hint: &str) -> bool {
+    let (command, _) = words.split_once(" ").unwrap_or((words, ""));
+    let wanted = format!(in alloc;
+        "error: unexpected argument '{option}' found\n\n  tip: {hint}\n\nUsage: capkit {command} "
+    );
+    matches!(wanted, Ok(wanted) if is_refused_so(alloc, words, &wanted))
+}
+
+/// The beginning of what is told where no command is named.
+const NO_COMMAND: &str = "error: 'capkit' requires a subcommand but one was not provided
+
+Commands:
+  edit     Select packets of a capture, change them, and leave out duplicates
+  merge    Write the packets of captures as one capture, by time
+  infos    Write a report on each capture
+  print    Print or write the packets that match an expression or a listing
+  compile  Write the listing of a program that an expression compiles to
+
+Usage: capkit <COMMAND>
+";
+
+/// A habit of other tools is told what does the same here, and who names no command what each is
+/// for.
+#[test]
+fn habits_are_hinted_at(rt: HostRuntime) {
+    for (words, option, hint) in HABITS {
+        assert!(rt; is_hinted(rt.alloc(), words, option, hint), "{words}");
+    }
+    assert!(rt; is_refused_so(rt.alloc(), "--", NO_COMMAND));
+    assert!(rt; is_refused(rt.alloc(), "merge -t in", false));
 }
 
 /// How standard output fails, if it does, the status of a request for the version, and what is
