@@ -9,6 +9,7 @@ there must be no such file. A case on a terminal is a line over an input that ta
 whether progress must be shown there.
 """
 import argparse
+import fcntl
 import os
 import pathlib
 import pty
@@ -16,6 +17,7 @@ import shutil
 import subprocess
 import sys
 import tempfile
+import termios
 
 from check_examples import ROOT, built_program
 
@@ -87,6 +89,7 @@ TERMINAL_CASES = [
     (f"{SLOW} capkit edit - - > out", "xterm", False),
     (f"{SLOW} capkit print - | wc -l > out", "xterm", False),
     (f"{SLOW} capkit edit - /dev/null", "xterm", False),
+    (f"set -m; {SLOW} capkit edit - out & set +m; wait", "xterm", False),
 ]
 
 
@@ -99,13 +102,14 @@ def folder_of(here, program):
 
 
 def differences_on_terminal(program, line, name, is_shown):
-    """What differs on a terminal of that name, which is the line's standard error."""
+    """What differs on a terminal of that name, which is the line's standard error and its controlling terminal."""
     with tempfile.TemporaryDirectory() as folder:
         here = pathlib.Path(folder)
         variables = folder_of(here, program)
         ours, theirs = pty.openpty()
         run = subprocess.run(["bash", "-c", line], cwd=here, env={**variables, "TERM": name}, stderr=theirs,
-                             stdout=subprocess.DEVNULL, stdin=subprocess.DEVNULL, timeout=60)
+                             stdout=subprocess.DEVNULL, stdin=subprocess.DEVNULL, timeout=60, start_new_session=True,
+                             preexec_fn=lambda: fcntl.ioctl(theirs, termios.TIOCSCTTY, 0))
         os.set_blocking(ours, False)
         try:
             shown = os.read(ours, 65536)
