@@ -233,8 +233,7 @@ fn are_faults_told(alloc: Global) -> bool {
 }
 
 /// What a user asks for goes to standard output, and all else to standard error, each message by one
-/// call. An answer that
-/// can't be written is a fault, which is told but where its reader went away.
+/// call. An answer that can't be written is a fault, which is told but where its reader went away.
 #[test]
 fn faults_and_answers_are_told(rt: HostRuntime) {
     for (failure, status, errors) in ANSWERS {
