@@ -149,16 +149,19 @@ pub const WORKS: &[Work] = &[
     },
 ];
 
+/// These bytes, one after another.
+fn joined(alloc: Global, parts: &[&[u8]]) -> Result<Vec<u8>, AllocError> {
+    let mut bytes = Vec::new(alloc);
+    for part in parts {
+        bytes.extend_from_slice(part)?;
+    }
+    Ok(bytes)
+}
+
 /// The two files of a work.
 pub fn files_of(alloc: Global, work: &Work) -> Result<[Vec<u8>; 2], AllocError> {
-    let (mut first, mut second) = (Vec::new(alloc), Vec::new(alloc));
-    for part in work.files[0] {
-        first.extend_from_slice(part)?;
-    }
-    for part in work.files[1] {
-        second.extend_from_slice(part)?;
-    }
-    Ok([first, second])
+    let [first, second] = work.files;
+    Ok([joined(alloc, first)?, joined(alloc, second)?])
 }
 
 /// The command of a task.
