@@ -34,7 +34,7 @@ KINDS = {
     "refused by a limit": r"only by a limit",
     "refused by a name that went": r"names what the edit took away|is not in scope|has no field",
     "refused by an answer that no longer fits": r"expected answers|proofs/\S+:\d+:\d+: error",
-    "refused by a goal": r"not proved that|did not prove|\b(requires|ensures)\b",
+    "refused by a goal": r"not proved that|did not prove|found no proof|\b(requires|ensures)\b",
     "refused by something else": r"refused, as it must be",
 }
 
