@@ -1,4 +1,5 @@
 -- The definitions that contracts cite.
+pub mod Answer
 pub mod Check
 pub mod Content
 pub mod Flow

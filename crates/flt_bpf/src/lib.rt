@@ -14,10 +14,12 @@ mod machine;
 pub mod operation;
 pub mod program;
 mod reading;
+pub mod wide;
 mod writing;
 
 pub use fault::{CheckFault, ListingFault};
 pub use insn::Insn;
 pub use program::{Program, check, check_insns, run, run_any, run_insns};
 pub use reading::read_listing;
+pub use wide::Wide;
 pub use writing::write_listing;

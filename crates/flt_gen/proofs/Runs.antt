@@ -40,7 +40,7 @@ use Rattle.flt_code.specs.Formula.{Formula, Single, Compare, Both, Either, Excep
 use Rattle.flt_tree.specs.Counts.{number_words}
 use Rattle.flt_gen.specs.Counts.{words}
 use Rattle.flt_code.specs.Code.{plain, computation, constant, constant_operand, emit_base, emit_transport, emit_accessor, emit_elementary, emit_jump, emit_branch, reach, emit_comparison, emit_field, emit_mask, emit_test, emit_operands, emit_number, emit_relation, Block, at_top, emit_chain, emit_search, LEVELS, emit_among, emit_formula}
-use Rattle.flt_bpf.proofs.Suffix.{answer_of, answer_after}
+use Rattle.flt_bpf.specs.Answer.{answer_of, answer_after}
 use Rattle.flt_gen.proofs.Tails.{Extends, extends_none, extends_put, extends_on, branch_extends, field_extends, mask_extends, by_reach, by_right, test_extends, relation_extends, search_extends}
 use Rattle.flt_short.proofs.Basics.{by_test}
 use Rattle.flt_gen.proofs.Ascending.{Ascending, Searchable, searchable_ascends, ascending_take, ascending_drop, lower_half, upper_half}
