@@ -19,6 +19,7 @@ mod writing;
 
 pub use fault::{CheckFault, ListingFault};
 pub use insn::Insn;
+pub use machine::compute;
 pub use program::{Program, check, check_insns, run, run_any, run_insns};
 pub use reading::read_listing;
 pub use wide::Wide;

@@ -5,6 +5,7 @@ pub mod Onward
 pub mod Exclusive
 pub mod NetworkKinds
 pub mod Numbers
+pub mod Folded
 pub mod Runs
 pub mod Grows
 pub mod Far

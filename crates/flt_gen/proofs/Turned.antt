@@ -2,12 +2,10 @@
 use Rattle.std.proofs.Common.{◌≡◌, ℕ, ◌-◌, ◌≤◌, List, [], ◌∷◌, length, drop, take, get_or, zero, suc, ◌<◌, Option, Some, None, refl, sym, ap, ◌∙◌, subst, arith}
 use Rattle.std.specs.Prelude.{reverse}
 use Rattle.std.proofs.Math.Seq.{take-suc}
-use Rattle.std.proofs.lemmas.List.{reverse-reverse, reverse-append}
+use Rattle.std.proofs.lemmas.List.{reverse-append}
 use Rattle.flt_tree.specs.declared.node.Node.{Node}
 use Rattle.flt_tree.specs.Tree.{Expression}
-use Rattle.flt_tree.specs.Nodes.{expr_nodes}
 use Rattle.flt_tree.specs.Nodes.{expr_onto}
-use Rattle.flt_tree.proofs.NodesBack.{expr_turned}
 use Rattle.cap_octet.specs.declared.link.Link.{Link}
 use Rattle.flt_gen.specs.ProgramCode.{expression_code, program_code}
 use Rattle.flt_gen.specs.Walk.{Walk, emit_node, emit_both_nodes, emit_nodes, start_walk, insns_of}
@@ -15,22 +13,20 @@ use Rattle.flt_gen.proofs.Walking.{expression_walked}
 use Rattle.flt_gen.proofs.Room.{IsLow, node_low, both_grown, walked_longer, both_walked, one_walked, last_walked}
 use Rattle.flt_gen.proofs.Whole.{Fits}
 
-nodes_turned : (e : Expression) (ns : List Node) → ns ≡ expr_nodes e → reverse ns ≡ expr_onto e
-nodes_turned e ns h = ap reverse (h ∙ sym (expr_turned e)) ∙ reverse-reverse (expr_onto e)
+-- by the nodes of the tree turned round
+abbrev pub Turned : Expression → List Node → Type 0
+Turned e ns = reverse ns ≡ expr_onto e
 
-pub walk_is : (link : Link) (e : Expression) (ns : List Node) → ns ≡ expr_nodes e → emit_nodes link start_walk (reverse ns) ≡ emit_nodes link start_walk (expr_onto e)
-walk_is link e ns h = ap (emit_nodes link start_walk) (nodes_turned e ns h)
-
-pub room_is : (link : Link) (e : Expression) (ns : List Node) → ns ≡ expr_nodes e → Fits link e → length (emit_nodes link start_walk (reverse ns)).code ≤ 32768
+pub room_is : (link : Link) (e : Expression) (ns : List Node) → Turned e ns → Fits link e → length (emit_nodes link start_walk (reverse ns)).code ≤ 32768
 room_is link e ns h f =
-    let w = walk_is link e ns h in
+    let w = ap (emit_nodes link start_walk) h in
     let d = (expression_walked link e).code in
     let n : length (emit_nodes link start_walk (reverse ns)).code ≡ length (expression_code link e).code = ap (λ (x : Walk). length x.code) w ∙ ap length d in
     omega (arith, f.room)
 
-pub inside_is : (link : Link) (e : Expression) (ns : List Node) → ns ≡ expr_nodes e → Fits link e → (emit_nodes link start_walk (reverse ns)).to.yes ≤ length (emit_nodes link start_walk (reverse ns)).code
+pub inside_is : (link : Link) (e : Expression) (ns : List Node) → Turned e ns → Fits link e → (emit_nodes link start_walk (reverse ns)).to.yes ≤ length (emit_nodes link start_walk (reverse ns)).code
 inside_is link e ns h f =
-    let w = walk_is link e ns h in
+    let w = ap (emit_nodes link start_walk) h in
     let d = (expression_walked link e).code in
     let y = (expression_walked link e).entry in
     let n : length (emit_nodes link start_walk (reverse ns)).code ≡ length (expression_code link e).code = ap (λ (x : Walk). length x.code) w ∙ ap length d in
@@ -38,12 +34,12 @@ inside_is link e ns h f =
     omega (arith, f.inside)
 
 -- the instructions are those of the expression's program
-pub program_is : (link : Link) (e : Expression) (ns : List Node) → ns ≡ expr_nodes e → insns_of (emit_nodes link start_walk (reverse ns)) ≡ program_code link e
+pub program_is : (link : Link) (e : Expression) (ns : List Node) → Turned e ns → insns_of (emit_nodes link start_walk (reverse ns)) ≡ program_code link e
 program_is link e ns h =
     let x = emit_nodes link start_walk (expr_onto e) in
     let c = (expression_walked link e).code in
     let y = (expression_walked link e).entry in
-    ap insns_of (walk_is link e ns h)
+    ap insns_of (ap (emit_nodes link start_walk) h)
     ∙ ap (λ d. drop (length d - x.to.yes) d) c
     ∙ ap (λ k. drop (length (expression_code link e).code - k) (expression_code link e).code) y
 

@@ -1,5 +1,6 @@
 pub mod Primitives
 pub mod Reading
+pub mod Folding
 pub mod Group
 pub mod ProgramCode
 pub mod Counts

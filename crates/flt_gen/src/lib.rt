@@ -2,6 +2,7 @@
 #![tactic(auto)]
 
 mod address;
+mod folding;
 mod group;
 pub mod laws;
 mod number;

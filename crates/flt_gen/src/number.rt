@@ -18,7 +18,8 @@ use flt_code::{
 use flt_words::{Operator, Protocol};
 use std::alloc::{AllocError, Allocator};
 
-fn alu_operation(operator: Operator) -> AluOperation
+/// The machine's operator for one of an expression.
+pub fn alu_operation(operator: Operator) -> AluOperation
     ensures { result ≡ alu_operation operator }
 {
     match operator {

@@ -6,6 +6,7 @@ ghost use Rattle.flt_gen.specs.Counts.{short_bound_of};
 ghost use Rattle.flt_short.specs.Layout.{JumpsAreNeeded, IsShort};
 ghost use Rattle.flt_gen.specs.Walk.{emit_nodes, start_walk, insns_of};
 
+use crate::folding::folded_nodes;
 use crate::walk::Walk;
 use cap_octet::Link;
 use flt_bpf::insn::Insn;
@@ -39,8 +40,8 @@ fn program_insns<A: Allocator + Clone>(
 /// the one after it, and nowhere where a program without jumps has at most 256 instructions by the
 /// expression's counts.
 ///
-/// An error is a failed allocation: for the instructions, or for what waits while the tree is
-/// walked; or an allocator that cannot be cloned.
+/// An error is a failed allocation: for a copy of the tree's nodes, for the instructions, or for
+/// what waits while the tree is walked; or an allocator that cannot be cloned.
 pub fn generate<A: Allocator + Clone, B: Allocator>(
     alloc: A,
     expr: &Checked<B>,
@@ -52,7 +53,8 @@ pub fn generate<A: Allocator + Clone, B: Allocator>(
         → IfOk result (λ program. IsShort program.insns (short_bound_of expr.now.expr)) }
     ensures fresh { IfOk result (λ program. program.spent ≡ 0) }
 {
-    let insns = program_insns(alloc.clone()?, expr.expr.nodes(), link)?;
+    let nodes = folded_nodes(alloc.clone()?, expr.expr.nodes())?;
+    let insns = program_insns(alloc.clone()?, &nodes, link)?;
     let turned = pass_loads(alloc.clone()?, insns)?;
     let short = shortened(alloc, turned)?;
     match check(short) {

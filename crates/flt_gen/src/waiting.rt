@@ -1,6 +1,6 @@
 //! What waits during the walk over an expression's nodes.
 
-ghost use Rattle.std.specs.Prelude.{◌≡◌, List, [], ◌∷◌, OnOk, MatchOption};
+ghost use Rattle.std.specs.Prelude.{◌≡◌, List, [], ◌∷◌, reverse, OnOk, MatchOption};
 
 use flt_code::Targets;
 use flt_words::{Join, Protocol};
@@ -69,5 +69,13 @@ impl<T: Drop, A: Allocator> Stack<T, A> {
             (λ entry. self.old ≡ entry ∷ self.new) }
     {
         self.entries.pop()
+    }
+
+    /// The entries, the earliest first.
+    pub fn into_vec(self) -> Vec<T, A>
+        ensures { reverse result.items ≡ self }
+    {
+        let Stack { entries } = self;
+        entries
     }
 }

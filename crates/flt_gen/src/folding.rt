@@ -1,0 +1,95 @@
+//! Arithmetic of numbers alone becomes one number before code is emitted for it.
+
+ghost use Rattle.std.specs.Prelude.{◌≡◌, [], fold, reverse, OnOk, IfOk};
+ghost use Rattle.flt_gen.specs.Folding.{node_constant, applied_constant, with_negation};
+ghost use Rattle.flt_gen.specs.Folding.{with_operator, with_folded};
+
+use crate::number::alu_operation;
+use crate::waiting::Stack;
+use flt_bpf::compute;
+use flt_tree::Node;
+use flt_words::Operator;
+use std::alloc::{AllocError, Allocator};
+
+/// The number that a node is.
+fn node_constant(node: Node) -> Option<u32>
+    ensures { result ≡ node_constant node }
+{
+    match node {
+        Node::Literal(number) | Node::Named(number) => Some(number),
+        _ => None,
+    }
+}
+
+/// The number that an operator makes of two, if both are there. There is none for a division by 0.
+#[tactic(auto, using(crate::proofs::Folded::computed))]
+fn applied_constant(operator: Operator, left: Option<u32>, right: Option<u32>) -> Option<u32>
+    ensures { result ≡ applied_constant operator left right }
+{
+    match (left, right) {
+        (Some(left), Some(right)) => compute(alu_operation(operator), left, right),
+        _ => None,
+    }
+}
+
+/// A negation, of a number the negative number.
+fn push_negation<A: Allocator>(nodes: &mut Stack<Node, A>) -> Result<(), AllocError>
+    ensures { OnOk result (nodes.new ≡ with_negation nodes.old) }
+{
+    let Some(operand) = nodes.pop() else {
+        return nodes.push(Node::Negate);
+    };
+    match node_constant(operand) {
+        Some(number) => nodes.push(Node::Literal(number.wrapping_neg())),
+        None => {
+            nodes.push(operand)?;
+            nodes.push(Node::Negate)
+        }
+    }
+}
+
+/// An operator, of two numbers the number that it makes of them.
+fn push_operator<A: Allocator>(
+    nodes: &mut Stack<Node, A>,
+    operator: Operator,
+) -> Result<(), AllocError>
+    ensures { OnOk result (nodes.new ≡ with_operator operator nodes.old) }
+{
+    let Some(right) = nodes.pop() else {
+        return nodes.push(Node::Apply(operator));
+    };
+    let Some(left) = nodes.pop() else {
+        nodes.push(right)?;
+        return nodes.push(Node::Apply(operator));
+    };
+    match applied_constant(operator, node_constant(left), node_constant(right)) {
+        Some(number) => nodes.push(Node::Literal(number)),
+        None => {
+            nodes.push(left)?;
+            nodes.push(right)?;
+            nodes.push(Node::Apply(operator))
+        }
+    }
+}
+
+fn push_folded<A: Allocator>(nodes: &mut Stack<Node, A>, node: Node) -> Result<(), AllocError>
+    ensures { OnOk result (nodes.new ≡ with_folded nodes.old node) }
+{
+    match node {
+        Node::Negate => push_negation(nodes),
+        Node::Apply(operator) => push_operator(nodes, operator),
+        _ => nodes.push(node),
+    }
+}
+
+/// The nodes of a tree in which arithmetic of numbers alone is one number.
+pub fn folded_nodes<A: Allocator>(alloc: A, nodes: &[Node]) -> Result<Vec<Node, A>, AllocError>
+    ensures { IfOk result
+        (λ folded. reverse folded.items ≡ fold with_folded [] nodes.now) }
+{
+    let mut folded = Stack::new(alloc);
+    for &node in nodes {
+        push_folded(&mut folded, node)?;
+    }
+    Ok(folded.into_vec())
+}
