@@ -174,7 +174,7 @@ value_tests_fit link PortRange p d _ = omega arith
 value_tests_fit link Proto p d (value.Number n m) = proto_tests_fit link p n
 value_tests_fit link Proto p d _ = some_proto p
 
-accessor_tests_are : (link : Link) (p : Protocol) (f : Formula) → tests (guarded_formula (accessor_tests link p) f) ≡ count.accessor_test_count p + tests f
+pub accessor_tests_are : (link : Link) (p : Protocol) (f : Formula) → tests (guarded_formula (accessor_tests link p) f) ≡ count.accessor_test_count p + tests f
 accessor_tests_are link protocol.Ether f = refl
 accessor_tests_are link protocol.Ip f = refl
 accessor_tests_are link protocol.Ip6 f = refl
@@ -371,7 +371,7 @@ bare_value link Proto p d (value.Number n m) = bare_proto_value link p n
 bare_value link Proto p d _ = bare_one _
 
 -- the tests of accessors add neither nodes nor words
-same_sizes : (link : Link) (ps : List Protocol) (f : Formula) → (nodes (checked_formula link ps f) ≡ nodes f) × (words (checked_formula link ps f) ≡ words f)
+pub same_sizes : (link : Link) (ps : List Protocol) (f : Formula) → (nodes (checked_formula link ps f) ≡ nodes f) × (words (checked_formula link ps f) ≡ words f)
 same_sizes link [] f = (refl, refl)
 same_sizes link (p ∷ ps) f =
     let h = same_sizes link ps f in
@@ -409,7 +409,7 @@ words_fit link (joined And a b) = let h = words_fit link a in let k = words_fit 
 words_fit link (joined Or a b) = let h = words_fit link a in let k = words_fit link b in omega arith
 
 -- the tests of accessors leave the choices as they are
-checked_apt : (p : List ℕ) (link : Link) (ps : List Protocol) (f : Formula) → Apt p f → Apt p (checked_formula link ps f)
+pub checked_apt : (p : List ℕ) (link : Link) (ps : List Protocol) (f : Formula) → Apt p f → Apt p (checked_formula link ps f)
 checked_apt p link [] f h = h
 checked_apt p link (q ∷ ps) f h = guarded_apt (accessor_tests link q) (checked_formula link ps f) (checked_apt p link ps f h)
   where

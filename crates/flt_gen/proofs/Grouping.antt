@@ -13,22 +13,25 @@ use Rattle.flt_tree.specs.declared.qualifiers.Direction.TheVariants as direction
 use Rattle.flt_tree.specs.declared.qualifiers.CompleteQualifiers.{CompleteQualifiers}
 use Rattle.flt_tree.specs.declared.value.Value.{Value}
 use Rattle.flt_tree.specs.declared.value.Value.TheVariants as value
-use Rattle.flt_tree.specs.Tree.{TruthTree, check, cast, sized, bare, valued, qualified, compared, denied, joined}
+use Rattle.flt_words.specs.declared.token.Comparison.{Comparison}
+use Rattle.flt_tree.specs.Tree.{NumberTree, TruthTree, check, cast, sized, bare, valued, qualified, compared, denied, joined}
 use Rattle.flt_tree.specs.Counts as count
 use Rattle.flt_tree.specs.Resolved.{is_unfilled, any_primitive}
 use Rattle.cap_octet.specs.declared.link.Link.{Link}
 use Rattle.flt_code.specs.Elementary.{Reading, Yes, No, Rejected}
 use Rattle.flt_gen.specs.declared.wanted.Hosts.TheVariants as hosts
 use Rattle.flt_gen.specs.declared.wanted.Ports.TheVariants.{One, Several}
-use Rattle.flt_code.specs.Formula.{Formula, Both, Either, Except, is_one_of, both, either, negation, reads}
+use Rattle.flt_code.specs.Formula.{Formula, Compare, Both, Either, Except, is_one_of, both, either, negation, reads}
 use Rattle.flt_gen.specs.Primitives.{net_test, net_formula, hosts_formula, port_test, port_formula, qualified_formula, value_formula}
+use Rattle.flt_gen.specs.Emitted.{protocols_of, relation_formula}
 use Rattle.flt_gen.specs.Reading.{formula}
 use Rattle.flt_gen.specs.Counts.{tests, nodes, words}
 use Rattle.flt_gen.specs.Group.{Group, no_group, insert_ascending, with_member, same_type, same_protocol, same_direction, goes_with, member_number, group_and, larger_group, one_formula, several_formula, formula_by, group_formula, or_any, or_group, truth_member, choice, grouped_formula, MOST_TOGETHER}
 use Rattle.flt_short.proofs.Basics.{both_true}
 use Rattle.flt_gen.proofs.Ascending.{Ascending, Searchable, ascending_inserted, length_inserted, one_of_inserted}
 use Rattle.flt_gen.proofs.Exclusive.{Apt, ip_no_arp, ip_no_rarp, arp_no_rarp}
-use Rattle.flt_gen.proofs.Counted.{Bare, bare_one, bare_guard, bare_choice, bare_any, bare_net, bare_ports, net_tests_fit, port_tests_by, port_tests_fit, tests_fit, nodes_fit, words_fit, formula_apt, left_false, right_false}
+use Rattle.flt_gen.proofs.Counted.{Bare, bare_one, bare_guard, bare_choice, bare_any, bare_net, bare_ports, net_tests_fit, port_tests_by, port_tests_fit, tests_fit, nodes_fit, words_fit, formula_apt, same_sizes, checked_apt, left_false, right_false}
+use Rattle.flt_gen.proofs.Once.{relation_tests, relation_same}
 use Rattle.flt_gen.proofs.Together.{Merged, Common, together, more_together, plain_together}
 
 -- a group that waits: the numbers ascend, and the first is among them
@@ -376,6 +379,20 @@ leaf_stands link a group k u =
     or_stands link (formula link a) (formula link a) (count.truth_tests a) group k
     (record { nodes_are = refl; words_are = refl; apt = λ p. formula_apt p link a; tests_fit = let l = tests_fit link a u in omega arith; reads_are = λ p n. refl })
 
+relation_stands : (link : Link) (c : Comparison) (l r : NumberTree) (group : Group) → Kept group → StandsBy link (or_group link (relation_formula link c l r) group) (formula link (compared c l r)) (count.truth_tests (compared c l r)) group
+relation_stands link c l r group k =
+    let ps = protocols_of l (protocols_of r []) in
+    let n = same_sizes link ps (Compare c l r) in
+    let t = relation_tests link c l r in
+    or_stands link (relation_formula link c l r) (formula link (compared c l r)) (count.truth_tests (compared c l r)) group k
+    (record {
+      nodes_are = n.0 ∙ sym (nodes_fit link (compared c l r));
+      words_are = n.1 ∙ sym (words_fit link (compared c l r));
+      apt = λ p. checked_apt p link ps (Compare c l r) tt;
+      tests_fit = omega arith;
+      reads_are = λ p n. relation_same link p n c l r;
+    })
+
 value_stands : (link : Link) (q : CompleteQualifiers) (v : Value) (group : Group) → Kept group → any_primitive is_unfilled (qualified q v) ≡ false → (o : Option Group) → larger_group q v group ≡ o → StandsBy link (choice o (λ more. group_formula link more) (or_group link (qualified_formula link q v) group)) (qualified_formula link q v) (count.value_tests q v) group
 value_stands link q v group k u None e = leaf_stands link (qualified q v) group k u
 value_stands link q v group k u (Some more) e =
@@ -471,7 +488,7 @@ grouped_stands link (sized s n) group k u = leaf_stands link (sized s n) group k
 grouped_stands link (bare v) group k u = leaf_stands link (bare v) group k u
 grouped_stands link (valued q v) group k u = leaf_stands link (valued q v) group k u
 grouped_stands link (qualified q v) group k u = value_stands link q v group k u (larger_group q v group) refl
-grouped_stands link (compared c l r) group k u = leaf_stands link (compared c l r) group k u
+grouped_stands link (compared c l r) group k u = relation_stands link c l r group k
 grouped_stands link (denied a) group k u = denied_stands link a group k (grouped_stands link a no_group kept_none u)
 grouped_stands link (joined And a b) group k u =
     both_stands link a b group k (grouped_stands link a no_group kept_none (left_false _ _ u)) (grouped_stands link b no_group kept_none (right_false _ _ u))

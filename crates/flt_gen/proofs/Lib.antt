@@ -15,6 +15,7 @@ pub mod Walking
 pub mod Room
 pub mod Counted
 pub mod Together
+pub mod Once
 pub mod Grouping
 pub mod Whole
 pub mod Turned

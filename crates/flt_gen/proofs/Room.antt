@@ -7,6 +7,7 @@ use Rattle.flt_words.specs.declared.token.Join.TheVariants.{And, Or}
 use Rattle.flt_tree.specs.declared.qualifiers.CompleteQualifiers.{CompleteQualifiers}
 use Rattle.flt_tree.specs.declared.value.Value.{Value}
 use Rattle.flt_code.specs.Formula.{Formula}
+use Rattle.flt_gen.specs.Emitted.{with_accessor}
 use Rattle.flt_gen.specs.Group.{Group, MOST_TOGETHER, same_type, same_protocol, same_direction, goes_with, with_member, member_number, group_and, larger_group, group_formula}
 use Rattle.flt_gen.proofs.Ascending.{length_inserted}
 use Rattle.flt_short.proofs.Basics.{both_true}
@@ -69,7 +70,7 @@ relation_grown link w e h = grown_on w (finish_relation link w) h (accessors_ext
 number_grown : (link : Link) (ns : List Waiting) (w : Walk) → w.numbers ≡ ns → IsLow w → Grown w (finish_number link ns w)
 number_grown link [] w e h = relation_grown link w e h
 number_grown link (Index p ∷ ns) w e h =
-    let v : Walk = record w { numbers = ns; accessors = p ∷ w.accessors } in
+    let v : Walk = record w { numbers = ns; accessors = with_accessor p w.accessors } in
     let a : AllLow (Index p ∷ ns) (length w.code) = subst (λ xs. AllLow xs (length w.code)) e h.waiting in
     let g = number_grown link ns v refl (record { slot = h.slot; waiting = a; upper_bound = h.upper_bound }) in
     record { low = g.low; longer = g.longer }

@@ -19,7 +19,7 @@ use Rattle.cap_octet.specs.declared.link.Link.{Link}
 use Rattle.flt_code.specs.declared.code.Targets.{Targets}
 use Rattle.flt_gen.specs.declared.waiting.LeftTruth.{LeftTruth}
 use Rattle.flt_gen.specs.declared.waiting.Pending.TheVariants as next
-use Rattle.flt_code.specs.Numbers.{accessors}
+use Rattle.flt_gen.specs.Emitted.{protocols_of, relation_formula}
 use Rattle.flt_code.specs.Formula.{Formula, Single, Both, Either, Except, Compare as compare}
 use Rattle.flt_gen.specs.Reading.{formula}
 use Rattle.flt_code.specs.Follow.{nothing}
@@ -30,10 +30,10 @@ use Rattle.flt_gen.proofs.Joined.{checked_emitted}
 
 -- a number's code and accessors are put
 abbrev with_number : Link → NumberTree → Walk → Walk
-with_number link a w = record w { code = emit_number link a w.slot w.code; accessors = accessors a w.accessors }
+with_number link a w = record w { code = emit_number link a w.slot w.code; accessors = protocols_of a w.accessors }
 
 -- an operator whose right operand is a constant, which its instruction may have or not
-constant_walked : (link : Link) (o : Operator) (k : ℕ) (a : NumberTree) (w : Walk) (d : List Node) → ((v : Walk) → emit_nodes link v (number_onto a d) ≡ emit_nodes link (finish_number link v.numbers (with_number link a v)) d) → (t : Bool) → emit_nodes link (or_walk (if t then Some (with_insns (plain (computation o Constant) k ∷ w.code) w) else None) (emit_node link (emit_node link w (Apply o)) (Literal k))) (number_onto a d) ≡ emit_nodes link (finish_number link w.numbers (record w { code = emit_number link a w.slot (emit_right (if t then Some k else None) w.slot (λ j. plain (computation o Constant) j ∷ w.code) (emit_number link (literal k) (w.slot + 1) (emit_operands w.slot (plain (computation o IndexRegister) 0 ∷ w.code)))); accessors = accessors a w.accessors })) d
+constant_walked : (link : Link) (o : Operator) (k : ℕ) (a : NumberTree) (w : Walk) (d : List Node) → ((v : Walk) → emit_nodes link v (number_onto a d) ≡ emit_nodes link (finish_number link v.numbers (with_number link a v)) d) → (t : Bool) → emit_nodes link (or_walk (if t then Some (with_insns (plain (computation o Constant) k ∷ w.code) w) else None) (emit_node link (emit_node link w (Apply o)) (Literal k))) (number_onto a d) ≡ emit_nodes link (finish_number link w.numbers (record w { code = emit_number link a w.slot (emit_right (if t then Some k else None) w.slot (λ j. plain (computation o Constant) j ∷ w.code) (emit_number link (literal k) (w.slot + 1) (emit_operands w.slot (plain (computation o IndexRegister) 0 ∷ w.code)))); accessors = protocols_of a w.accessors })) d
 constant_walked link o k a w d left true = left _
 constant_walked link o k a w d left false = left _
 
@@ -86,11 +86,11 @@ compare_walked link k (load p s i) w d = refl
 compare_walked link k (negated i) w d = refl
 compare_walked link k (applied o x y) w d = refl
 
-relation_walked : (link : Link) (k : Comparison) (a b : NumberTree) (c : List Insn) (to : Targets) (ts : List LeftTruth) (d : List Node) → comparison_walked link k b (between c to ts) (number_onto a d) ≡ emit_nodes link (emit_of link (formula link (compared k a b)) c to ts) d
+relation_walked : (link : Link) (k : Comparison) (a b : NumberTree) (c : List Insn) (to : Targets) (ts : List LeftTruth) (d : List Node) → comparison_walked link k b (between c to ts) (number_onto a d) ≡ emit_nodes link (emit_of link (relation_formula link k a b) c to ts) d
 relation_walked link k a b c to ts d =
-    both b ∙ ap (λ (e : Block). emit_nodes link (finish_truth e (between c to ts)) d) (sym (checked_emitted link (accessors a (accessors b [])) (compare k a b) to.yes to.no c))
+    both b ∙ ap (λ (e : Block). emit_nodes link (finish_truth e (between c to ts)) d) (sym (checked_emitted link (protocols_of a (protocols_of b [])) (compare k a b) to.yes to.no c))
   where
-    both : (r : NumberTree) → comparison_walked link k r (between c to ts) (number_onto a d) ≡ (let e = emit_formula link nothing (compare k a r) to.yes to.no c in emit_nodes link (finish_truth (emit_accessors link (accessors a (accessors r [])) e.entry to.no e.code) (between c to ts)) d)
+    both : (r : NumberTree) → comparison_walked link k r (between c to ts) (number_onto a d) ≡ (let e = emit_formula link nothing (compare k a r) to.yes to.no c in emit_nodes link (finish_truth (emit_accessors link (protocols_of a (protocols_of r [])) e.entry to.no e.code) (between c to ts)) d)
     both (literal j) = number_walked link a _ d
     both (named j) = number_walked link a _ d
     both len = number_walked link a _ d
@@ -98,7 +98,7 @@ relation_walked link k a b c to ts d =
     both (negated i) = number_walked link (negated i) _ (number_onto a d) ∙ number_walked link a _ d
     both (applied o x y) = number_walked link (applied o x y) _ (number_onto a d) ∙ number_walked link a _ d
 
-relation_settled : (link : Link) (k : Comparison) (a b : NumberTree) (c : List Insn) (to : Targets) (ts : List LeftTruth) (group : Group) (d : List Node) (bs : List ℕ) → comparison_walked link k b (flush_members link (waiting c to ts group) bs) (number_onto a d) ≡ emit_nodes link (emit_of link (or_any (formula link (compared k a b)) (group_formula link group) bs) c to ts) d
+relation_settled : (link : Link) (k : Comparison) (a b : NumberTree) (c : List Insn) (to : Targets) (ts : List LeftTruth) (group : Group) (d : List Node) (bs : List ℕ) → comparison_walked link k b (flush_members link (waiting c to ts group) bs) (number_onto a d) ≡ emit_nodes link (emit_of link (or_any (relation_formula link k a b) (group_formula link group) bs) c to ts) d
 relation_settled link k a b c to ts group d [] = relation_walked link k a b c to ts d
 relation_settled link k a b c to ts group d (h ∷ hs) =
     let e = emit_formula link nothing (group_formula link group) to.yes to.no c in

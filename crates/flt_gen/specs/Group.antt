@@ -11,13 +11,14 @@ use Rattle.flt_tree.specs.declared.qualifiers.Direction.TheVariants as direction
 use Rattle.flt_tree.specs.declared.qualifiers.CompleteQualifiers.{CompleteQualifiers}
 use Rattle.flt_tree.specs.declared.value.Value.{Value}
 use Rattle.flt_tree.specs.declared.value.Value.TheVariants as value
-use Rattle.flt_tree.specs.Tree.{TruthTree, qualified, denied, joined}
+use Rattle.flt_tree.specs.Tree.{TruthTree, qualified, compared, denied, joined}
 use Rattle.cap_octet.specs.declared.link.Link.{Link}
 use Rattle.flt_gen.specs.declared.wanted.Ports.TheVariants.{One, Several}
 use Rattle.flt_gen.specs.declared.wanted.Hosts.TheVariants as hosts
 use Rattle.flt_code.specs.declared.elementary.Elementary.TheVariants.{Outcome}
 use Rattle.flt_code.specs.Formula.{Formula, Single, Both, Either, Except}
 use Rattle.flt_gen.specs.Primitives.{net_test, net_formula, hosts_formula, port_test, port_formula, qualified_formula}
+use Rattle.flt_gen.specs.Emitted.{relation_formula}
 use Rattle.flt_gen.specs.Reading.{formula}
 
 -- the type of its members, the protocol and the direction that are asked for; the address or port
@@ -150,4 +151,5 @@ grouped_formula link group (denied a) =
 grouped_formula link group (qualified q v) =
     choice (larger_group q v group) (λ more. group_formula link more)
     (or_group link (qualified_formula link q v) group)
+grouped_formula link group (compared c l r) = or_group link (relation_formula link c l r) group
 grouped_formula link group a = or_group link (formula link a) group

@@ -1,6 +1,7 @@
 pub mod Primitives
 pub mod Reading
 pub mod Folding
+pub mod Emitted
 pub mod Group
 pub mod ProgramCode
 pub mod Counts

@@ -20,6 +20,7 @@ use Rattle.flt_gen.specs.declared.waiting.Waiting.{Waiting}
 use Rattle.flt_gen.specs.declared.waiting.Waiting.TheVariants.{Index, Left}
 use Rattle.flt_code.specs.Numbers.{width_of}
 use Rattle.flt_code.specs.Formula.{Formula}
+use Rattle.flt_gen.specs.Emitted.{with_accessor}
 use Rattle.flt_gen.specs.Group.{Group, no_group, larger_group, group_formula}
 use Rattle.flt_gen.specs.Primitives.{check_formula, cast_formula, sized_formula, qualified_formula}
 use Rattle.flt_code.specs.Follow.{nothing}
@@ -31,8 +32,8 @@ use Rattle.flt_bpf.specs.declared.operation.Source.{Source}
 use Rattle.flt_bpf.specs.declared.operation.Source.TheVariants.{Immediate, Length}
 
 -- how far the walk has come: the code so far, the targets of the next truth, the word for the next
--- left operand; what waits, latest first; and the protocols of the relation's accessors, the one of
--- the first word first
+-- left operand; what waits, latest first; and the protocols of the relation's accessors, each once,
+-- the one of the first word first
 pub record Walk : Type 0 where
   pub code : List Insn
   pub to : Targets
@@ -82,7 +83,7 @@ finish_relation link w =
 abbrev pub finish_number : Link → List Waiting → Walk → Walk
 finish_number link [] w = finish_relation link w
 finish_number link (Index protocol ∷ ns) w =
-    finish_number link ns (record w { numbers = ns; accessors = protocol ∷ w.accessors })
+    finish_number link ns (record w { numbers = ns; accessors = with_accessor protocol w.accessors })
 finish_number link (Left slot ∷ ns) w = record w {
   code = plain (Store Accumulator) slot ∷ w.code;
   slot = slot;

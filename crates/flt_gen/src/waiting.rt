@@ -1,6 +1,7 @@
 //! What waits during the walk over an expression's nodes.
 
 ghost use Rattle.std.specs.Prelude.{◌≡◌, List, [], ◌∷◌, reverse, OnOk, MatchOption};
+ghost use Rattle.flt_gen.specs.Emitted.{equals, without, with_accessor};
 
 use flt_code::Targets;
 use flt_words::{Join, Protocol};
@@ -72,10 +73,69 @@ impl<T: Drop, A: Allocator> Stack<T, A> {
     }
 
     /// The entries, the earliest first.
+    pub fn entries(&self) -> &[T]
+        ensures { reverse result.now ≡ self.now }
+    {
+        &self.entries
+    }
+
+    /// No entry is left.
+    pub fn clear(&mut self)
+        ensures { self.new ≡ [] }
+    {
+        self.entries.clear();
+    }
+
+    /// The entries, the earliest first.
     pub fn into_vec(self) -> Vec<T, A>
         ensures { reverse result.items ≡ self }
     {
         let Stack { entries } = self;
         entries
     }
+}
+
+fn equals(one: Protocol, other: Protocol) -> bool
+    ensures { result ≡ equals one other }
+{
+    match (one, other) {
+        (Protocol::Ether, Protocol::Ether)
+        | (Protocol::Ip, Protocol::Ip)
+        | (Protocol::Ip6, Protocol::Ip6)
+        | (Protocol::Arp, Protocol::Arp)
+        | (Protocol::Rarp, Protocol::Rarp)
+        | (Protocol::Tcp, Protocol::Tcp)
+        | (Protocol::Udp, Protocol::Udp)
+        | (Protocol::Icmp, Protocol::Icmp)
+        | (Protocol::Icmp6, Protocol::Icmp6) => true,
+        _ => false,
+    }
+}
+
+/// A protocol is left out. There are few entries, since each protocol stands once.
+fn leave_out<A: Allocator>(
+    protocols: &mut Stack<Protocol, A>,
+    protocol: Protocol,
+) -> Result<(), AllocError>
+    ensures { OnOk result (protocols.new ≡ without protocol protocols.old) }
+{
+    let Some(latest) = protocols.pop() else {
+        return Ok(());
+    };
+    leave_out(protocols, protocol)?;
+    if equals(protocol, latest) {
+        return Ok(());
+    }
+    protocols.push(latest)
+}
+
+/// A protocol of an accessor, in front of those that come later. It stands once.
+pub fn add_accessor<A: Allocator>(
+    protocols: &mut Stack<Protocol, A>,
+    protocol: Protocol,
+) -> Result<(), AllocError>
+    ensures { OnOk result (protocols.new ≡ with_accessor protocol protocols.old) }
+{
+    leave_out(protocols, protocol)?;
+    protocols.push(protocol)
 }

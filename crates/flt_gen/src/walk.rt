@@ -18,7 +18,7 @@ use crate::group::Group;
 use crate::number::{computation, emit_accessor, emit_accessors, emit_operands, takes, width_of};
 use crate::primitive::{emit_cast, emit_check};
 use crate::value::{emit_group, emit_qualified, emit_sized};
-use crate::waiting::{LeftTruth, Pending, Stack, Waiting};
+use crate::waiting::{LeftTruth, Pending, Stack, Waiting, add_accessor};
 use cap_octet::Link;
 use flt_bpf::insn::Insn;
 use flt_bpf::operation::{Operand, Operation, Register, Source};
@@ -41,15 +41,14 @@ pub struct Walk<A: Allocator> {
     slot: u32,
     truths: Stack<LeftTruth, A>,
     numbers: Stack<Waiting, A>,
-    /// The protocols of the relation's accessors, that of the last word first.
-    accessors: Vec<Protocol, A>,
+    /// The protocols of the relation's accessors, each once, that of the last word first.
+    accessors: Stack<Protocol, A>,
     /// Hosts or ports that are tested in front of the code, and whose code isn't there yet.
     group: Group<A>,
     pending: Pending,
 }
 
 impl<A: Allocator> Model for Walk<A> {
-    ghost use Rattle.std.specs.Prelude.{reverse};
     ghost use Rattle.flt_gen.specs.Walk.{Walk};
 
     ghost Value = { Walk };
@@ -60,7 +59,7 @@ impl<A: Allocator> Model for Walk<A> {
       slot = w.slot;
       truths = w.truths;
       numbers = w.numbers;
-      accessors = reverse w.accessors.items;
+      accessors = w.accessors;
       group = w.group;
       pending = w.pending;
     } };
@@ -90,7 +89,7 @@ impl<A: Allocator> Walk<A> {
             yes: self.code.top(),
             no: self.to.no,
         };
-        let entry = emit_accessors(&mut self.code, link, &self.accessors, to)?;
+        let entry = emit_accessors(&mut self.code, link, self.accessors.entries(), to)?;
         self.accessors.clear();
         self.finish_truth(entry);
         Ok(())
@@ -105,7 +104,9 @@ impl<A: Allocator> Walk<A> {
         // The label names the loop in its proof.
         'waiting: loop {
             match self.numbers.pop() {
-                Some(Waiting::Index(protocol)) => self.accessors.push(protocol)?,
+                Some(Waiting::Index(protocol)) => {
+                    add_accessor(&mut self.accessors, protocol)?;
+                }
                 Some(Waiting::Left(slot)) => {
                     self.slot = slot;
                     return self
@@ -409,7 +410,7 @@ impl<A: Allocator + Clone> Walk<A> {
     {
         let truths = Stack::new(alloc.clone()?);
         let numbers = Stack::new(alloc.clone()?);
-        let accessors = Vec::new(alloc.clone()?);
+        let accessors = Stack::new(alloc.clone()?);
         let group = Group::new(alloc.clone()?);
         let mut code = Code::new(alloc);
         code.emit_plain(Operation::ReturnConstant, 0)?;

@@ -1,0 +1,121 @@
+-- The tests of a protocol's accessors stand once: the formula reads the same, and has no more tests.
+use Rattle.std.proofs.Common.{◌≡◌, ℕ, ◌+◌, ◌≤◌, List, [], ◌∷◌, Bool, true, false, refl, sym, ap, ◌∙◌, arith}
+use Rattle.std.specs.Prelude.{if◌then◌else◌}
+use Rattle.flt_words.specs.declared.token.Comparison.{Comparison}
+use Rattle.flt_words.specs.declared.token.Protocol.{Protocol}
+use Rattle.flt_words.specs.declared.token.Protocol.TheVariants.{Ether, Ip, Ip6, Arp, Rarp, Tcp, Udp, Icmp, Icmp6}
+use Rattle.flt_tree.specs.Tree.{NumberTree, literal, len, named, load, negated, applied, compared}
+use Rattle.flt_tree.specs.Counts.{number_tests, truth_tests}
+use Rattle.cap_octet.specs.declared.link.Link.{Link}
+use Rattle.flt_code.specs.declared.elementary.Elementary.{Elementary}
+use Rattle.flt_code.specs.Elementary.{Reading, Yes, No, Rejected, elementary_reads}
+use Rattle.flt_code.specs.Numbers.{accessors, accessor_tests}
+use Rattle.flt_code.specs.Formula.{Formula, Compare, both, reads, guarded_formula, checked_formula}
+use Rattle.flt_gen.specs.Counts.{tests}
+use Rattle.flt_gen.specs.Emitted.{equals, without, with_accessor, protocols_of, relation_formula}
+use Rattle.flt_gen.specs.Reading.{formula}
+use Rattle.flt_gen.proofs.Ascending.{if_case}
+use Rattle.flt_gen.proofs.Counted.{accessor_tests_are}
+
+equal_are : (p q : Protocol) → equals p q ≡ true → p ≡ q
+equal_are Ether Ether e = refl
+equal_are Ip Ip e = refl
+equal_are Ip6 Ip6 e = refl
+equal_are Arp Arp e = refl
+equal_are Rarp Rarp e = refl
+equal_are Tcp Tcp e = refl
+equal_are Udp Udp e = refl
+equal_are Icmp Icmp e = refl
+equal_are Icmp6 Icmp6 e = refl
+equal_are Ether _ e = cc
+equal_are Ip _ e = cc
+equal_are Ip6 _ e = cc
+equal_are Arp _ e = cc
+equal_are Rarp _ e = cc
+equal_are Tcp _ e = cc
+equal_are Udp _ e = cc
+equal_are Icmp _ e = cc
+equal_are Icmp6 _ e = cc
+
+-- no more tests
+without_tests : (link : Link) (p : Protocol) (qs : List Protocol) (f : Formula) → tests (checked_formula link (without p qs) f) ≤ tests (checked_formula link qs f)
+without_tests link p [] f = omega arith
+without_tests link p (q ∷ qs) f =
+    let h = without_tests link p qs f in
+    let t = accessor_tests_are link q (checked_formula link qs f) in
+    let u = accessor_tests_are link q (checked_formula link (without p qs) f) in
+    if_case (λ xs. tests (checked_formula link xs f) ≤ tests (checked_formula link (q ∷ qs) f)) (equals p q) (without p qs) (q ∷ without p qs) (λ e. omega arith) (λ e. omega arith)
+
+protocols_tests : (link : Link) (a : NumberTree) (rest : List Protocol) (f : Formula) → tests (checked_formula link (protocols_of a rest) f) ≤ number_tests a + tests (checked_formula link rest f)
+protocols_tests link (literal n) rest f = omega arith
+protocols_tests link (named n) rest f = omega arith
+protocols_tests link len rest f = omega arith
+protocols_tests link (load p s a) rest f =
+    let h = protocols_tests link a rest f in
+    let w = without_tests link p (protocols_of a rest) f in
+    let t = accessor_tests_are link p (checked_formula link (without p (protocols_of a rest)) f) in
+    omega arith
+protocols_tests link (negated a) rest f = protocols_tests link a rest f
+protocols_tests link (applied o a b) rest f =
+    let h = protocols_tests link a (protocols_of b rest) f in
+    let k = protocols_tests link b rest f in
+    omega arith
+
+pub relation_tests : (link : Link) (c : Comparison) (l r : NumberTree) → tests (relation_formula link c l r) ≤ truth_tests (compared c l r)
+relation_tests link c l r =
+    let h = protocols_tests link l (protocols_of r []) (Compare c l r) in
+    let k = protocols_tests link r [] (Compare c l r) in
+    omega arith
+
+-- the same reading
+both_again : (a b r : Reading) → both a (both b r) ≡ both (both a b) r
+both_again Yes b r = refl
+both_again No b r = refl
+both_again Rejected b r = refl
+
+-- behind a test that holds
+if_yes : (a r s : Reading) → (a ≡ Yes → r ≡ s) → both a r ≡ both a s
+if_yes Yes r s h = h refl
+if_yes No r s h = refl
+if_yes Rejected r s h = refl
+
+module _ (link : Link) (p : List ℕ) (n : ℕ) where
+  abbrev all_read : List Elementary → Reading
+  all_read [] = Yes
+  all_read (t ∷ ts) = both (elementary_reads t p) (all_read ts)
+
+  abbrev told : Protocol → Reading
+  told q = all_read (accessor_tests link q)
+
+  guarded_read : (ts : List Elementary) (f : Formula) → reads link (guarded_formula ts f) p n ≡ both (all_read ts) (reads link f p n)
+  guarded_read [] f = refl
+  guarded_read (t ∷ ts) f = ap (λ r. both (elementary_reads t p) r) (guarded_read ts f) ∙ both_again (elementary_reads t p) (all_read ts) (reads link f p n)
+
+  -- what is read behind the tests of protocols
+  abbrev behind : List Protocol → Formula → Reading
+  behind qs f = reads link (checked_formula link qs f) p n
+
+  one_read : (q : Protocol) (qs : List Protocol) (f : Formula) → behind (q ∷ qs) f ≡ both (told q) (behind qs f)
+  one_read q qs f = guarded_read (accessor_tests link q) (checked_formula link qs f)
+
+  without_read : (q : Protocol) (qs : List Protocol) (f : Formula) → told q ≡ Yes → behind (without q qs) f ≡ behind qs f
+  without_read q [] f sure = refl
+  without_read q (r ∷ qs) f sure =
+      let h = without_read q qs f sure in
+      if_case (λ xs. behind xs f ≡ behind (r ∷ qs) f) (equals q r) (without q qs) (r ∷ without q qs)
+      (λ e. h ∙ sym (one_read r qs f ∙ ap (λ a. both a (behind qs f)) (ap told (sym (equal_are q r e)) ∙ sure)))
+      (λ e. one_read r (without q qs) f ∙ ap (λ a. both (told r) a) h ∙ sym (one_read r qs f))
+
+  protocols_read : (a : NumberTree) (ps qs : List Protocol) (f : Formula) → behind ps f ≡ behind qs f → behind (protocols_of a ps) f ≡ behind (accessors a qs) f
+  protocols_read (literal k) ps qs f h = h
+  protocols_read (named k) ps qs f h = h
+  protocols_read len ps qs f h = h
+  protocols_read (load q s a) ps qs f h =
+      one_read q (without q (protocols_of a ps)) f
+      ∙ if_yes (told q) _ _ (λ sure. without_read q (protocols_of a ps) f sure ∙ protocols_read a ps qs f h)
+      ∙ sym (one_read q (accessors a qs) f)
+  protocols_read (negated a) ps qs f h = protocols_read a ps qs f h
+  protocols_read (applied o a b) ps qs f h = protocols_read a (protocols_of b ps) (accessors b qs) f (protocols_read b ps qs f h)
+
+  pub relation_same : (c : Comparison) (l r : NumberTree) → reads link (relation_formula link c l r) p n ≡ reads link (formula link (compared c l r)) p n
+  relation_same c l r = protocols_read l (protocols_of r []) (accessors r []) (Compare c l r) (protocols_read r [] [] (Compare c l r) refl)
