@@ -6,7 +6,10 @@ use Rattle.std.proofs.lemmas.Nat.{pow-add}
 use Rattle.std.specs.Int.Digits.{number_from_digits}
 use Rattle.flt_tree.specs.Nets.{first_bits, ip6_mask}
 use Rattle.flt_gen.specs.Laws.{word_mask}
-use Rattle.flt_gen.specs.Primitives.{ip6_tests}
+use Rattle.std.specs.Prelude.{◌==◌, unwrap_or}
+use Rattle.std.proofs.lemmas.Bool.Decides.{nat_tests}
+use Rattle.flt_gen.specs.Primitives.{partial_mask, ip6_tests}
+use Rattle.flt_gen.proofs.Ascending.{if_case}
 
 -- each word lacks a power of 2, the whole word where it has no bit of the mask; so does the mask
 in_first : (a b c d q : ℕ) → a ≤ 2 ^ 32 → b ≡ 2 ^ 32 → c ≡ 2 ^ 32 → d ≡ 2 ^ 32 → q ≡ a * 2 ^ 96
@@ -49,6 +52,16 @@ masks_join bits =
     (cases_lt bits 64))
     (cases_lt bits 32)
 
+-- a mask of all bits, left out, is still that
+partial_is : (m : ℕ) → unwrap_or (partial_mask m) (2 ^ 32 - 1) ≡ m
+partial_is m =
+    if_case (λ o. unwrap_or o (2 ^ 32 - 1) ≡ m) (m == 2 ^ 32 - 1) None (Some m) (λ e. grind (arith, nat_tests)) (λ e. refl)
+
+four_are : (a b c d e f g h : ℕ) → a ≡ e → b ≡ f → c ≡ g → d ≡ h → number_from_digits (2 ^ 32) (a ∷ b ∷ c ∷ d ∷ []) ≡ number_from_digits (2 ^ 32) (e ∷ f ∷ g ∷ h ∷ [])
+four_are a b c d e f g h i j k l = cc
+
 pub joined : (prefix : Option ℕ) (address at : ℕ) → number_from_digits (2 ^ 32) (map word_mask (ip6_tests prefix address at)) ≡ ip6_mask prefix
 joined None address at = refl
-joined (Some bits) address at = masks_join bits
+joined (Some bits) address at =
+    four_are _ _ _ _ _ _ _ _ (partial_is (first_bits 32 (bits - 32 * 0))) (partial_is (first_bits 32 (bits - 32 * 1))) (partial_is (first_bits 32 (bits - 32 * 2))) (partial_is (first_bits 32 (bits - 32 * 3)))
+    ∙ masks_join bits

@@ -1,7 +1,6 @@
 -- The table of primitives: each is a formula of elementary tests.
-use Rattle.std.specs.Prelude.{ℕ, ◌+◌, ◌-◌, ◌*◌, ◌/◌, ◌%◌, ◌^◌, min, max, false, List, [], ◌∷◌, Option, Some, None}
+use Rattle.std.specs.Prelude.{ℕ, ◌+◌, ◌-◌, ◌*◌, ◌/◌, ◌%◌, ◌^◌, ◌==◌, if◌then◌else◌, min, max, false, List, [], ◌∷◌, Option, Some, None}
 use Rattle.cap_octet.specs.Assigned.{IPPROTO_ICMP, IPPROTO_TCP, IPPROTO_UDP, IPPROTO_ICMPV6, ETHERNET_TYPE_OFFSET, LINUX_SLL_TYPE_OFFSET}
-use Rattle.std.specs.Option.{option_map}
 use Rattle.flt_bpf.specs.declared.operation.Width.TheVariants.{Word, HalfWord, Byte}
 use Rattle.flt_words.specs.declared.token.Comparison.TheVariants.{NotEqual, AtMost, AtLeast, Equal}
 use Rattle.flt_words.specs.declared.token.Protocol.{Protocol}
@@ -37,7 +36,7 @@ use Rattle.flt_gen.specs.declared.wanted.Hosts.TheVariants as hosts
 use Rattle.flt_gen.specs.declared.wanted.PortTest.{PortTest}
 use Rattle.flt_gen.specs.declared.wanted.Transport.{Transport}
 use Rattle.flt_gen.specs.declared.wanted.Ports.TheVariants.{One, Between, Several}
-use Rattle.flt_code.specs.Elementary.{is_at, compares_at, network, kind_test, first_fragment, has_ip_proto, has_ip6_proto}
+use Rattle.flt_code.specs.Elementary.{with, is_at, compares_at, network, kind_test, first_fragment, has_ip_proto, has_ip6_proto}
 use Rattle.flt_code.specs.Formula.{Formula, Single, Compare, Guard, Fork, Choose, all_of, guarded_formula, sides, any_sides}
 
 -- protocols; of the kinds of frames at most one is yes
@@ -112,6 +111,10 @@ cast_formula link (Some _) Multicast = Single (Outcome false)
 
 -- IPv4 addresses and networks
 
+-- the mask of a word, where not all of its bits count
+abbrev pub partial_mask : ℕ → Option ℕ
+partial_mask mask = if mask == 2 ^ 32 - 1 then None else Some mask
+
 abbrev pub address_test : Option ℕ → ℕ → Offset → Elementary
 address_test mask address offset =
     Field (record {
@@ -176,7 +179,7 @@ net_test direction mask address = record { direction = direction; mask = mask; a
 
 abbrev pub ip6_test : Option ℕ → ℕ → ℕ → ℕ → Elementary
 ip6_test prefix address at word =
-    address_test (option_map (λ bits. first_bits 32 (bits - 32 * word)) prefix)
+    address_test (with prefix (λ bits. partial_mask (first_bits 32 (bits - 32 * word))))
     (address / 2 ^ (96 - 32 * word) % 2 ^ 32) (Fixed (at + 4 * word))
 
 abbrev pub ip6_tests : Option ℕ → ℕ → ℕ → List Elementary
@@ -279,7 +282,7 @@ host_formula link protocol direction _ = Single (Outcome false)
 -- the network of IPv4 that a value means, if it means one
 abbrev pub ip4_formula : Link → Option Protocol → Direction → Option Ip4Net → Formula
 ip4_formula link protocol direction (Some net) =
-    net_formula link protocol (net_test direction (Some net.mask) net.address)
+    net_formula link protocol (net_test direction (partial_mask net.mask) net.address)
 ip4_formula link protocol direction None = Single (Outcome false)
 
 abbrev pub net_value_formula : Link → Option Protocol → Direction → Value → Formula

@@ -8,7 +8,7 @@ ghost use Rattle.flt_gen.specs.Primitives.{address_test, address_places, net_for
 ghost use Rattle.flt_gen.specs.Primitives.{hosts_sides, any_hosts, hosts_formula};
 ghost use Rattle.flt_gen.specs.Primitives.{ip6_test, ip6_tests, ip6_formula};
 
-use crate::wanted::{Hosts, NetTest};
+use crate::wanted::{Hosts, NetTest, partial_mask};
 use cap_octet::Link;
 use flt_bpf::operation::Width;
 use flt_code::{
@@ -168,7 +168,7 @@ fn ip6_test(prefix: Option<u32>, address: u128, at: u32, word: u32) -> Elementar
 {
     let mask = match prefix {
         None => None,
-        Some(bits) => Some(prefix_mask(bits.saturating_sub(32 * word))),
+        Some(bits) => partial_mask(prefix_mask(bits.saturating_sub(32 * word))),
     };
     let part = address / 2u128.pow(96 - 32 * word) % 0x1_0000_0000;
     address_test(mask, part as u32, Offset::Fixed(at + 4 * word))

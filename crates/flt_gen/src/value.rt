@@ -10,7 +10,7 @@ use crate::address::{emit_hosts, emit_ip6, emit_net};
 use crate::group::Group;
 use crate::port::emit_ports;
 use crate::primitive::{emit_ether_host, emit_proto};
-use crate::wanted::{Hosts, NetTest, PortTest, Ports};
+use crate::wanted::{Hosts, NetTest, PortTest, Ports, partial_mask};
 use flt_bpf::operation::{Operand, Operation, Register, Source};
 use flt_code::{Code, Context, emit_comparison};
 use flt_tree::{CompleteQualifiers, Direction, Value};
@@ -55,7 +55,7 @@ fn emit_net_value<A: Allocator>(
         Value::Ip6(address, prefix) => emit_ip6(code, context, direction, prefix, address),
         _ => match value.ip4_net() {
             Some(net) => {
-                let net = NetTest::new(direction, Some(net.mask), net.address);
+                let net = NetTest::new(direction, partial_mask(net.mask), net.address);
                 emit_net(code, context, protocol, net)
             }
             None => Ok(context.to.no),

@@ -1,7 +1,7 @@
 //! What primitives look for: hosts, networks and ports.
 
 ghost use Rattle.std.specs.Prelude.{◌≡◌};
-ghost use Rattle.flt_gen.specs.Primitives.{net_test, port_test};
+ghost use Rattle.flt_gen.specs.Primitives.{partial_mask, net_test, port_test};
 
 use flt_code::{Elementary, Offset};
 use flt_tree::Direction;
@@ -56,6 +56,13 @@ pub struct NetTest {
     pub direction: Direction,
     pub mask: Option<u32>,
     pub address: u32,
+}
+
+/// The mask of a word, where not all of its bits count.
+pub fn partial_mask(mask: u32) -> Option<u32>
+    ensures { result ≡ partial_mask mask }
+{
+    if mask == u32::MAX { None } else { Some(mask) }
 }
 
 impl NetTest {
