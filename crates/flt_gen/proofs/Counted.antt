@@ -77,7 +77,7 @@ ether_tests_are link (direction.One Destination) a = refl
 ether_tests_are link (direction.Both Or) a = refl
 ether_tests_are link (direction.Both And) a = refl
 
-ip6_tests_are : (link : Link) (d : Direction) (prefix : Option ℕ) (a : ℕ) → tests (ip6_formula link d prefix a) ≡ count.ip6_test_count d
+pub ip6_tests_are : (link : Link) (d : Direction) (prefix : Option ℕ) (a : ℕ) → tests (ip6_formula link d prefix a) ≡ count.ip6_test_count d
 ip6_tests_are link (direction.One Source) prefix a = refl
 ip6_tests_are link (direction.One Destination) prefix a = refl
 ip6_tests_are link (direction.Both Or) prefix a = refl
@@ -250,7 +250,7 @@ bare_all [] = bare_one _
 bare_all (t ∷ []) = bare_one t
 bare_all (t ∷ u ∷ ts) = bare_both (Single t) (all_of (u ∷ ts)) (bare_one t) (bare_all (u ∷ ts))
 
-bare_sides : (d : Direction) (s t : List Elementary) → Bare (sides d s t)
+pub bare_sides : (d : Direction) (s t : List Elementary) → Bare (sides d s t)
 bare_sides (direction.One Source) s t = bare_all s
 bare_sides (direction.One Destination) s t = bare_all t
 bare_sides (direction.Both Or) s t = bare_either (all_of s) (all_of t) (bare_all s) (bare_all t)

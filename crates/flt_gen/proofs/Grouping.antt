@@ -23,7 +23,7 @@ use Rattle.flt_gen.specs.declared.wanted.Hosts.TheVariants as hosts
 use Rattle.flt_gen.specs.declared.wanted.Ports.TheVariants.{One, Several}
 use Rattle.flt_code.specs.Formula.{Formula, Compare, Both, Either, Except, is_one_of, both, either, negation, reads}
 use Rattle.flt_gen.specs.Primitives.{net_test, net_formula, hosts_formula, port_test, port_formula, qualified_formula, value_formula}
-use Rattle.flt_gen.specs.Emitted.{protocols_of, relation_formula}
+use Rattle.flt_gen.specs.Emitted.{protocols_of, relation_formula, qualified_needed}
 use Rattle.flt_gen.specs.Reading.{formula}
 use Rattle.flt_gen.specs.Counts.{tests, nodes, words}
 use Rattle.flt_gen.specs.Group.{Group, no_group, insert_ascending, with_member, same_type, same_protocol, same_direction, goes_with, member_number, group_and, larger_group, one_formula, several_formula, formula_by, group_formula, or_any, or_group, truth_member, choice, grouped_formula, MOST_TOGETHER}
@@ -31,6 +31,7 @@ use Rattle.flt_short.proofs.Basics.{both_true}
 use Rattle.flt_gen.proofs.Ascending.{Ascending, Searchable, ascending_inserted, length_inserted, one_of_inserted}
 use Rattle.flt_gen.proofs.Exclusive.{Apt, ip_no_arp, ip_no_rarp, arp_no_rarp}
 use Rattle.flt_gen.proofs.Counted.{Bare, bare_one, bare_guard, bare_choice, bare_any, bare_net, bare_ports, net_tests_fit, port_tests_by, port_tests_fit, tests_fit, nodes_fit, words_fit, formula_apt, same_sizes, checked_apt, left_false, right_false}
+use Rattle.flt_gen.proofs.Needed.{bare_needed, needed_tests_fit, value_same}
 use Rattle.flt_gen.proofs.Once.{relation_tests, relation_same}
 use Rattle.flt_gen.proofs.Together.{Merged, Common, together, more_together, plain_together}
 
@@ -393,8 +394,21 @@ relation_stands link c l r group k =
       reads_are = λ p n. relation_same link p n c l r;
     })
 
-value_stands : (link : Link) (q : CompleteQualifiers) (v : Value) (group : Group) → Kept group → any_primitive is_unfilled (qualified q v) ≡ false → (o : Option Group) → larger_group q v group ≡ o → StandsBy link (choice o (λ more. group_formula link more) (or_group link (qualified_formula link q v) group)) (qualified_formula link q v) (count.value_tests q v) group
-value_stands link q v group k u None e = leaf_stands link (qualified q v) group k u
+needed_stands : (link : Link) (q : CompleteQualifiers) (v : Value) (group : Group) → Kept group → StandsBy link (or_group link (qualified_needed link q v) group) (qualified_formula link q v) (count.value_tests q v) group
+needed_stands link q v group k =
+    let b = bare_needed link q.value_type q.protocol q.direction v in
+    let l = needed_tests_fit link q.value_type q.protocol q.direction v in
+    or_stands link (qualified_needed link q v) (qualified_formula link q v) (count.value_tests q v) group k
+    (record {
+      nodes_are = b.no_nodes ∙ sym (nodes_fit link (qualified q v));
+      words_are = b.no_words ∙ sym (words_fit link (qualified q v));
+      apt = b.apt;
+      tests_fit = omega arith;
+      reads_are = λ p n. value_same link p n q.value_type q.protocol q.direction v;
+    })
+
+value_stands : (link : Link) (q : CompleteQualifiers) (v : Value) (group : Group) → Kept group → any_primitive is_unfilled (qualified q v) ≡ false → (o : Option Group) → larger_group q v group ≡ o → StandsBy link (choice o (λ more. group_formula link more) (or_group link (qualified_needed link q v) group)) (qualified_formula link q v) (count.value_tests q v) group
+value_stands link q v group k u None e = needed_stands link q v group k
 value_stands link q v group k u (Some more) e =
     let t = taken link q v group more k e in
     let f = group_fit link more t.kept t.some in

@@ -16,6 +16,7 @@ pub mod Room
 pub mod Counted
 pub mod Together
 pub mod Once
+pub mod Needed
 pub mod Grouping
 pub mod Whole
 pub mod Turned

@@ -7,7 +7,7 @@ use Rattle.flt_words.specs.declared.token.Join.TheVariants.{And, Or}
 use Rattle.flt_tree.specs.declared.qualifiers.CompleteQualifiers.{CompleteQualifiers}
 use Rattle.flt_tree.specs.declared.value.Value.{Value}
 use Rattle.flt_code.specs.Formula.{Formula}
-use Rattle.flt_gen.specs.Emitted.{with_accessor}
+use Rattle.flt_gen.specs.Emitted.{with_accessor, qualified_needed}
 use Rattle.flt_gen.specs.Group.{Group, MOST_TOGETHER, same_type, same_protocol, same_direction, goes_with, with_member, member_number, group_and, larger_group, group_formula}
 use Rattle.flt_gen.proofs.Ascending.{length_inserted}
 use Rattle.flt_short.proofs.Basics.{both_true}
@@ -21,7 +21,7 @@ use Rattle.flt_gen.specs.declared.waiting.Pending.TheVariants as next
 use Rattle.flt_gen.specs.declared.waiting.Waiting.{Waiting}
 use Rattle.flt_gen.specs.declared.waiting.Waiting.TheVariants.{Index, Left}
 use Rattle.flt_code.specs.Numbers.{width_of}
-use Rattle.flt_gen.specs.Primitives.{check_formula, cast_formula, sized_formula, qualified_formula}
+use Rattle.flt_gen.specs.Primitives.{check_formula, cast_formula, sized_formula}
 use Rattle.flt_code.specs.Follow.{nothing}
 use Rattle.flt_words.specs.declared.token.Operator.{Operator}
 use Rattle.flt_words.specs.declared.token.Comparison.{Comparison}
@@ -149,7 +149,7 @@ more_few q v group more e = by_address (member_number q.value_type v) e
 value_grown : (link : Link) (q : CompleteQualifiers) (v : Value) (w : Walk) → IsLow w → (o : Option Group) → larger_group q v w.group ≡ o → Grown w (emit_value link q v w o)
 value_grown link q v w h None e =
     let g = flushed_grown link w h in
-    grown_after w (flush_group link w) (emit_value link q v w None) g (formula_grown link (qualified_formula link q v) (flush_group link w) g.low)
+    grown_after w (flush_group link w) (emit_value link q v w None) g (formula_grown link (qualified_needed link q v) (flush_group link w) g.low)
 value_grown link q v w h (Some more) e = by_pending w.pending
   where
     by_pending : (k : Pending) → Grown w (finish_group link w more k)

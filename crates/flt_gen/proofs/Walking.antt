@@ -11,7 +11,7 @@ use Rattle.flt_tree.specs.declared.node.Node.TheVariants.{Apply, Compare, Litera
 use Rattle.flt_bpf.specs.declared.operation.Operand.TheVariants.{Constant, IndexRegister}
 use Rattle.flt_words.specs.declared.token.Operator.{Operator}
 use Rattle.flt_code.specs.declared.elementary.Elementary.TheVariants.{Outcome}
-use Rattle.flt_gen.specs.Primitives.{check_formula, cast_formula, sized_formula, qualified_formula}
+use Rattle.flt_gen.specs.Primitives.{check_formula, cast_formula, sized_formula}
 use Rattle.flt_gen.specs.Group.{Group, no_group, larger_group, truth_member, choice, or_any, or_group, group_formula, grouped_formula}
 use Rattle.flt_tree.specs.Tree.{NumberTree, literal, len, named, load, negated, applied, TruthTree, check, cast, sized, bare, valued, qualified, compared, denied, joined, Expression, empty, truth}
 use Rattle.flt_tree.specs.Nodes.{number_onto, truth_onto, expr_onto}
@@ -19,7 +19,7 @@ use Rattle.cap_octet.specs.declared.link.Link.{Link}
 use Rattle.flt_code.specs.declared.code.Targets.{Targets}
 use Rattle.flt_gen.specs.declared.waiting.LeftTruth.{LeftTruth}
 use Rattle.flt_gen.specs.declared.waiting.Pending.TheVariants as next
-use Rattle.flt_gen.specs.Emitted.{protocols_of, relation_formula}
+use Rattle.flt_gen.specs.Emitted.{protocols_of, relation_formula, qualified_needed}
 use Rattle.flt_code.specs.Formula.{Formula, Single, Both, Either, Except, Compare as compare}
 use Rattle.flt_gen.specs.Reading.{formula}
 use Rattle.flt_code.specs.Follow.{nothing}
@@ -68,8 +68,8 @@ leaf_put : (link : Link) (f : Formula) (c : List Insn) (to : Targets) (ts : List
 leaf_put link f c to ts group [] = refl
 leaf_put link f c to ts group (b ∷ bs) = refl
 
-value_walked : (link : Link) (q : CompleteQualifiers) (v : Value) (c : List Insn) (to : Targets) (ts : List LeftTruth) (group : Group) (o : Option Group) → emit_value link q v (waiting c to ts group) o ≡ emit_of link (choice o (λ more. group_formula link more) (or_group link (qualified_formula link q v) group)) c to ts
-value_walked link q v c to ts group None = leaf_put link (qualified_formula link q v) c to ts group group.numbers
+value_walked : (link : Link) (q : CompleteQualifiers) (v : Value) (c : List Insn) (to : Targets) (ts : List LeftTruth) (group : Group) (o : Option Group) → emit_value link q v (waiting c to ts group) o ≡ emit_of link (choice o (λ more. group_formula link more) (or_group link (qualified_needed link q v) group)) c to ts
+value_walked link q v c to ts group None = leaf_put link (qualified_needed link q v) c to ts group group.numbers
 value_walked link q v c to ts group (Some more) = refl
 
 -- a comparison behind the group that waits: a constant that is its right operand is in the test

@@ -1,11 +1,23 @@
 -- Formulas of which code is emitted, where they aren't those of the table: they read the same.
-use Rattle.std.specs.Prelude.{Bool, true, false, if◌then◌else◌, List, [], ◌∷◌}
+use Rattle.std.specs.Prelude.{ℕ, ◌+◌, ◌==◌, ◌&&◌, Bool, true, false, if◌then◌else◌, List, [], ◌∷◌, Option, Some, None}
 use Rattle.flt_words.specs.declared.token.Comparison.{Comparison}
+use Rattle.flt_words.specs.declared.token.Comparison.TheVariants.{AtLeast}
+use Rattle.flt_words.specs.declared.token.ValueType.{ValueType}
+use Rattle.flt_words.specs.declared.token.ValueType.TheVariants.{Net}
 use Rattle.flt_words.specs.declared.token.Protocol.{Protocol}
 use Rattle.flt_words.specs.declared.token.Protocol.TheVariants.{Ether, Ip, Ip6, Arp, Rarp, Tcp, Udp, Icmp, Icmp6}
+use Rattle.flt_tree.specs.declared.qualifiers.Direction.{Direction}
+use Rattle.flt_tree.specs.declared.qualifiers.CompleteQualifiers.{CompleteQualifiers}
+use Rattle.flt_tree.specs.declared.value.Value.{Value}
+use Rattle.flt_tree.specs.declared.value.Value.TheVariants as value
 use Rattle.flt_tree.specs.Tree.{NumberTree, literal, len, named, load, negated, applied}
 use Rattle.cap_octet.specs.declared.link.Link.{Link}
-use Rattle.flt_code.specs.Formula.{Formula, Compare, checked_formula}
+use Rattle.flt_code.specs.declared.elementary.FrameKind.TheVariants as kind
+use Rattle.flt_code.specs.declared.elementary.Elementary.{Elementary}
+use Rattle.flt_code.specs.declared.elementary.Elementary.TheVariants.{Outcome, Field}
+use Rattle.flt_code.specs.Elementary.{network, kind_test}
+use Rattle.flt_code.specs.Formula.{Formula, Compare, Guard, checked_formula, sides}
+use Rattle.flt_gen.specs.Primitives.{ip6_tests, net_value_formula, value_formula}
 
 -- ---- the tests of a protocol's accessors stand once in front of a comparison
 
@@ -43,3 +55,54 @@ protocols_of (applied operator l r) rest = protocols_of l (protocols_of r rest)
 abbrev pub relation_formula : Link → Comparison → NumberTree → NumberTree → Formula
 relation_formula link c l r =
     checked_formula link (protocols_of l (protocols_of r [])) (Compare c l r)
+
+-- ---- a word of an IPv6 address of which no bit counts is loaded only where that decides
+
+-- a test of a word of which no bit counts, and which is 0: it is yes wherever the word is captured
+abbrev pub is_empty : Option ℕ → Bool
+is_empty None = false
+is_empty (Some mask) = mask == 0
+
+abbrev pub is_idle : Elementary → Bool
+is_idle (Outcome b) = false
+is_idle (Field t) = is_empty t.mask && t.value == 0
+
+-- the test that is yes wherever the word is captured
+abbrev pub captured : Elementary → Elementary
+captured (Outcome b) = Outcome b
+captured (Field t) = Field (record t { mask = None; comparison = AtLeast; value = 0 })
+
+abbrev pub last_test : Elementary → Elementary
+last_test t = if is_idle t then captured t else t
+
+-- of tests of words, each behind the one before: where a word isn't captured, no later one is. So
+-- an idle test in front of another one is left out
+abbrev pub needed_tests : List Elementary → List Elementary
+needed_tests [] = []
+needed_tests (t ∷ []) = last_test t ∷ []
+needed_tests (t ∷ u ∷ ts) =
+    if is_idle t then needed_tests (u ∷ ts) else t ∷ needed_tests (u ∷ ts)
+
+abbrev pub needed_sides : Direction → List Elementary → List Elementary → Formula
+needed_sides direction source destination =
+    sides direction (needed_tests source) (needed_tests destination)
+
+abbrev pub ip6_needed : Link → Direction → Option ℕ → ℕ → Formula
+ip6_needed link direction prefix address =
+    Guard (kind_test link kind.Ip6)
+    (needed_sides direction (ip6_tests prefix address (network link + 8))
+    (ip6_tests prefix address (network link + 24)))
+
+abbrev pub net_needed : Link → Option Protocol → Direction → Value → Formula
+net_needed link protocol direction (value.Ip6 address prefix) =
+    ip6_needed link direction prefix address
+net_needed link protocol direction v = net_value_formula link protocol direction v
+
+abbrev pub value_needed : Link → ValueType → Option Protocol → Direction → Value → Formula
+value_needed link Net protocol direction v = net_needed link protocol direction v
+value_needed link value_type protocol direction v =
+    value_formula link value_type protocol direction v
+
+-- a value with its qualifiers
+abbrev pub qualified_needed : Link → CompleteQualifiers → Value → Formula
+qualified_needed link q v = value_needed link q.value_type q.protocol q.direction v

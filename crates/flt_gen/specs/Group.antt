@@ -17,8 +17,8 @@ use Rattle.flt_gen.specs.declared.wanted.Ports.TheVariants.{One, Several}
 use Rattle.flt_gen.specs.declared.wanted.Hosts.TheVariants as hosts
 use Rattle.flt_code.specs.declared.elementary.Elementary.TheVariants.{Outcome}
 use Rattle.flt_code.specs.Formula.{Formula, Single, Both, Either, Except}
-use Rattle.flt_gen.specs.Primitives.{net_test, net_formula, hosts_formula, port_test, port_formula, qualified_formula}
-use Rattle.flt_gen.specs.Emitted.{relation_formula}
+use Rattle.flt_gen.specs.Primitives.{net_test, net_formula, hosts_formula, port_test, port_formula}
+use Rattle.flt_gen.specs.Emitted.{relation_formula, qualified_needed}
 use Rattle.flt_gen.specs.Reading.{formula}
 
 -- the type of its members, the protocol and the direction that are asked for; the address or port
@@ -150,6 +150,6 @@ grouped_formula link group (denied a) =
     or_group link (Except (grouped_formula link no_group a)) group
 grouped_formula link group (qualified q v) =
     choice (larger_group q v group) (λ more. group_formula link more)
-    (or_group link (qualified_formula link q v) group)
+    (or_group link (qualified_needed link q v) group)
 grouped_formula link group (compared c l r) = or_group link (relation_formula link c l r) group
 grouped_formula link group a = or_group link (formula link a) group

@@ -20,9 +20,9 @@ use Rattle.flt_gen.specs.declared.waiting.Waiting.{Waiting}
 use Rattle.flt_gen.specs.declared.waiting.Waiting.TheVariants.{Index, Left}
 use Rattle.flt_code.specs.Numbers.{width_of}
 use Rattle.flt_code.specs.Formula.{Formula}
-use Rattle.flt_gen.specs.Emitted.{with_accessor}
+use Rattle.flt_gen.specs.Emitted.{with_accessor, qualified_needed}
 use Rattle.flt_gen.specs.Group.{Group, no_group, larger_group, group_formula}
-use Rattle.flt_gen.specs.Primitives.{check_formula, cast_formula, sized_formula, qualified_formula}
+use Rattle.flt_gen.specs.Primitives.{check_formula, cast_formula, sized_formula}
 use Rattle.flt_code.specs.Follow.{nothing}
 use Rattle.flt_code.specs.Code.{plain, emit_comparison, emit_accessor, computation, takes, emit_operands, Block, block, emit_formula}
 use Rattle.flt_gen.specs.ProgramCode.{emit_accessors, returns_code}
@@ -131,7 +131,7 @@ finish_group link w group next.Nothing =
     finish_formula link (group_formula link group) (record w { group = no_group })
 
 abbrev pub emit_value : Link → CompleteQualifiers → Value → Walk → Option Group → Walk
-emit_value link q v w None = finish_formula link (qualified_formula link q v) (flush_group link w)
+emit_value link q v w None = finish_formula link (qualified_needed link q v) (flush_group link w)
 emit_value link q v w (Some group) = finish_group link w group w.pending
 
 abbrev pub emit_join : Link → Join → Walk → Walk

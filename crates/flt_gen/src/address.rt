@@ -3,10 +3,12 @@
 ghost use Rattle.std.specs.Prelude.{◌≡◌, ◌+◌, ◌*◌, ◌≤◌, length};
 ghost use Rattle.flt_tree.specs.Nets.{first_bits};
 ghost use Rattle.flt_code.specs.Elementary.{kind_test};
-ghost use Rattle.flt_code.specs.Emits.{HasRoom, EmitsFormula, EmitsBehind};
+ghost use Rattle.flt_code.specs.Emits.{HasRoom, Emits, EmitsFormula, EmitsBehind};
 ghost use Rattle.flt_gen.specs.Primitives.{address_test, address_places, net_formula};
 ghost use Rattle.flt_gen.specs.Primitives.{hosts_sides, any_hosts, hosts_formula};
-ghost use Rattle.flt_gen.specs.Primitives.{ip6_test, ip6_tests, ip6_formula};
+ghost use Rattle.flt_gen.specs.Primitives.{ip6_test, ip6_tests};
+ghost use Rattle.flt_gen.specs.Emitted.{is_idle, last_test, needed_tests, needed_sides, ip6_needed};
+ghost use Rattle.flt_code.specs.Code.{emit_all};
 
 use crate::wanted::{Hosts, NetTest, partial_mask};
 use cap_octet::Link;
@@ -16,7 +18,7 @@ use flt_code::{
     emit_elementary, emit_sides, kind_test, network,
 };
 use flt_tree::Direction;
-use flt_words::{Comparison, Protocol};
+use flt_words::{Comparison, Join, Protocol, Side};
 use std::alloc::{AllocError, Allocator};
 
 /// The word at a place is an address, as far as the mask goes.
@@ -186,6 +188,84 @@ fn ip6_tests(prefix: Option<u32>, address: u128, at: u32) -> [Elementary; 4]
     ]
 }
 
+/// A test of a word of which no bit counts: it is yes wherever the word is captured.
+fn is_idle(test: Elementary) -> bool
+    ensures { result ≡ is_idle test }
+{
+    match test {
+        Elementary::Field(field) => field.mask == Some(0) && field.value == 0,
+        Elementary::Outcome(_) => false,
+    }
+}
+
+/// The last test of some words. One of which no bit counts only loads its word.
+fn last_test(test: Elementary) -> Elementary
+    ensures { result ≡ last_test test }
+{
+    match test {
+        Elementary::Field(field) if is_idle(test) => Elementary::Field(FieldTest {
+            mask: None,
+            comparison: Comparison::AtLeast,
+            value: 0,
+            ..field
+        }),
+        _ => test,
+    }
+}
+
+/// All of some tests of words, each behind the one before. One of which no bit counts is left out
+/// in front of another: where its word isn't captured, no later one is.
+#[tactic(auto, using(flt_code::proofs::Joined::all_emitted))]
+fn emit_words<A: Allocator>(
+    code: &mut Code<A>,
+    context: Context,
+    tests: &[Elementary],
+) -> Result<usize, AllocError>
+    requires { HasRoom (6 * length tests.now) code.old }
+    ensures { Emits (6 * length tests.now) result
+        (emit_all context.known (needed_tests tests.now) context.to.yes context.to.no code.old)
+        code.old code.new }
+{
+    match tests {
+        [] => Ok(context.to.yes),
+        [only] => emit_elementary(code, context, last_test(*only)),
+        [first, others @ ..] => {
+            let yes = emit_words(code, context, others)?;
+            if is_idle(*first) {
+                return Ok(yes);
+            }
+            emit_elementary(code, context.going_to(yes, context.to.no), *first)
+        }
+    }
+}
+
+/// The words of the source and of the destination, as a direction asks for them.
+#[tactic(auto, using(flt_code::proofs::Joined::all_emitted))]
+fn emit_word_sides<A: Allocator>(
+    code: &mut Code<A>,
+    context: Context,
+    direction: Direction,
+    source: &[Elementary],
+    destination: &[Elementary],
+) -> Result<usize, AllocError>
+    requires { HasRoom (6 * (length source.now + length destination.now)) code.old }
+    ensures { EmitsFormula (6 * (length source.now + length destination.now)) result context
+        (needed_sides direction source.now destination.now) code.old code.new }
+{
+    match direction {
+        Direction::One(Side::Source) => emit_words(code, context, source),
+        Direction::One(Side::Destination) => emit_words(code, context, destination),
+        Direction::Both(Join::Or) => {
+            let no = emit_words(code, context, destination)?;
+            emit_words(code, context.going_to(context.to.yes, no), source)
+        }
+        Direction::Both(Join::And) => {
+            let yes = emit_words(code, context, destination)?;
+            emit_words(code, context.going_to(yes, context.to.no), source)
+        }
+    }
+}
+
 /// `host` and `net` of IPv6, with the length of the prefix where not the whole address counts.
 pub fn emit_ip6<A: Allocator>(
     code: &mut Code<A>,
@@ -195,13 +275,13 @@ pub fn emit_ip6<A: Allocator>(
     address: u128,
 ) -> Result<usize, AllocError>
     requires { HasRoom 54 code.old }
-    ensures { EmitsFormula 54 result context (ip6_formula context.link direction prefix address)
+    ensures { EmitsFormula 54 result context (ip6_needed context.link direction prefix address)
         code.old code.new }
 {
     let start = network(context.link);
     let source = ip6_tests(prefix, address, start + 8);
     let destination = ip6_tests(prefix, address, start + 24);
     let kind = kind_test(context.link, FrameKind::Ip6);
-    let yes = emit_sides(code, context.behind(kind), direction, &source, &destination)?;
+    let yes = emit_word_sides(code, context.behind(kind), direction, &source, &destination)?;
     emit_elementary(code, context.going_to(yes, context.to.no), kind)
 }

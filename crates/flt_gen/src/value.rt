@@ -2,8 +2,9 @@
 
 ghost use Rattle.std.specs.Prelude.{◌+◌, ◌*◌, length};
 ghost use Rattle.flt_code.specs.Emits.{HasRoom, EmitsFormula};
-ghost use Rattle.flt_gen.specs.Primitives.{host_formula, net_value_formula, qualified_formula};
+ghost use Rattle.flt_gen.specs.Primitives.{host_formula};
 ghost use Rattle.flt_gen.specs.Primitives.{sized_formula};
+ghost use Rattle.flt_gen.specs.Emitted.{net_needed, qualified_needed};
 ghost use Rattle.flt_gen.specs.Group.{group_formula};
 
 use crate::address::{emit_hosts, emit_ip6, emit_net};
@@ -48,7 +49,7 @@ fn emit_net_value<A: Allocator>(
 ) -> Result<usize, AllocError>
     requires { HasRoom 72 code.old }
     ensures { EmitsFormula 72 result context
-        (net_value_formula context.link protocol direction value)
+        (net_needed context.link protocol direction value)
         code.old code.new }
 {
     match value {
@@ -71,7 +72,7 @@ pub fn emit_qualified<A: Allocator>(
     value: Value,
 ) -> Result<usize, AllocError>
     requires { HasRoom 96 code.old }
-    ensures { EmitsFormula 96 result context (qualified_formula context.link qualifiers value)
+    ensures { EmitsFormula 96 result context (qualified_needed context.link qualifiers value)
         code.old code.new }
 {
     let (protocol, direction) = (qualifiers.protocol, qualifiers.direction);
