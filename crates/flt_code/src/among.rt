@@ -1,7 +1,7 @@
 //! The code of the question whether a field, or one of two, is one of some numbers.
 
-ghost use Rattle.std.specs.Prelude.{◌≡◌, ◌+◌, ◌-◌, ◌*◌, length};
-ghost use Rattle.flt_code.specs.Formula.{whole_field, any_sides};
+ghost use Rattle.std.specs.Prelude.{◌≡◌, ◌≤◌, ◌+◌, ◌-◌, ◌*◌, length};
+ghost use Rattle.flt_code.specs.Formula.{whole_field, without_end, any_sides};
 ghost use Rattle.flt_code.specs.Code.{emit_chain, emit_search};
 ghost use Rattle.flt_code.specs.Formula.{Among};
 ghost use Rattle.flt_code.specs.Emits.{HasRoom, Emits, EmitsFormula};
@@ -97,6 +97,23 @@ fn whole_field(offset: Offset, width: Width) -> MaskedField
     }
 }
 
+/// The numbers without the first, where that is the least or the greatest of several.
+fn without_end(first: u32, numbers: &[u32]) -> &[u32]
+    ensures numbers { result.now ≡ without_end first numbers.now }
+    ensures upper_bound { length result.now ≤ length numbers.now }
+{
+    let count = numbers.len();
+    if count < 2 {
+        numbers
+    } else if numbers[0] == first {
+        &numbers[1..]
+    } else if numbers[count - 1] == first {
+        &numbers[..count - 1]
+    } else {
+        numbers
+    }
+}
+
 /// One of several numbers on a side, or on either. The source is compared with the first number
 /// alone before the destination is looked at, as by tests of one number after the other.
 pub fn emit_any_sides<A: Allocator>(
@@ -118,7 +135,8 @@ pub fn emit_any_sides<A: Allocator>(
         Direction::One(Side::Source) => emit_among(code, context, source, numbers),
         Direction::One(Side::Destination) => emit_among(code, context, destination, numbers),
         Direction::Both(Join::Or) => {
-            let no = emit_among(code, context, source, numbers)?;
+            let others = without_end(first, numbers);
+            let no = emit_among(code, context, source, others)?;
             let no = emit_among(code, context.going_to(yes, no), destination, numbers)?;
             let first = compares_at(at.source, at.width, Comparison::Equal, first);
             emit_elementary(code, context.going_to(yes, no), first)

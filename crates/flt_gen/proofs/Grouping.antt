@@ -28,7 +28,7 @@ use Rattle.flt_gen.specs.Reading.{formula}
 use Rattle.flt_gen.specs.Counts.{tests, nodes, words}
 use Rattle.flt_gen.specs.Group.{Group, no_group, insert_ascending, with_member, same_type, same_protocol, same_direction, goes_with, member_number, group_and, larger_group, one_formula, several_formula, formula_by, group_formula, or_any, or_group, truth_member, choice, grouped_formula, MOST_TOGETHER}
 use Rattle.flt_short.proofs.Basics.{both_true}
-use Rattle.flt_gen.proofs.Ascending.{Ascending, Searchable, ascending_inserted, length_inserted, one_of_inserted}
+use Rattle.flt_gen.proofs.Ascending.{Ascending, Searchable, others_fewer, ascending_inserted, length_inserted, one_of_inserted}
 use Rattle.flt_gen.proofs.Exclusive.{Apt, ip_no_arp, ip_no_rarp, arp_no_rarp}
 use Rattle.flt_gen.proofs.Counted.{Bare, bare_one, bare_guard, bare_choice, bare_any, bare_net, bare_ports, net_tests_fit, port_tests_by, port_tests_fit, tests_fit, nodes_fit, words_fit, formula_apt, same_sizes, checked_apt, left_false, right_false}
 use Rattle.flt_gen.proofs.Needed.{bare_needed, needed_tests_fit, value_same}
@@ -91,19 +91,19 @@ group_tests group = length group.numbers * member_tests group.value_type group.p
 several_hosts_tests : (link : Link) (protocol : Option Protocol) (d : Direction) (f : ℕ) (bs : List ℕ) → 2 ≤ length bs → tests (hosts_formula link protocol (hosts.Several d f) bs) ≤ length bs * count.ip4_tests protocol d
 several_hosts_tests link None (direction.One Source) f bs l = omega arith
 several_hosts_tests link None (direction.One Destination) f bs l = omega arith
-several_hosts_tests link None (direction.Both Or) f bs l = omega arith
+several_hosts_tests link None (direction.Both Or) f bs l = let s = others_fewer f bs in omega arith
 several_hosts_tests link None (direction.Both And) f bs l = omega arith
 several_hosts_tests link (Some Ip) (direction.One Source) f bs l = omega arith
 several_hosts_tests link (Some Ip) (direction.One Destination) f bs l = omega arith
-several_hosts_tests link (Some Ip) (direction.Both Or) f bs l = omega arith
+several_hosts_tests link (Some Ip) (direction.Both Or) f bs l = let s = others_fewer f bs in omega arith
 several_hosts_tests link (Some Ip) (direction.Both And) f bs l = omega arith
 several_hosts_tests link (Some Arp) (direction.One Source) f bs l = omega arith
 several_hosts_tests link (Some Arp) (direction.One Destination) f bs l = omega arith
-several_hosts_tests link (Some Arp) (direction.Both Or) f bs l = omega arith
+several_hosts_tests link (Some Arp) (direction.Both Or) f bs l = let s = others_fewer f bs in omega arith
 several_hosts_tests link (Some Arp) (direction.Both And) f bs l = omega arith
 several_hosts_tests link (Some Rarp) (direction.One Source) f bs l = omega arith
 several_hosts_tests link (Some Rarp) (direction.One Destination) f bs l = omega arith
-several_hosts_tests link (Some Rarp) (direction.Both Or) f bs l = omega arith
+several_hosts_tests link (Some Rarp) (direction.Both Or) f bs l = let s = others_fewer f bs in omega arith
 several_hosts_tests link (Some Rarp) (direction.Both And) f bs l = omega arith
 several_hosts_tests link (Some _) (direction.One Source) f bs l = omega arith
 several_hosts_tests link (Some _) (direction.One Destination) f bs l = omega arith
@@ -112,11 +112,11 @@ several_hosts_tests link (Some _) (direction.Both j) f bs l = omega arith
 several_ports_tests : (link : Link) (protocol : Option Protocol) (d : Direction) (f : ℕ) (bs : List ℕ) → 2 ≤ length bs → tests (port_formula link (port_test protocol d (Several f)) bs) ≤ length bs * count.port_tests protocol d 1
 several_ports_tests link None (direction.One Source) f bs l = let t = port_tests_by link None (direction.One Source) (Several f) bs in omega arith
 several_ports_tests link None (direction.One Destination) f bs l = let t = port_tests_by link None (direction.One Destination) (Several f) bs in omega arith
-several_ports_tests link None (direction.Both Or) f bs l = let t = port_tests_by link None (direction.Both Or) (Several f) bs in omega arith
+several_ports_tests link None (direction.Both Or) f bs l = let s = others_fewer f bs in let t = port_tests_by link None (direction.Both Or) (Several f) bs in omega arith
 several_ports_tests link None (direction.Both And) f bs l = let t = port_tests_by link None (direction.Both And) (Several f) bs in omega arith
 several_ports_tests link (Some q) (direction.One Source) f bs l = let t = port_tests_by link (Some q) (direction.One Source) (Several f) bs in omega arith
 several_ports_tests link (Some q) (direction.One Destination) f bs l = let t = port_tests_by link (Some q) (direction.One Destination) (Several f) bs in omega arith
-several_ports_tests link (Some q) (direction.Both Or) f bs l = let t = port_tests_by link (Some q) (direction.Both Or) (Several f) bs in omega arith
+several_ports_tests link (Some q) (direction.Both Or) f bs l = let s = others_fewer f bs in let t = port_tests_by link (Some q) (direction.Both Or) (Several f) bs in omega arith
 several_ports_tests link (Some q) (direction.Both And) f bs l = let t = port_tests_by link (Some q) (direction.Both And) (Several f) bs in omega arith
 
 several_tests : (link : Link) (k : ValueType) (protocol : Option Protocol) (d : Direction) (f : ℕ) (bs : List ℕ) → 2 ≤ length bs → tests (several_formula link k protocol d f bs) ≤ length bs * member_tests k protocol d

@@ -23,9 +23,9 @@ use Rattle.flt_gen.specs.declared.wanted.Transport.{Transport}
 use Rattle.flt_code.specs.Elementary.{Reading, Yes, No, Rejected, reading_of, with, field_at, compares_at, kind_test, elementary_reads}
 use Rattle.flt_code.specs.Formula.{Formula, is_one_of, both, either, sides, reads}
 use Rattle.flt_gen.specs.Primitives.{address_places, net_test, net_formula, hosts_formula, port_places, port_sides, transport, behind, transport_ports, ip_transport, ip6_transport, port_test, port_formula}
-use Rattle.flt_code.specs.Formula.{any_sides}
+use Rattle.flt_code.specs.Formula.{without_end, any_sides}
 use Rattle.flt_gen.specs.Group.{insert_ascending, one_formula, several_formula}
-use Rattle.flt_gen.proofs.Ascending.{one_of_inserted}
+use Rattle.flt_gen.proofs.Ascending.{one_of_inserted, one_of_others}
 use Rattle.flt_gen.proofs.Exclusive.{ip_no_ip6, ip_no_arp, ip_no_rarp, arp_no_rarp}
 
 yes_or : (b c : Bool) → reading_of (Some (b || c)) ≡ either (reading_of (Some b)) (reading_of (Some c))
@@ -70,6 +70,26 @@ two_sides (Some x) (Some y) a f bs h =
     first : (x == f) ≡ true → is_one_of x bs ≡ true
     first e = let same : x ≡ f = grind (arith, nat_tests) in ap (λ z. is_one_of z bs) same ∙ h
 
+-- behind the first the source is looked for among the others
+abbrev all_numbers : Option ℕ → Option ℕ → ℕ → List ℕ → Reading
+all_numbers os od a bs =
+    either (reading_of (with os (λ x. Some (x == a)))) (either (reading_of (with od (λ x. Some (is_one_of x bs)))) (reading_of (with os (λ x. Some (is_one_of x bs)))))
+
+abbrev other_numbers : Option ℕ → Option ℕ → ℕ → List ℕ → Reading
+other_numbers os od a bs =
+    either (reading_of (with os (λ x. Some (x == a)))) (either (reading_of (with od (λ x. Some (is_one_of x bs)))) (reading_of (with os (λ x. Some (is_one_of x (without_end a bs))))))
+
+others_enough : (os od : Option ℕ) (a : ℕ) (bs : List ℕ) → other_numbers os od a bs ≡ all_numbers os od a bs
+others_enough None od a bs = refl
+others_enough (Some x) od a bs = by_first (x == a) refl
+  where
+    d : Reading
+    d = reading_of (with od (λ y. Some (is_one_of y bs)))
+
+    by_first : (b : Bool) → (x == a) ≡ b → either (exact b) (either d (exact (is_one_of x (without_end a bs)))) ≡ either (exact b) (either d (exact (is_one_of x bs)))
+    by_first true e = refl
+    by_first false e = ap (λ c. either d (exact c)) (one_of_others x a bs e)
+
 -- those that are looked for together: not both sides at once
 abbrev pub Merged : Direction → Type 0
 Merged (direction.Both And) = ⊥
@@ -90,7 +110,12 @@ module _ (link : Link) (p : List ℕ) (n : ℕ) where
   sides_more : (at : Sides) (d : Direction) (a f : ℕ) (bs : List ℕ) → Merged d → is_one_of f bs ≡ true → side_reads at d a (insert_ascending a bs) ≡ either (side_reads at d a (a ∷ [])) (side_reads at d f bs)
   sides_more at (direction.One Source) a f bs m h = one_side (field_at at.source at.width p) a bs
   sides_more at (direction.One Destination) a f bs m h = one_side (field_at at.destination at.width p) a bs
-  sides_more at (direction.Both Or) a f bs m h = two_sides (field_at at.source at.width p) (field_at at.destination at.width p) a f bs h
+  sides_more at (direction.Both Or) a f bs m h =
+      let s = field_at at.source at.width p in
+      let t = field_at at.destination at.width p in
+      others_enough s t a (insert_ascending a bs)
+      ∙ two_sides s t a f bs h
+      ∙ ap (λ r. either (all_numbers s t a (a ∷ [])) r) (sym (others_enough s t f bs))
   sides_more at (direction.Both And) a f bs m h = absurd m
 
   plain_one : (o : Option ℕ) (a : ℕ) → reading_of (with o (λ x. Some (x == a))) ≡ reading_of (with o (λ x. Some (is_one_of x (a ∷ []))))
