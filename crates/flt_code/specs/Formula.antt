@@ -1,5 +1,5 @@
 -- Tests joined by and, or and not, and how they are read.
-use Rattle.std.specs.Prelude.{ℕ, ◌-◌, ◌==◌, ◌||◌, nat_lt, if◌then◌else◌, Bool, true, false, List, [], ◌∷◌, length, take, drop, get_or, Some, None}
+use Rattle.std.specs.Prelude.{ℕ, ◌==◌, ◌||◌, nat_lt, if◌then◌else◌, Bool, true, false, List, [], ◌∷◌, length, Some, None}
 use Rattle.flt_bpf.specs.declared.operation.Width.{Width}
 use Rattle.flt_words.specs.declared.token.Comparison.{Comparison}
 use Rattle.flt_words.specs.declared.token.Comparison.TheVariants.{Equal}
@@ -111,13 +111,14 @@ sides (direction.Both And) source destination = Both (all_of source) (all_of des
 abbrev pub whole_field : Offset → Width → MaskedField
 whole_field offset width = record { offset = offset; width = width; mask = None }
 
--- the numbers without the first, where that is the least or the greatest of several
-abbrev pub without_end : ℕ → List ℕ → List ℕ
-without_end first numbers =
-    if nat_lt (length numbers) 2 then numbers
-    else (if get_or numbers 0 0 == first then drop 1 numbers
-    else (if get_or numbers (length numbers - 1) 0 == first then take (length numbers - 1) numbers
-    else numbers))
+-- the numbers without one of them
+abbrev pub without : ℕ → List ℕ → List ℕ
+without a [] = []
+without a (v ∷ vs) = if v == a then vs else v ∷ without a vs
+
+-- those that are left behind the first, of which there is one at least
+abbrev pub others : ℕ → List ℕ → List ℕ
+others first numbers = if nat_lt (length numbers) 2 then numbers else without first numbers
 
 abbrev pub any_sides : Direction → Sides → ℕ → List ℕ → Formula
 any_sides (direction.One Source) at first numbers = Among (whole_field at.source at.width) numbers
@@ -126,5 +127,5 @@ any_sides (direction.One Destination) at first numbers =
 any_sides (direction.Both Or) at first numbers =
     Either (Single (compares_at at.source at.width Equal first))
     (Either (Among (whole_field at.destination at.width) numbers)
-    (Among (whole_field at.source at.width) (without_end first numbers)))
+    (Among (whole_field at.source at.width) (others first numbers)))
 any_sides (direction.Both And) at first numbers = Single (Outcome false)

@@ -1,7 +1,7 @@
 //! The code of the question whether a field, or one of two, is one of some numbers.
 
-ghost use Rattle.std.specs.Prelude.{◌≡◌, ◌≤◌, ◌+◌, ◌-◌, ◌*◌, length};
-ghost use Rattle.flt_code.specs.Formula.{whole_field, without_end, any_sides};
+ghost use Rattle.std.specs.Prelude.{◌≡◌, ◌≤◌, ◌<◌, ◌+◌, ◌-◌, ◌*◌, ◌++◌, length, take, drop, get_or};
+ghost use Rattle.flt_code.specs.Formula.{whole_field, without, others, any_sides};
 ghost use Rattle.flt_code.specs.Code.{emit_chain, emit_search};
 ghost use Rattle.flt_code.specs.Formula.{Among};
 ghost use Rattle.flt_code.specs.Emits.{HasRoom, Emits, EmitsFormula};
@@ -40,39 +40,74 @@ fn emit_chain<A: Allocator>(
     }
 }
 
-/// The same of numbers that ascend, by halves.
+/// The same of numbers in two slices, the second behind the first.
+#[tactic(auto, using(crate::proofs::Search::chain_both))]
+fn emit_chains<A: Allocator>(
+    code: &mut Code<A>,
+    lower: &[u32],
+    upper: &[u32],
+    to: Targets,
+) -> Result<usize, AllocError>
+    requires { HasRoom (3 * length lower.now + 3 * length upper.now) code.old }
+    ensures { Emits (3 * length lower.now + 3 * length upper.now) result
+        (emit_chain (lower.now ++ upper.now) to.yes to.no code.old) code.old code.new }
+{
+    let no = emit_chain(code, upper, to)?;
+    emit_chain(code, lower, Targets { yes: to.yes, no })
+}
+
+/// The number at a place of two slices, the second behind the first.
+fn number_at(lower: &[u32], upper: &[u32], at: usize) -> u32
+    requires { at < length lower.now + length upper.now }
+    ensures { result ≡ get_or (lower.now ++ upper.now) at 0 }
+{
+    if at < lower.len() {
+        lower[at]
+    } else {
+        upper[at - lower.len()]
+    }
+}
+
+/// The same of numbers that ascend, by halves. They stand in two slices, the second behind the
+/// first.
 #[tactic(auto, unfolding(crate::specs::Code::emit_search))]
 fn emit_search<A: Allocator>(
     code: &mut Code<A>,
     levels: usize,
-    values: &[u32],
+    lower: &[u32],
+    upper: &[u32],
     to: Targets,
 ) -> Result<usize, AllocError>
-    requires { HasRoom (6 * (length values.now - 1) + 3) code.old }
-    ensures { Emits (6 * (length values.now - 1) + 3) result
-        (emit_search levels values.now to.yes to.no code.old) code.old code.new }
+    requires { HasRoom (6 * (length lower.now + length upper.now - 1) + 3) code.old }
+    ensures { Emits (6 * (length lower.now + length upper.now - 1) + 3) result
+        (emit_search levels (lower.now ++ upper.now) to.yes to.no code.old) code.old code.new }
 {
-    if levels == 0 || values.len() < 2 {
-        return emit_chain(code, values, to);
+    let count = lower.len() + upper.len();
+    if levels == 0 || count < 2 {
+        return emit_chains(code, lower, upper, to);
     }
-    let half = values.len() / 2;
-    let yes = emit_search(code, levels - 1, &values[half..], to)?;
-    let no = emit_search(code, levels - 1, &values[..half], to)?;
+    let half = count / 2;
+    let cut = half.min(lower.len());
+    let yes = emit_search(code, levels - 1, &lower[cut..], &upper[half - cut..], to)?;
+    let no = emit_search(code, levels - 1, &lower[..cut], &upper[..half - cut], to)?;
     let to = Targets { yes, no };
-    code.emit_branch(Test::AtLeast, Operand::Constant, values[half], to)?;
+    let pivot = number_at(lower, upper, half);
+    code.emit_branch(Test::AtLeast, Operand::Constant, pivot, to)?;
     Ok(code.top())
 }
 
-/// Whether a field is one of some numbers, which ascend. The result is where the code begins.
+/// Whether a field is one of some numbers, which ascend and stand in two slices, the second behind
+/// the first. The result is where the code begins.
 fn emit_among<A: Allocator>(
     code: &mut Code<A>,
     context: Context,
     field: MaskedField,
-    values: &[u32],
+    lower: &[u32],
+    upper: &[u32],
 ) -> Result<usize, AllocError>
-    requires { HasRoom (6 * length values.now + 6) code.old }
-    ensures { EmitsFormula (6 * length values.now + 6) result context (Among field values.now)
-        code.old code.new }
+    requires { HasRoom (6 * (length lower.now + length upper.now) + 6) code.old }
+    ensures { EmitsFormula (6 * (length lower.now + length upper.now) + 6) result context
+        (Among field (lower.now ++ upper.now)) code.old code.new }
 {
     let test = Elementary::Outcome(true);
     let always = Fact { test, truth: true };
@@ -81,7 +116,7 @@ fn emit_among<A: Allocator>(
         yes: code.target(known, field.offset, always, to.yes),
         no: code.target(known, field.offset, always, to.no),
     };
-    emit_search(code, LEVELS, values, to)?;
+    emit_search(code, LEVELS, lower, upper, to)?;
     emit_masked(code, field.mask, field.offset, field.width)?;
     Ok(code.top())
 }
@@ -97,21 +132,34 @@ fn whole_field(offset: Offset, width: Width) -> MaskedField
     }
 }
 
-/// The numbers without the first, where that is the least or the greatest of several.
-fn without_end(first: u32, numbers: &[u32]) -> &[u32]
-    ensures numbers { result.now ≡ without_end first numbers.now }
-    ensures upper_bound { length result.now ≤ length numbers.now }
+/// Where a number stands first among others, or their end.
+#[tactic(auto, using(crate::proofs::Search::without_at))]
+fn place_of(number: u32, numbers: &[u32]) -> usize
+    ensures upper_bound { result ≤ length numbers.now }
+    ensures place { take result numbers.now ++ drop (result + 1) numbers.now
+        ≡ without number numbers.now }
 {
-    let count = numbers.len();
-    if count < 2 {
-        numbers
-    } else if numbers[0] == first {
-        &numbers[1..]
-    } else if numbers[count - 1] == first {
-        &numbers[..count - 1]
-    } else {
-        numbers
+    let mut at = 0;
+    // The label names the loop in its proof.
+    'other: while at < numbers.len() && numbers[at] != number {
+        at += 1;
     }
+    at
+}
+
+/// The numbers that are left behind the first, in two slices, the second behind the first.
+fn others(first: u32, numbers: &[u32]) -> (&[u32], &[u32])
+    ensures numbers { result.0.now ++ result.1.now ≡ others first numbers.now }
+    ensures upper_bound { length result.0.now + length result.1.now ≤ length numbers.now }
+{
+    if numbers.len() < 2 {
+        return (numbers, &[]);
+    }
+    let at = place_of(first, numbers);
+    if at == numbers.len() {
+        return (numbers, &[]);
+    }
+    (&numbers[..at], &numbers[at + 1..])
 }
 
 /// One of several numbers on a side, or on either. The source is compared with the first number
@@ -132,12 +180,12 @@ pub fn emit_any_sides<A: Allocator>(
     let destination = whole_field(at.destination, at.width);
     let yes = context.to.yes;
     match direction {
-        Direction::One(Side::Source) => emit_among(code, context, source, numbers),
-        Direction::One(Side::Destination) => emit_among(code, context, destination, numbers),
+        Direction::One(Side::Source) => emit_among(code, context, source, numbers, &[]),
+        Direction::One(Side::Destination) => emit_among(code, context, destination, numbers, &[]),
         Direction::Both(Join::Or) => {
-            let others = without_end(first, numbers);
-            let no = emit_among(code, context, source, others)?;
-            let no = emit_among(code, context.going_to(yes, no), destination, numbers)?;
+            let (lower, upper) = others(first, numbers);
+            let no = emit_among(code, context, source, lower, upper)?;
+            let no = emit_among(code, context.going_to(yes, no), destination, numbers, &[])?;
             let first = compares_at(at.source, at.width, Comparison::Equal, first);
             emit_elementary(code, context.going_to(yes, no), first)
         }

@@ -3,7 +3,7 @@ use Rattle.std.proofs.Common.{◌≡◌, ℕ, zero, suc, ◌+◌, ◌-◌, ◌<�
 use Rattle.std.specs.Prelude.{nat_lt, ◌==◌, ◌||◌, if◌then◌else◌}
 use Rattle.std.specs.List.{insert}
 use Rattle.std.proofs.lemmas.Bool.Decides.{nat_tests}
-use Rattle.flt_code.specs.Formula.{is_one_of, without_end}
+use Rattle.flt_code.specs.Formula.{is_one_of, without, others}
 use Rattle.flt_gen.specs.Group.{insert_ascending}
 
 -- by a test
@@ -131,42 +131,47 @@ upper_half x (suc h) (v ∷ vs) up l m =
     let low = at_least v h vs up.0 (omega arith) in
     head_of_half x h vs (omega arith) (omega arith))
 
--- the numbers without one at an end
-one_of_rest : (x a : ℕ) (vs : List ℕ) → 1 ≤ length vs → get_or vs 0 0 ≡ a → (x == a) ≡ false → is_one_of x (drop 1 vs) ≡ is_one_of x vs
-one_of_rest x a [] l e apart = absurd (omega arith)
-one_of_rest x a (v ∷ vs) l e apart = ap (λ b. b || is_one_of x vs) (sym (ap (λ w. x == w) e ∙ apart))
+-- the numbers without one of them
+one_of_without : (x a : ℕ) (vs : List ℕ) → (x == a) ≡ false → is_one_of x (without a vs) ≡ is_one_of x vs
+one_of_without x a [] apart = refl
+one_of_without x a (v ∷ vs) apart =
+    if_case (λ ws. is_one_of x ws ≡ is_one_of x (v ∷ vs)) (v == a) vs (v ∷ without a vs)
+    (λ e. let same : v ≡ a = grind (arith, nat_tests) in sym (ap (λ b. b || is_one_of x vs) (ap (λ w. x == w) same ∙ apart)))
+    (λ e. ap (λ b. x == v || b) (one_of_without x a vs apart))
 
-one_of_front : (x a k : ℕ) (vs : List ℕ) → length vs ≡ suc k → get_or vs k 0 ≡ a → (x == a) ≡ false → is_one_of x (take k vs) ≡ is_one_of x vs
-one_of_front x a k [] l e apart = absurd (omega arith)
-one_of_front x a zero (v ∷ []) l e apart = sym (ap (λ b. b || false) (ap (λ w. x == w) e ∙ apart))
-one_of_front x a zero (v ∷ w ∷ vs) l e apart = absurd (omega arith)
-one_of_front x a (suc k) (v ∷ vs) l e apart = ap (λ b. x == v || b) (one_of_front x a k vs (omega arith) e apart)
-
--- by which end it is
-by_end : (P : List ℕ → Type 0) (a : ℕ) (vs : List ℕ) → P vs → (2 ≤ length vs → get_or vs 0 0 ≡ a → P (drop 1 vs)) → (2 ≤ length vs → get_or vs (length vs - 1) 0 ≡ a → P (take (length vs - 1) vs)) → P (without_end a vs)
-by_end P a vs all rest front =
-    if_case P (nat_lt (length vs) 2) _ _ (λ e. all)
-    (λ e. let many : 2 ≤ length vs = grind (arith, nat_tests) in
-    if_case P (get_or vs 0 0 == a) _ _ (λ f. rest many (let same : get_or vs 0 0 ≡ a = grind (arith, nat_tests) in same))
-    (λ f. if_case P (get_or vs (length vs - 1) 0 == a) _ _ (λ g. front many (let same : get_or vs (length vs - 1) 0 ≡ a = grind (arith, nat_tests) in same)) (λ g. all)))
-
-pub one_of_others : (x a : ℕ) (vs : List ℕ) → (x == a) ≡ false → is_one_of x (without_end a vs) ≡ is_one_of x vs
+pub one_of_others : (x a : ℕ) (vs : List ℕ) → (x == a) ≡ false → is_one_of x (others a vs) ≡ is_one_of x vs
 one_of_others x a vs apart =
-    by_end (λ ws. is_one_of x ws ≡ is_one_of x vs) a vs refl
-    (λ many e. one_of_rest x a vs (omega arith) e apart)
-    (λ many e. one_of_front x a (length vs - 1) vs (omega arith) e apart)
+    if_case (λ ws. is_one_of x ws ≡ is_one_of x vs) (nat_lt (length vs) 2) vs (without a vs) (λ e. refl) (λ e. one_of_without x a vs apart)
 
-pub others_fewer : (a : ℕ) (vs : List ℕ) → length (without_end a vs) ≤ length vs
+-- one fewer at most
+without_length : (a : ℕ) (vs : List ℕ) → (length (without a vs) ≤ length vs) × (length vs ≤ length (without a vs) + 1)
+without_length a [] = (omega arith, omega arith)
+without_length a (v ∷ vs) =
+    if_case (λ ws. (length ws ≤ length (v ∷ vs)) × (length (v ∷ vs) ≤ length ws + 1)) (v == a) vs (v ∷ without a vs)
+    (λ e. (omega arith, omega arith))
+    (λ e. let h = without_length a vs in let l = h.0 in let m = h.1 in (omega arith, omega arith))
+
+pub others_fewer : (a : ℕ) (vs : List ℕ) → length (others a vs) ≤ length vs
 others_fewer a vs =
-    by_end (λ ws. length ws ≤ length vs) a vs (omega arith)
-    (λ many e. omega (arith, length-drop 1 vs)) (λ many e. omega (arith, length-take (length vs - 1) vs))
+    if_case (λ ws. length ws ≤ length vs) (nat_lt (length vs) 2) vs (without a vs) (λ e. omega arith) (λ e. (without_length a vs).0)
+
+all_from_without : (b a : ℕ) (vs : List ℕ) → AllFrom b vs → AllFrom b (without a vs)
+all_from_without b a [] h = tt
+all_from_without b a (v ∷ vs) h =
+    if_case (λ ws. AllFrom b ws) (v == a) vs (v ∷ without a vs) (λ e. h.1) (λ e. (h.0, all_from_without b a vs h.1))
+
+ascending_without : (a : ℕ) (vs : List ℕ) → Ascending vs → Ascending (without a vs)
+ascending_without a [] h = tt
+ascending_without a (v ∷ vs) h =
+    if_case (λ ws. Ascending ws) (v == a) vs (v ∷ without a vs) (λ e. h.1) (λ e. (all_from_without v a vs h.0, ascending_without a vs h.1))
 
 searchable_some : (vs : List ℕ) → 1 ≤ length vs → Ascending vs → Searchable vs
 searchable_some [] l h = absurd (omega arith)
 searchable_some (v ∷ vs) l h = h
 
-pub others_searchable : (a : ℕ) (vs : List ℕ) → Searchable vs → Searchable (without_end a vs)
+pub others_searchable : (a : ℕ) (vs : List ℕ) → Searchable vs → Searchable (others a vs)
 others_searchable a vs h =
-    by_end Searchable a vs h
-    (λ many e. searchable_some (drop 1 vs) (omega (arith, length-drop 1 vs)) (ascending_drop 1 vs (searchable_ascends vs h)))
-    (λ many e. searchable_some (take (length vs - 1) vs) (omega (arith, length-take (length vs - 1) vs)) (ascending_take (length vs - 1) vs (searchable_ascends vs h)))
+    if_case Searchable (nat_lt (length vs) 2) vs (without a vs) (λ e. h)
+    (λ e. let many : 2 ≤ length vs = grind (arith, nat_tests) in
+    let l = (without_length a vs).1 in
+    searchable_some (without a vs) (omega arith) (ascending_without a vs (searchable_ascends vs h)))
