@@ -117,8 +117,8 @@ without a [] = []
 without a (v ∷ vs) = if v == a then vs else v ∷ without a vs
 
 -- those that are left behind the first, of which there is one at least
-abbrev pub others : ℕ → List ℕ → List ℕ
-others first numbers = if nat_lt (length numbers) 2 then numbers else without first numbers
+abbrev pub remaining : ℕ → List ℕ → List ℕ
+remaining first numbers = if nat_lt (length numbers) 2 then numbers else without first numbers
 
 abbrev pub any_sides : Direction → Sides → ℕ → List ℕ → Formula
 any_sides (direction.One Source) at first numbers = Among (whole_field at.source at.width) numbers
@@ -127,5 +127,5 @@ any_sides (direction.One Destination) at first numbers =
 any_sides (direction.Both Or) at first numbers =
     Either (Single (compares_at at.source at.width Equal first))
     (Either (Among (whole_field at.destination at.width) numbers)
-    (Among (whole_field at.source at.width) (others first numbers)))
+    (Among (whole_field at.source at.width) (remaining first numbers)))
 any_sides (direction.Both And) at first numbers = Single (Outcome false)

@@ -1,7 +1,7 @@
 //! The code of the question whether a field, or one of two, is one of some numbers.
 
 ghost use Rattle.std.specs.Prelude.{◌≡◌, ◌≤◌, ◌<◌, ◌+◌, ◌-◌, ◌*◌, ◌++◌, length, take, drop, get_or};
-ghost use Rattle.flt_code.specs.Formula.{whole_field, without, others, any_sides};
+ghost use Rattle.flt_code.specs.Formula.{whole_field, without, remaining, any_sides};
 ghost use Rattle.flt_code.specs.Code.{emit_chain, emit_search};
 ghost use Rattle.flt_code.specs.Formula.{Among};
 ghost use Rattle.flt_code.specs.Emits.{HasRoom, Emits, EmitsFormula};
@@ -68,7 +68,7 @@ fn number_at(lower: &[u32], upper: &[u32], at: usize) -> u32
     }
 }
 
-/// The same of numbers that ascend, by halves. They stand in two slices, the second behind the
+/// The same of numbers that ascend, by halves. They are in two slices, the second behind the
 /// first.
 #[tactic(auto, unfolding(crate::specs::Code::emit_search))]
 fn emit_search<A: Allocator>(
@@ -96,7 +96,7 @@ fn emit_search<A: Allocator>(
     Ok(code.top())
 }
 
-/// Whether a field is one of some numbers, which ascend and stand in two slices, the second behind
+/// Whether a field is one of some numbers, which ascend and are in two slices, the second behind
 /// the first. The result is where the code begins.
 fn emit_among<A: Allocator>(
     code: &mut Code<A>,
@@ -148,8 +148,8 @@ fn place_of(number: u32, numbers: &[u32]) -> usize
 }
 
 /// The numbers that are left behind the first, in two slices, the second behind the first.
-fn others(first: u32, numbers: &[u32]) -> (&[u32], &[u32])
-    ensures numbers { result.0.now ++ result.1.now ≡ others first numbers.now }
+fn remaining(first: u32, numbers: &[u32]) -> (&[u32], &[u32])
+    ensures numbers { result.0.now ++ result.1.now ≡ remaining first numbers.now }
     ensures upper_bound { length result.0.now + length result.1.now ≤ length numbers.now }
 {
     if numbers.len() < 2 {
@@ -183,7 +183,7 @@ pub fn emit_any_sides<A: Allocator>(
         Direction::One(Side::Source) => emit_among(code, context, source, numbers, &[]),
         Direction::One(Side::Destination) => emit_among(code, context, destination, numbers, &[]),
         Direction::Both(Join::Or) => {
-            let (lower, upper) = others(first, numbers);
+            let (lower, upper) = remaining(first, numbers);
             let no = emit_among(code, context, source, lower, upper)?;
             let no = emit_among(code, context.going_to(yes, no), destination, numbers, &[])?;
             let first = compares_at(at.source, at.width, Comparison::Equal, first);

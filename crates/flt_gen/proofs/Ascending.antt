@@ -1,9 +1,9 @@
 -- Numbers that ascend.
-use Rattle.std.proofs.Common.{◌≡◌, ℕ, zero, suc, ◌+◌, ◌-◌, ◌<◌, ◌≤◌, List, [], ◌∷◌, length, take, drop, get_or, Bool, true, false, refl, ap, ◌∙◌, sym, arith, length-drop, length-take}
+use Rattle.std.proofs.Common.{◌≡◌, ℕ, zero, suc, ◌+◌, ◌<◌, ◌≤◌, List, [], ◌∷◌, length, take, drop, get_or, Bool, true, false, refl, ap, ◌∙◌, sym, arith}
 use Rattle.std.specs.Prelude.{nat_lt, ◌==◌, ◌||◌, if◌then◌else◌}
 use Rattle.std.specs.List.{insert}
 use Rattle.std.proofs.lemmas.Bool.Decides.{nat_tests}
-use Rattle.flt_code.specs.Formula.{is_one_of, without, others}
+use Rattle.flt_code.specs.Formula.{is_one_of, without, remaining}
 use Rattle.flt_gen.specs.Group.{insert_ascending}
 
 -- by a test
@@ -139,7 +139,7 @@ one_of_without x a (v ∷ vs) apart =
     (λ e. let same : v ≡ a = grind (arith, nat_tests) in sym (ap (λ b. b || is_one_of x vs) (ap (λ w. x == w) same ∙ apart)))
     (λ e. ap (λ b. x == v || b) (one_of_without x a vs apart))
 
-pub one_of_others : (x a : ℕ) (vs : List ℕ) → (x == a) ≡ false → is_one_of x (others a vs) ≡ is_one_of x vs
+pub one_of_others : (x a : ℕ) (vs : List ℕ) → (x == a) ≡ false → is_one_of x (remaining a vs) ≡ is_one_of x vs
 one_of_others x a vs apart =
     if_case (λ ws. is_one_of x ws ≡ is_one_of x vs) (nat_lt (length vs) 2) vs (without a vs) (λ e. refl) (λ e. one_of_without x a vs apart)
 
@@ -151,7 +151,7 @@ without_length a (v ∷ vs) =
     (λ e. (omega arith, omega arith))
     (λ e. let h = without_length a vs in let l = h.0 in let m = h.1 in (omega arith, omega arith))
 
-pub others_fewer : (a : ℕ) (vs : List ℕ) → length (others a vs) ≤ length vs
+pub others_fewer : (a : ℕ) (vs : List ℕ) → length (remaining a vs) ≤ length vs
 others_fewer a vs =
     if_case (λ ws. length ws ≤ length vs) (nat_lt (length vs) 2) vs (without a vs) (λ e. omega arith) (λ e. (without_length a vs).0)
 
@@ -169,7 +169,7 @@ searchable_some : (vs : List ℕ) → 1 ≤ length vs → Ascending vs → Searc
 searchable_some [] l h = absurd (omega arith)
 searchable_some (v ∷ vs) l h = h
 
-pub others_searchable : (a : ℕ) (vs : List ℕ) → Searchable vs → Searchable (others a vs)
+pub others_searchable : (a : ℕ) (vs : List ℕ) → Searchable vs → Searchable (remaining a vs)
 others_searchable a vs h =
     if_case Searchable (nat_lt (length vs) 2) vs (without a vs) (λ e. h)
     (λ e. let many : 2 ≤ length vs = grind (arith, nat_tests) in

@@ -32,7 +32,7 @@ use Rattle.flt_code.specs.Elementary.{has_ip_proto, has_ip6_proto}
 use Rattle.flt_code.specs.Numbers.{accessors, accessor_tests}
 use Rattle.flt_code.specs.Formula.{Formula, Single, Compare, Both, Either, Guard, Choose, Among, all_of, sides, checked_formula, guarded_formula}
 use Rattle.flt_gen.specs.Primitives.{any_proto, mac_tests, check_formula, cast_formula, proto_formula, hosts_of_kind, net_formula, net_test, ip6_formula, ether_host, port_formula, port_test, port_places, port_sides, ports_behind, ip_transport, ip6_transport, transport, value_formula}
-use Rattle.flt_code.specs.Formula.{whole_field, others, any_sides}
+use Rattle.flt_code.specs.Formula.{whole_field, remaining, any_sides}
 use Rattle.flt_gen.specs.Reading.{formula}
 use Rattle.flt_gen.specs.Counts.{tests, nodes, words}
 use Rattle.flt_gen.specs.declared.wanted.NetTest.{NetTest}
@@ -335,7 +335,7 @@ pub bare_any : (d : Direction) (at : Sides) (f : ℕ) (bs : List ℕ) → Search
 bare_any (direction.One Source) at f bs h = bare_among at.source at.width bs h
 bare_any (direction.One Destination) at f bs h = bare_among at.destination at.width bs h
 bare_any (direction.Both Or) at f bs h =
-    bare_either _ _ (bare_one _) (bare_either _ _ (bare_among at.destination at.width bs h) (bare_among at.source at.width (others f bs) (others_searchable f bs h)))
+    bare_either _ _ (bare_one _) (bare_either _ _ (bare_among at.destination at.width bs h) (bare_among at.source at.width (remaining f bs) (others_searchable f bs h)))
 bare_any (direction.Both And) at f bs h = bare_one _
 
 -- ports of a list beside ascend

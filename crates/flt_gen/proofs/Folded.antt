@@ -24,7 +24,7 @@ use Rattle.flt_code.specs.declared.elementary.Elementary.{Elementary}
 use Rattle.flt_code.specs.Code.{constant, alu_operation}
 use Rattle.flt_gen.specs.Reading.{formula, holds}
 use Rattle.flt_gen.specs.Counts.{short_bound_of}
-use Rattle.flt_gen.specs.Folding.{negated_constant, applied_constant, number_or, negated_number, applied_number, folded_number, folded_truth, folded, latest_constant, node_or, with_negation, with_operator, with_folded}
+use Rattle.flt_gen.specs.Folding.{negated_constant, applied_constant, number_or, negated_number, applied_number, folded_number, folded_truth, folded_expression, latest_constant, node_or, with_negation, with_operator, with_folded}
 use Rattle.flt_gen.proofs.Numbers.{constant_is}
 
 -- the machine's arithmetic is that of expressions
@@ -164,15 +164,15 @@ no_more (joined j a b) =
     let tb = g.tests in
     record { size = omega arith; words = omega arith; tests = omega arith }
 
-pub words_no_more : (e : Expression) → words_of (folded e) ≤ words_of e
+pub words_no_more : (e : Expression) → words_of (folded_expression e) ≤ words_of e
 words_no_more empty = omega arith
 words_no_more (truth a) = (no_more a).words
 
-pub bound_no_more : (e : Expression) → bound_of (folded e) ≤ bound_of e
+pub bound_no_more : (e : Expression) → bound_of (folded_expression e) ≤ bound_of e
 bound_no_more empty = omega arith
 bound_no_more (truth a) = let h = no_more a in let s = h.size in let t = h.tests in omega arith
 
-pub short_no_more : (e : Expression) → short_bound_of (folded e) ≤ short_bound_of e
+pub short_no_more : (e : Expression) → short_bound_of (folded_expression e) ≤ short_bound_of e
 short_no_more empty = omega arith
 short_no_more (truth a) = let h = no_more a in let s = h.size in let t = h.tests in omega arith
 
@@ -187,7 +187,7 @@ filled_truth (compared c a b) = refl
 filled_truth (denied a) = filled_truth a
 filled_truth (joined j a b) = ap (λ x. x || any_primitive is_unfilled (folded_truth b)) (filled_truth a) ∙ ap (λ x. any_primitive is_unfilled a || x) (filled_truth b)
 
-pub filled_folded : (e : Expression) → some_primitive is_unfilled e ≡ false → some_primitive is_unfilled (folded e) ≡ false
+pub filled_folded : (e : Expression) → some_primitive is_unfilled e ≡ false → some_primitive is_unfilled (folded_expression e) ≡ false
 filled_folded empty h = h
 filled_folded (truth a) h = filled_truth a ∙ h
 
@@ -256,7 +256,7 @@ module _ (p : List ℕ) (n : ℕ) where
   truth_folded link (joined join.And a b) = ap (λ r. both r (reads link (formula link (folded_truth b)) p n)) (truth_folded link a) ∙ ap (λ r. both (reads link (formula link a) p n) r) (truth_folded link b)
   truth_folded link (joined join.Or a b) = ap (λ r. either r (reads link (formula link (folded_truth b)) p n)) (truth_folded link a) ∙ ap (λ r. either (reads link (formula link a) p n) r) (truth_folded link b)
 
-  pub holds_folded : (link : Link) (e : Expression) → holds (folded e) link p n ≡ holds e link p n
+  pub holds_folded : (link : Link) (e : Expression) → holds (folded_expression e) link p n ≡ holds e link p n
   holds_folded link empty = refl
   holds_folded link (truth a) = truth_folded link a
 
@@ -319,13 +319,13 @@ truth_put (compared c a b) d rest = number_put a d _ ∙ number_put b _ _
 truth_put (denied a) d rest = truth_put a d _
 truth_put (joined j a b) d rest = truth_put a d _ ∙ truth_put b _ _
 
-pub nodes_folded : (e : Expression) → fold with_folded [] (expr_nodes e) ≡ expr_onto (folded e)
+pub nodes_folded : (e : Expression) → fold with_folded [] (expr_nodes e) ≡ expr_onto (folded_expression e)
 nodes_folded empty = refl
 nodes_folded (truth a) = truth_put a [] []
 
 -- ---- a program of the folded expression is one of the expression
 
-pub folded_decides : (prog : List Insn) (e : Expression) (link : Link) → IsProgramOf prog (folded e) link → IsProgramOf prog e link
+pub folded_decides : (prog : List Insn) (e : Expression) (link : Link) → IsProgramOf prog (folded_expression e) link → IsProgramOf prog e link
 folded_decides prog e link h =
     record {
       bounded = omega (arith, h.bounded, bound_no_more e);
@@ -340,5 +340,5 @@ folded_decides prog e link h =
           };
     }
 
-pub folded_short : (prog : List Insn) (e : Expression) → IsShort prog (short_bound_of (folded e)) → IsShort prog (short_bound_of e)
+pub folded_short : (prog : List Insn) (e : Expression) → IsShort prog (short_bound_of (folded_expression e)) → IsShort prog (short_bound_of e)
 folded_short prog e h = let s = h.short in record { no_jump = h.no_jump; short = omega (arith, short_no_more e) }

@@ -21,12 +21,12 @@ use Rattle.flt_code.specs.declared.elementary.FrameKind.TheVariants as kind
 use Rattle.flt_code.specs.declared.elementary.Offset.TheVariants.{Fixed}
 use Rattle.flt_code.specs.declared.elementary.Elementary.{Elementary}
 use Rattle.flt_code.specs.Elementary.{Reading, Yes, No, Rejected, reading_of, with, under_mask, network, kind_test, elementary_reads}
-use Rattle.flt_code.specs.Formula.{Formula, both, either, all_of, sides, reads}
+use Rattle.flt_code.specs.Formula.{both, either, all_of, sides, reads}
 use Rattle.flt_gen.specs.Counts.{tests}
 use Rattle.flt_gen.specs.Primitives.{partial_mask, address_test, ip6_test, ip6_tests, ip6_formula, value_formula}
-use Rattle.flt_gen.specs.Emitted.{is_empty, is_idle, captured, last_test, needed_tests, needed_sides, ip6_needed, value_needed}
+use Rattle.flt_gen.specs.Emitted.{is_empty, is_idle, capture_test, last_test, needed_tests, needed_sides, ip6_needed, value_needed}
 use Rattle.flt_gen.proofs.Ascending.{if_case}
-use Rattle.flt_gen.proofs.Counted.{Bare, bare_guard, bare_sides, bare_value, value_tests_fit, ip6_tests_are}
+use Rattle.flt_gen.proofs.Counted.{Bare, bare_guard, bare_sides, bare_value, value_tests_fit}
 
 -- no more tests
 fewer : (ts : List Elementary) → length (needed_tests ts) ≤ length ts
@@ -173,7 +173,7 @@ module _ (link : Link) (p : List ℕ) (n : ℕ) where
 
       of_word : (mask : Option ℕ) (a : ℕ) → elementary_reads (last_test (address_test mask a (Fixed at))) p ≡ elementary_reads (address_test mask a (Fixed at)) p
       of_word mask a =
-          if_case (λ x. elementary_reads x p ≡ elementary_reads (address_test mask a (Fixed at)) p) (is_empty mask && a == 0) (captured (address_test mask a (Fixed at))) (address_test mask a (Fixed at))
+          if_case (λ x. elementary_reads x p ≡ elementary_reads (address_test mask a (Fixed at)) p) (is_empty mask && a == 0) (capture_test (address_test mask a (Fixed at))) (address_test mask a (Fixed at))
           (λ e. captured_same mask a e (field p at Word)) (λ e. refl)
 
   needed_same : (at : ℕ) (ts : List Elementary) → Words at ts → reads link (all_of (needed_tests ts)) p n ≡ reads link (all_of ts) p n

@@ -1,6 +1,5 @@
 -- The tests of a protocol's accessors stand once: the formula reads the same, and has no more tests.
-use Rattle.std.proofs.Common.{◌≡◌, ℕ, ◌+◌, ◌≤◌, List, [], ◌∷◌, Bool, true, false, refl, sym, ap, ◌∙◌, arith}
-use Rattle.std.specs.Prelude.{if◌then◌else◌}
+use Rattle.std.proofs.Common.{◌≡◌, ℕ, ◌+◌, ◌≤◌, List, [], ◌∷◌, true, refl, sym, ap, ◌∙◌, arith}
 use Rattle.flt_words.specs.declared.token.Comparison.{Comparison}
 use Rattle.flt_words.specs.declared.token.Protocol.{Protocol}
 use Rattle.flt_words.specs.declared.token.Protocol.TheVariants.{Ether, Ip, Ip6, Arp, Rarp, Tcp, Udp, Icmp, Icmp6}
@@ -12,7 +11,7 @@ use Rattle.flt_code.specs.Elementary.{Reading, Yes, No, Rejected, elementary_rea
 use Rattle.flt_code.specs.Numbers.{accessors, accessor_tests}
 use Rattle.flt_code.specs.Formula.{Formula, Compare, both, reads, guarded_formula, checked_formula}
 use Rattle.flt_gen.specs.Counts.{tests}
-use Rattle.flt_gen.specs.Emitted.{equals, without, with_accessor, protocols_of, relation_formula}
+use Rattle.flt_gen.specs.Emitted.{equals, without_protocol, protocols_of, relation_formula}
 use Rattle.flt_gen.specs.Reading.{formula}
 use Rattle.flt_gen.proofs.Ascending.{if_case}
 use Rattle.flt_gen.proofs.Counted.{accessor_tests_are}
@@ -38,13 +37,13 @@ equal_are Icmp _ e = cc
 equal_are Icmp6 _ e = cc
 
 -- no more tests
-without_tests : (link : Link) (p : Protocol) (qs : List Protocol) (f : Formula) → tests (checked_formula link (without p qs) f) ≤ tests (checked_formula link qs f)
+without_tests : (link : Link) (p : Protocol) (qs : List Protocol) (f : Formula) → tests (checked_formula link (without_protocol p qs) f) ≤ tests (checked_formula link qs f)
 without_tests link p [] f = omega arith
 without_tests link p (q ∷ qs) f =
     let h = without_tests link p qs f in
     let t = accessor_tests_are link q (checked_formula link qs f) in
-    let u = accessor_tests_are link q (checked_formula link (without p qs) f) in
-    if_case (λ xs. tests (checked_formula link xs f) ≤ tests (checked_formula link (q ∷ qs) f)) (equals p q) (without p qs) (q ∷ without p qs) (λ e. omega arith) (λ e. omega arith)
+    let u = accessor_tests_are link q (checked_formula link (without_protocol p qs) f) in
+    if_case (λ xs. tests (checked_formula link xs f) ≤ tests (checked_formula link (q ∷ qs) f)) (equals p q) (without_protocol p qs) (q ∷ without_protocol p qs) (λ e. omega arith) (λ e. omega arith)
 
 protocols_tests : (link : Link) (a : NumberTree) (rest : List Protocol) (f : Formula) → tests (checked_formula link (protocols_of a rest) f) ≤ number_tests a + tests (checked_formula link rest f)
 protocols_tests link (literal n) rest f = omega arith
@@ -53,7 +52,7 @@ protocols_tests link len rest f = omega arith
 protocols_tests link (load p s a) rest f =
     let h = protocols_tests link a rest f in
     let w = without_tests link p (protocols_of a rest) f in
-    let t = accessor_tests_are link p (checked_formula link (without p (protocols_of a rest)) f) in
+    let t = accessor_tests_are link p (checked_formula link (without_protocol p (protocols_of a rest)) f) in
     omega arith
 protocols_tests link (negated a) rest f = protocols_tests link a rest f
 protocols_tests link (applied o a b) rest f =
@@ -98,20 +97,20 @@ module _ (link : Link) (p : List ℕ) (n : ℕ) where
   one_read : (q : Protocol) (qs : List Protocol) (f : Formula) → behind (q ∷ qs) f ≡ both (told q) (behind qs f)
   one_read q qs f = guarded_read (accessor_tests link q) (checked_formula link qs f)
 
-  without_read : (q : Protocol) (qs : List Protocol) (f : Formula) → told q ≡ Yes → behind (without q qs) f ≡ behind qs f
+  without_read : (q : Protocol) (qs : List Protocol) (f : Formula) → told q ≡ Yes → behind (without_protocol q qs) f ≡ behind qs f
   without_read q [] f sure = refl
   without_read q (r ∷ qs) f sure =
       let h = without_read q qs f sure in
-      if_case (λ xs. behind xs f ≡ behind (r ∷ qs) f) (equals q r) (without q qs) (r ∷ without q qs)
+      if_case (λ xs. behind xs f ≡ behind (r ∷ qs) f) (equals q r) (without_protocol q qs) (r ∷ without_protocol q qs)
       (λ e. h ∙ sym (one_read r qs f ∙ ap (λ a. both a (behind qs f)) (ap told (sym (equal_are q r e)) ∙ sure)))
-      (λ e. one_read r (without q qs) f ∙ ap (λ a. both (told r) a) h ∙ sym (one_read r qs f))
+      (λ e. one_read r (without_protocol q qs) f ∙ ap (λ a. both (told r) a) h ∙ sym (one_read r qs f))
 
   protocols_read : (a : NumberTree) (ps qs : List Protocol) (f : Formula) → behind ps f ≡ behind qs f → behind (protocols_of a ps) f ≡ behind (accessors a qs) f
   protocols_read (literal k) ps qs f h = h
   protocols_read (named k) ps qs f h = h
   protocols_read len ps qs f h = h
   protocols_read (load q s a) ps qs f h =
-      one_read q (without q (protocols_of a ps)) f
+      one_read q (without_protocol q (protocols_of a ps)) f
       ∙ if_yes (told q) _ _ (λ sure. without_read q (protocols_of a ps) f sure ∙ protocols_read a ps qs f h)
       ∙ sym (one_read q (accessors a qs) f)
   protocols_read (negated a) ps qs f h = protocols_read a ps qs f h

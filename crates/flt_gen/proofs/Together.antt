@@ -23,7 +23,7 @@ use Rattle.flt_gen.specs.declared.wanted.Transport.{Transport}
 use Rattle.flt_code.specs.Elementary.{Reading, Yes, No, Rejected, reading_of, with, field_at, compares_at, kind_test, elementary_reads}
 use Rattle.flt_code.specs.Formula.{Formula, is_one_of, both, either, sides, reads}
 use Rattle.flt_gen.specs.Primitives.{address_places, net_test, net_formula, hosts_formula, port_places, port_sides, transport, behind, transport_ports, ip_transport, ip6_transport, port_test, port_formula}
-use Rattle.flt_code.specs.Formula.{others, any_sides}
+use Rattle.flt_code.specs.Formula.{remaining, any_sides}
 use Rattle.flt_gen.specs.Group.{insert_ascending, one_formula, several_formula}
 use Rattle.flt_gen.proofs.Ascending.{one_of_inserted, one_of_others}
 use Rattle.flt_gen.proofs.Exclusive.{ip_no_ip6, ip_no_arp, ip_no_rarp, arp_no_rarp}
@@ -77,7 +77,7 @@ all_numbers os od a bs =
 
 abbrev other_numbers : Option ℕ → Option ℕ → ℕ → List ℕ → Reading
 other_numbers os od a bs =
-    either (reading_of (with os (λ x. Some (x == a)))) (either (reading_of (with od (λ x. Some (is_one_of x bs)))) (reading_of (with os (λ x. Some (is_one_of x (others a bs))))))
+    either (reading_of (with os (λ x. Some (x == a)))) (either (reading_of (with od (λ x. Some (is_one_of x bs)))) (reading_of (with os (λ x. Some (is_one_of x (remaining a bs))))))
 
 others_enough : (os od : Option ℕ) (a : ℕ) (bs : List ℕ) → other_numbers os od a bs ≡ all_numbers os od a bs
 others_enough None od a bs = refl
@@ -86,7 +86,7 @@ others_enough (Some x) od a bs = by_first (x == a) refl
     d : Reading
     d = reading_of (with od (λ y. Some (is_one_of y bs)))
 
-    by_first : (b : Bool) → (x == a) ≡ b → either (exact b) (either d (exact (is_one_of x (others a bs)))) ≡ either (exact b) (either d (exact (is_one_of x bs)))
+    by_first : (b : Bool) → (x == a) ≡ b → either (exact b) (either d (exact (is_one_of x (remaining a bs)))) ≡ either (exact b) (either d (exact (is_one_of x bs)))
     by_first true e = refl
     by_first false e = ap (λ c. either d (exact c)) (one_of_others x a bs e)
 

@@ -21,7 +21,6 @@ use Rattle.flt_gen.specs.declared.waiting.LeftTruth.{LeftTruth}
 use Rattle.flt_gen.specs.declared.waiting.Pending.TheVariants as next
 use Rattle.flt_gen.specs.Emitted.{protocols_of, relation_formula, qualified_needed}
 use Rattle.flt_code.specs.Formula.{Formula, Single, Both, Either, Except, Compare as compare}
-use Rattle.flt_gen.specs.Reading.{formula}
 use Rattle.flt_code.specs.Follow.{nothing}
 use Rattle.flt_code.specs.Code.{plain, computation, takes, emit_comparison, emit_operands, emit_right, emit_number, Block, emit_formula}
 use Rattle.flt_gen.specs.ProgramCode.{emit_accessors, expression_code}

@@ -33,14 +33,15 @@ equals Icmp Icmp = true
 equals Icmp6 Icmp6 = true
 equals _ _ = false
 
-abbrev pub without : Protocol → List Protocol → List Protocol
-without p [] = []
-without p (q ∷ qs) = if equals p q then without p qs else q ∷ without p qs
+abbrev pub without_protocol : Protocol → List Protocol → List Protocol
+without_protocol p [] = []
+without_protocol p (q ∷ qs) =
+    if equals p q then without_protocol p qs else q ∷ without_protocol p qs
 
 -- a protocol in front of others: those behind it that are the same are left out, since what they
 -- test is known
 abbrev pub with_accessor : Protocol → List Protocol → List Protocol
-with_accessor p ps = p ∷ without p ps
+with_accessor p ps = p ∷ without_protocol p ps
 
 -- the protocols of the accessors of arithmetic, in the order of their first words, and then the
 -- rest
@@ -68,12 +69,12 @@ is_idle (Outcome b) = false
 is_idle (Field t) = is_empty t.mask && t.value == 0
 
 -- the test that is yes wherever the word is captured
-abbrev pub captured : Elementary → Elementary
-captured (Outcome b) = Outcome b
-captured (Field t) = Field (record t { mask = None; comparison = AtLeast; value = 0 })
+abbrev pub capture_test : Elementary → Elementary
+capture_test (Outcome b) = Outcome b
+capture_test (Field t) = Field (record t { mask = None; comparison = AtLeast; value = 0 })
 
 abbrev pub last_test : Elementary → Elementary
-last_test t = if is_idle t then captured t else t
+last_test t = if is_idle t then capture_test t else t
 
 -- of tests of words, each behind the one before: where a word isn't captured, no later one is. So
 -- an idle test in front of another one is left out

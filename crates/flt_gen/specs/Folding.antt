@@ -41,9 +41,9 @@ folded_truth (joined j a b) = joined j (folded_truth a) (folded_truth b)
 folded_truth a = a
 
 -- the expression of which code is emitted
-abbrev pub folded : Expression → Expression
-folded empty = empty
-folded (truth a) = truth (folded_truth a)
+abbrev pub folded_expression : Expression → Expression
+folded_expression empty = empty
+folded_expression (truth a) = truth (folded_truth a)
 
 -- ---- the same of nodes, of which the latest comes first
 

@@ -1,7 +1,7 @@
 //! What waits during the walk over an expression's nodes.
 
 ghost use Rattle.std.specs.Prelude.{◌≡◌, List, [], ◌∷◌, reverse, OnOk, MatchOption};
-ghost use Rattle.flt_gen.specs.Emitted.{equals, without, with_accessor};
+ghost use Rattle.flt_gen.specs.Emitted.{equals, without_protocol, with_accessor};
 
 use flt_code::Targets;
 use flt_words::{Join, Protocol};
@@ -117,7 +117,7 @@ fn leave_out<A: Allocator>(
     protocols: &mut Stack<Protocol, A>,
     protocol: Protocol,
 ) -> Result<(), AllocError>
-    ensures { OnOk result (protocols.new ≡ without protocol protocols.old) }
+    ensures { OnOk result (protocols.new ≡ without_protocol protocol protocols.old) }
 {
     let Some(latest) = protocols.pop() else {
         return Ok(());

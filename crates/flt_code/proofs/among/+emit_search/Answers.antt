@@ -1,5 +1,5 @@
 -- The code of both halves, and the test in front.
-use Rattle.std.proofs.Common.{◌≡◌, ◌+◌, ◌-◌, ◌/◌, ◌<◌, ◌≤◌, ◌++◌, ◌∙◌, refl, ap, sym, length, take, drop, arith, length-drop, length-take}
+use Rattle.std.proofs.Common.{◌+◌, ◌-◌, ◌/◌, ◌<◌, ◌≤◌, ◌++◌, ◌∙◌, refl, ap, sym, length, take, drop, arith, length-drop, length-take}
 use Rattle.std.specs.Prelude.{ℕ, List}
 use Rattle.std.proofs.lemmas.List.{take_rest}
 use Rattle.flt_code.specs.Code.{block, Block, at_top, emit_halves, emit_search}

@@ -8,7 +8,7 @@ use Rattle.flt_tree.specs.Nodes.{expr_nodes}
 use Rattle.flt_tree.specs.Counts.{words_of, bound_of}
 use Rattle.flt_gen.specs.Correct.{IsProgramOf}
 use Rattle.flt_gen.specs.Counts.{short_bound_of}
-use Rattle.flt_gen.specs.Folding.{with_folded, folded}
+use Rattle.flt_gen.specs.Folding.{with_folded, folded_expression}
 use Rattle.flt_short.specs.Layout.{JumpsAreNeeded, IsShort}
 use Rattle.flt_short.specs.Reload.{without_reloads}
 use Rattle.flt_gen.proofs.Folded.{words_no_more, bound_no_more, short_no_more, filled_folded, nodes_folded, folded_decides, folded_short}
@@ -16,31 +16,31 @@ use Rattle.flt_gen.proofs.Whole.{code_fits, program_few, program_valid, program_
 use Rattle.flt_gen.proofs.Turned.{Turned, room_is, inside_is, program_is}
 use Rattle.flt_gen.proofs.program.generate.Goals as goal
 
-turned_is : (e : Expression) (passed made nodes : List Node) → passed ≡ made → reverse made ≡ fold with_folded [] nodes → nodes ≡ expr_nodes e → Turned (folded e) passed
+turned_is : (e : Expression) (passed made nodes : List Node) → passed ≡ made → reverse made ≡ fold with_folded [] nodes → nodes ≡ expr_nodes e → Turned (folded_expression e) passed
 turned_is e passed made nodes p m n = ap reverse p ∙ m ∙ ap (fold with_folded []) n ∙ nodes_folded e
 
-few : (e : Expression) → words_of e ≤ 16 → words_of (folded e) ≤ 16
+few : (e : Expression) → words_of e ≤ 16 → words_of (folded_expression e) ≤ 16
 few e l = let m = words_no_more e in omega arith
 
-short : (e : Expression) → bound_of e ≤ 32768 → bound_of (folded e) ≤ 32768
+short : (e : Expression) → bound_of e ≤ 32768 → bound_of (folded_expression e) ≤ 32768
 short e l = let m = bound_no_more e in omega arith
 
 pub program_insns-requires-clause-room : goal.program_insns-requires-clause-room
 program_insns-requires-clause-room g c =
     let e = c.args.expr.now in
-    room_is c.args.link (folded e.expr) c.deref.result.now (turned_is e.expr _ _ _ c.deref.ensures.value c.in_ok-nodes.ensures c.nodes.ensures) (code_fits c.args.link (folded e.expr) (filled_folded e.expr e.resolved.is_filled) (few e.expr e.few_words) (short e.expr e.short))
+    room_is c.args.link (folded_expression e.expr) c.deref.result.now (turned_is e.expr _ _ _ c.deref.ensures.value c.in_ok-nodes.ensures c.nodes.ensures) (code_fits c.args.link (folded_expression e.expr) (filled_folded e.expr e.resolved.is_filled) (few e.expr e.few_words) (short e.expr e.short))
 
 pub program_insns-requires-clause-inside : goal.program_insns-requires-clause-inside
 program_insns-requires-clause-inside g c =
     let e = c.args.expr.now in
-    inside_is c.args.link (folded e.expr) c.deref.result.now (turned_is e.expr _ _ _ c.deref.ensures.value c.in_ok-nodes.ensures c.nodes.ensures) (code_fits c.args.link (folded e.expr) (filled_folded e.expr e.resolved.is_filled) (few e.expr e.few_words) (short e.expr e.short))
+    inside_is c.args.link (folded_expression e.expr) c.deref.result.now (turned_is e.expr _ _ _ c.deref.ensures.value c.in_ok-nodes.ensures c.nodes.ensures) (code_fits c.args.link (folded_expression e.expr) (filled_folded e.expr e.resolved.is_filled) (few e.expr e.few_words) (short e.expr e.short))
 
 pub unreachable-requires : goal.unreachable-requires
 unreachable-requires g c =
     let e = c.args.expr.now in
-    let valid = program_valid c.args.link (folded e.expr) (filled_folded e.expr e.resolved.is_filled) (few e.expr e.few_words) (short e.expr e.short) in
+    let valid = program_valid c.args.link (folded_expression e.expr) (filled_folded e.expr e.resolved.is_filled) (few e.expr e.few_words) (short e.expr e.short) in
     let turned = turned_is e.expr _ _ _ c.deref.ensures.value c.in_ok-nodes.ensures c.nodes.ensures in
-    let same = c.in_ok-turned.ensures ∙ ap without_reloads (c.in_ok-insns.ensures ∙ program_is c.args.link (folded e.expr) c.deref.result.now turned) in
+    let same = c.in_ok-turned.ensures ∙ ap without_reloads (c.in_ok-insns.ensures ∙ program_is c.args.link (folded_expression e.expr) c.deref.result.now turned) in
     let r = c.in_ok-short.ensures in
     let first = c.in-Err.ensures.refused in
     r.valid (subst IsValid (sym same) valid) c.in-Err.field-0.0 c.in-Err.field-0.1 first.broken
@@ -49,8 +49,8 @@ pub returns-clause-decides : goal.returns-clause-decides
 returns-clause-decides g c =
     let e = c.args.expr.now in
     let turned = turned_is e.expr _ _ _ c.deref.ensures.value c.in_ok-nodes.ensures c.nodes.ensures in
-    let same = c.in_ok-turned.ensures ∙ ap without_reloads (c.in_ok-insns.ensures ∙ program_is c.args.link (folded e.expr) c.deref.result.now turned) in
-    let right = folded_decides _ e.expr c.args.link (program_decides c.args.link (folded e.expr) (filled_folded e.expr e.resolved.is_filled) (few e.expr e.few_words) (short e.expr e.short)) in
+    let same = c.in_ok-turned.ensures ∙ ap without_reloads (c.in_ok-insns.ensures ∙ program_is c.args.link (folded_expression e.expr) c.deref.result.now turned) in
+    let right = folded_decides _ e.expr c.args.link (program_decides c.args.link (folded_expression e.expr) (filled_folded e.expr e.resolved.is_filled) (few e.expr e.few_words) (short e.expr e.short)) in
     let made = subst (λ prog. IsProgramOf prog e.expr c.args.link) (sym same) right in
     subst (λ prog. IsProgramOf prog e.expr c.args.link) (sym c.in-Ok.ensures.made.0) (replaced_decides _ _ e.expr c.args.link c.in_ok-short.ensures made)
 
@@ -58,17 +58,17 @@ pub returns-clause-jumps : goal.returns-clause-jumps
 returns-clause-jumps g c =
     let e = c.args.expr.now in
     let turned = turned_is e.expr _ _ _ c.deref.ensures.value c.in_ok-nodes.ensures c.nodes.ensures in
-    let same = c.in_ok-turned.ensures ∙ ap without_reloads (c.in_ok-insns.ensures ∙ program_is c.args.link (folded e.expr) c.deref.result.now turned) in
+    let same = c.in_ok-turned.ensures ∙ ap without_reloads (c.in_ok-insns.ensures ∙ program_is c.args.link (folded_expression e.expr) c.deref.result.now turned) in
     let r = c.in_ok-short.ensures in
-    subst JumpsAreNeeded (sym c.in-Ok.ensures.made.0) (r.needed (subst JumpsAreNeeded (sym same) (program_layout c.args.link (folded e.expr))))
+    subst JumpsAreNeeded (sym c.in-Ok.ensures.made.0) (r.needed (subst JumpsAreNeeded (sym same) (program_layout c.args.link (folded_expression e.expr))))
 
 pub returns-clause-short : goal.returns-clause-short
 returns-clause-short g c = λ upper_bound.
     let e = c.args.expr.now in
     let turned = turned_is e.expr _ _ _ c.deref.ensures.value c.in_ok-nodes.ensures c.nodes.ensures in
-    let same = c.in_ok-turned.ensures ∙ ap without_reloads (c.in_ok-insns.ensures ∙ program_is c.args.link (folded e.expr) c.deref.result.now turned) in
-    let fewer : short_bound_of (folded e.expr) ≤ 256 = (let m = short_no_more e.expr in omega arith) in
-    let right = folded_short _ e.expr (program_short c.args.link (folded e.expr) (filled_folded e.expr e.resolved.is_filled) fewer) in
+    let same = c.in_ok-turned.ensures ∙ ap without_reloads (c.in_ok-insns.ensures ∙ program_is c.args.link (folded_expression e.expr) c.deref.result.now turned) in
+    let fewer : short_bound_of (folded_expression e.expr) ≤ 256 = (let m = short_no_more e.expr in omega arith) in
+    let right = folded_short _ e.expr (program_short c.args.link (folded_expression e.expr) (filled_folded e.expr e.resolved.is_filled) fewer) in
     let made = subst (λ prog. IsShort prog (short_bound_of e.expr)) (sym same) right in
     subst (λ prog. IsShort prog (short_bound_of e.expr)) (sym c.in-Ok.ensures.made.0) (replaced_short _ _ (short_bound_of e.expr) c.in_ok-short.ensures made)
 
@@ -76,6 +76,6 @@ pub pass_loads-requires : goal.pass_loads-requires
 pass_loads-requires g c =
     let e = c.args.expr.now in
     let turned = turned_is e.expr _ _ _ c.deref.ensures.value c.in_ok-nodes.ensures c.nodes.ensures in
-    let same = ap length (c.in_ok-insns.ensures ∙ program_is c.args.link (folded e.expr) c.deref.result.now turned) in
-    let upper_bound = program_few c.args.link (folded e.expr) (filled_folded e.expr e.resolved.is_filled) (few e.expr e.few_words) (short e.expr e.short) in
+    let same = ap length (c.in_ok-insns.ensures ∙ program_is c.args.link (folded_expression e.expr) c.deref.result.now turned) in
+    let upper_bound = program_few c.args.link (folded_expression e.expr) (filled_folded e.expr e.resolved.is_filled) (few e.expr e.few_words) (short e.expr e.short) in
     omega arith
