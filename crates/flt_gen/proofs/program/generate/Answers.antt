@@ -3,7 +3,7 @@ use Rattle.std.proofs.Common.{◌∙◌, sym, ap, subst, length, arith}
 use Rattle.flt_bpf.specs.Valid.{IsValid}
 use Rattle.flt_gen.specs.Correct.{IsProgramOf}
 use Rattle.flt_gen.specs.Counts.{short_bound_of}
-use Rattle.flt_short.specs.Layout.{JumpsAreNeeded, IsShort}
+use Rattle.flt_bpf.specs.Layout.{JumpsAreNeeded, IsShort}
 use Rattle.flt_short.specs.Reload.{without_reloads}
 use Rattle.flt_gen.proofs.Whole.{code_fits, program_few, program_valid, program_decides, program_layout, program_short, replaced_decides, replaced_short}
 use Rattle.flt_gen.proofs.Turned.{room_is, inside_is, program_is}

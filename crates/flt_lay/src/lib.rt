@@ -1,0 +1,7 @@
+//! Code whose jumps go any distance, laid out as instructions: a jump (`ja`) stands only for a
+//! target that is too far for its test.
+#![tactic(auto)]
+
+mod layout;
+
+pub use layout::laid_out;
