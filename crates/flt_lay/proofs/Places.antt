@@ -6,7 +6,7 @@ use Rattle.flt_bpf.specs.declared.operation.Operation.TheVariants.{Jump, JumpIf}
 use Rattle.flt_bpf.specs.Instructions.{operation_of}
 use Rattle.flt_lay.specs.declared.layout.Reach.{Reach}
 use Rattle.flt_lay.specs.declared.layout.Reach.TheVariants.{Near, YesFar, NoFar, BothFar}
-use Rattle.flt_lay.specs.LaidOut.{Placed, target, emit_test, emit_test_by, emit_as, placed, laid_out}
+use Rattle.flt_lay.specs.Layout.{PlacedCode, place_at, with_test, with_test_by, with_insn, placed_code, laid_out}
 
 -- code with more in front
 pub record IsEndOf (c d : List Insn) : Type 0 where
@@ -26,14 +26,14 @@ end_more {c} {d} {e} h g =
 pub end_length : {c d : List Insn} → IsEndOf c d → length c ≤ length d
 end_length {c} {d} h = omega (arith, ap length h.parts, length-append h.front c)
 
-test_end : (r : Reach) (i : Insn) (hit miss : ℕ) (c : List Insn) → IsEndOf c (emit_test_by r i hit miss c)
+test_end : (r : Reach) (i : Insn) (hit miss : ℕ) (c : List Insn) → IsEndOf c (with_test_by r i hit miss c)
 test_end Near i hit miss c = end_put _ (end_same c)
 test_end YesFar i hit miss c = end_put _ (end_put _ (end_same c))
 test_end NoFar i hit miss c = end_put _ (end_put _ (end_same c))
 test_end BothFar i hit miss c = end_put _ (end_put _ (end_put _ (end_same c)))
 
-pub emitted_end : (o : Option Operation) (i : Insn) (l : Placed) → IsEndOf l.code (emit_as o i l)
-unfolding emit_test
+pub emitted_end : (o : Option Operation) (i : Insn) (l : PlacedCode) → IsEndOf l.code (with_insn o i l)
+unfolding with_test
 emitted_end (Some (JumpIf test operand)) i l = test_end _ i _ _ l.code
 emitted_end (Some Jump) i l = end_put _ (end_same l.code)
 emitted_end _ i l = end_put _ (end_same l.code)
@@ -43,14 +43,14 @@ pub rest_end : (wide : List Insn) (k : ℕ) → IsEndOf (laid_out (drop k wide))
 rest_end [] zero = end_same []
 rest_end [] (suc k) = end_same []
 rest_end (i ∷ is) zero = end_same _
-rest_end (i ∷ is) (suc k) = end_more (rest_end is k) (emitted_end (operation_of i.code) i (placed is))
+rest_end (i ∷ is) (suc k) = end_more (rest_end is k) (emitted_end (operation_of i.code) i (placed_code is))
 
 -- a place is where that code begins
-pub target_is : (wide : List Insn) (k : ℕ) → target (placed wide) k ≡ length (laid_out (drop k wide))
+pub target_is : (wide : List Insn) (k : ℕ) → place_at (placed_code wide) k ≡ length (laid_out (drop k wide))
 target_is [] zero = refl
 target_is [] (suc k) = refl
 target_is (i ∷ is) zero = refl
 target_is (i ∷ is) (suc k) = target_is is k
 
-pub target_inside : (wide : List Insn) (k : ℕ) → target (placed wide) k ≤ length (laid_out wide)
+pub target_inside : (wide : List Insn) (k : ℕ) → place_at (placed_code wide) k ≤ length (laid_out wide)
 target_inside wide k = omega (arith, target_is wide k, end_length (rest_end wide k))

@@ -3,13 +3,13 @@
 ghost use Rattle.std.specs.Prelude.{◌≡◌, ◌+◌, ◌-◌, ◌*◌, ◌^◌, ◌<◌, ◌≤◌, ℕ, List, [], ◌∷◌, length};
 ghost use Rattle.std.specs.Prelude.{IfOk, OnOk, count_by};
 ghost use Rattle.flt_bpf.specs.Answer.{answer_of};
-ghost use Rattle.flt_bpf.specs.Check.{IsSound};
+ghost use Rattle.flt_bpf.specs.Check.{IsValidUnlessLong};
 ghost use Rattle.flt_bpf.specs.Instructions.{operation_of};
 ghost use Rattle.flt_bpf.specs.Layout.{is_branch, HasNoJump, JumpsAreNeeded, IsShort};
 ghost use Rattle.flt_bpf.specs.Machine.{start};
 ghost use Rattle.flt_bpf.specs.Valid.{MOST_INSTRUCTIONS, IsValid};
-ghost use Rattle.flt_lay.specs.LaidOut.{target, with_offsets, emit_jump, reach, emit_test};
-ghost use Rattle.flt_lay.specs.LaidOut.{place_first, put, placed};
+ghost use Rattle.flt_lay.specs.Layout.{place_at, with_offsets, with_jump, test_reach, with_test};
+ghost use Rattle.flt_lay.specs.Layout.{with_entry, put, placed_code};
 
 use flt_bpf::insn::Insn;
 use flt_bpf::operation::{Operation, decode};
@@ -47,11 +47,14 @@ struct Layout<A: Allocator> {
 
 impl<A: Allocator> Model for Layout<A> {
     ghost use Rattle.std.specs.Prelude.{reverse};
-    ghost use Rattle.flt_lay.specs.LaidOut.{Placed};
+    ghost use Rattle.flt_lay.specs.Layout.{PlacedCode};
 
-    ghost Value = { Placed };
+    ghost Value = { PlacedCode };
 
-    ghost view = { λ l. record { code = reverse l.backwards.items; places = reverse l.places.items } };
+    ghost view = { λ l. record {
+      code = reverse l.backwards.items;
+      places = reverse l.places.items;
+    } };
 }
 
 /// An instruction with other offsets.
@@ -69,7 +72,7 @@ fn with_offsets(insn: Wide, jt: u8, jf: u8) -> Insn
 impl<A: Allocator> Layout<A> {
     /// Nothing is laid out yet.
     fn new(code_alloc: A, place_alloc: A) -> Self
-        ensures { result ≡ placed [] }
+        ensures { result ≡ placed_code [] }
     {
         Layout {
             backwards: Vec::new(code_alloc),
@@ -87,7 +90,7 @@ impl<A: Allocator> Layout<A> {
     /// The place of the wide instruction so many further than the next one; past the last it is
     /// the end.
     fn target(&self, further: u32) -> usize
-        ensures { result ≡ target self.now further }
+        ensures { result ≡ place_at self.now further }
     {
         let (further, count) = (further as usize, self.places.len());
         if further < count {
@@ -123,7 +126,7 @@ impl<A: Allocator> Layout<A> {
     /// A jump to a place.
     fn emit_jump(&mut self, to: usize) -> Result<(), AllocError>
         requires { length self.old.code < 2 ^ 32 }
-        ensures { OnOk result (self.new ≡ record self.old { code = emit_jump to self.old.code }) }
+        ensures { OnOk result (self.new ≡ record self.old { code = with_jump to self.old.code }) }
     {
         let offset = self.distance(to) as u32;
         self.emit(Insn {
@@ -137,7 +140,7 @@ impl<A: Allocator> Layout<A> {
     /// Which targets are too far for a test that comes next.
     fn reach(&self, to: Targets) -> Reach
         requires { length self.now.code < 2 ^ 32 }
-        ensures { result ≡ reach to.yes to.no self.now.code }
+        ensures { result ≡ test_reach to.yes to.no self.now.code }
     {
         let (yes, no) = (self.distance(to.yes), self.distance(to.no));
         if yes <= NEAR && no <= NEAR {
@@ -152,11 +155,11 @@ impl<A: Allocator> Layout<A> {
     }
 
     /// A test that goes on at one of two places.
-    #[tactic(auto, unfolding(crate::specs::LaidOut::emit_test))]
+    #[tactic(auto, unfolding(crate::specs::Layout::with_test))]
     fn emit_test(&mut self, insn: Wide, to: Targets) -> Result<(), AllocError>
         requires { length self.old.code + 3 < 2 ^ 32 }
         ensures { OnOk result
-            (self.new ≡ record self.old { code = emit_test insn to.yes to.no self.old.code }) }
+            (self.new ≡ record self.old { code = with_test insn to.yes to.no self.old.code }) }
     {
         let (jt, jf) = match self.reach(to) {
             Reach::Near => (self.distance(to.yes), self.distance(to.no)),
@@ -179,7 +182,7 @@ impl<A: Allocator> Layout<A> {
 
     /// A wide instruction stands first from now on.
     fn place_first(&mut self) -> Result<(), AllocError>
-        ensures { OnOk result (self.new ≡ place_first self.old.code self.old) }
+        ensures { OnOk result (self.new ≡ with_entry self.old.code self.old) }
     {
         let top = self.top();
         self.places.push(top)?;
@@ -222,7 +225,7 @@ impl<A: Allocator + Clone> Layout<A> {
     /// All of some wide code.
     fn of(alloc: A, wide: &[Wide]) -> Result<Self, AllocError>
         requires { length wide.now < 2 ^ 30 }
-        ensures { IfOk result (λ layout. layout ≡ placed wide.now) }
+        ensures { IfOk result (λ layout. layout ≡ placed_code wide.now) }
     {
         let mut layout = Layout::new(alloc.clone()?, alloc);
         for at in (0..wide.len()).rev() {
@@ -232,9 +235,9 @@ impl<A: Allocator + Clone> Layout<A> {
     }
 }
 
-/// The instructions of wide code: it gives the same answers, and each test takes at most two jumps
-/// (`ja`) more. They stand only for targets that are more than 255 instructions past the one after
-/// the test.
+/// The instructions of wide code, which give the same answers. A target that is more than 255
+/// instructions past the one after its test is reached by a jump (`ja`), so a test costs at most
+/// two of them. Jumps of the wide code itself are kept.
 ///
 /// An error is a failed allocation, or an allocator that cannot be cloned.
 pub fn laid_out<A: Allocator + Clone>(alloc: A, wide: &[Wide]) -> Result<Vec<Insn, A>, AllocError>
@@ -247,8 +250,9 @@ pub fn laid_out<A: Allocator + Clone>(alloc: A, wide: &[Wide]) -> Result<Vec<Ins
     ensures jumps { HasNoJump wide.now → IfOk result (λ code. JumpsAreNeeded code.items) }
     ensures short { HasNoJump wide.now → length wide.now ≤ 256
         → IfOk result (λ code. IsShort code.items (length wide.now)) }
-    ensures sound { IsSound wide.now → IfOk result (λ code. IsSound code.items) }
-    ensures valid { IsSound wide.now → IfOk result
+    ensures faultless { IsValidUnlessLong wide.now
+        → IfOk result (λ code. IsValidUnlessLong code.items) }
+    ensures valid { IsValidUnlessLong wide.now → IfOk result
         (λ code. length code.items ≤ MOST_INSTRUCTIONS → IsValid code.items) }
 {
     Ok(Layout::of(alloc, wide)?.into_insns())

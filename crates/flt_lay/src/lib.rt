@@ -3,5 +3,7 @@
 #![tactic(auto)]
 
 mod layout;
+#[cfg(test)]
+mod tests;
 
 pub use layout::laid_out;
