@@ -237,7 +237,8 @@ impl<A: Allocator + Clone> Layout<A> {
 
 /// The instructions of wide code, which give the same answers. A target that is more than 255
 /// instructions past the one after its test is reached by a jump (`ja`), so a test costs at most
-/// two of them. Jumps of the wide code itself are kept.
+/// two of them. Jumps of the wide code itself are kept. With fewer than 2^30 wide instructions the
+/// number of any jump fits its 32 bits.
 ///
 /// An error is a failed allocation, or an allocator that cannot be cloned.
 pub fn laid_out<A: Allocator + Clone>(alloc: A, wide: &[Wide]) -> Result<Vec<Insn, A>, AllocError>

@@ -22,7 +22,7 @@ fn refused_growths(rt: HostRuntime) {
         let outcome = laid_out(&trial, &[RETURN; 40]);
         let is_refused = trial.growths() >= number;
         assert!(rt; outcome.is_err() == is_refused, "growth {number}");
-        refused += u64::from(is_refused);
+        refused = refused.saturating_add(u64::from(is_refused));
     }
     assert!(rt; 2 <= refused && refused < 49, "{refused}");
 }
