@@ -3,5 +3,6 @@
 mod clone_only;
 mod expressions;
 mod jumps;
+mod layout;
 mod machine;
 mod tokens;

@@ -6,6 +6,7 @@ pub mod Scan
 pub mod Steps
 pub mod ByRules
 pub mod Suffix
+pub mod Jumps
 pub mod Standing
 pub mod Tests
 pub mod Cuts

@@ -4,6 +4,7 @@ pub mod Check
 pub mod Content
 pub mod Flow
 pub mod Instructions
+pub mod Layout
 pub mod Listing
 pub mod Machine
 pub mod Message

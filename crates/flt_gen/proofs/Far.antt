@@ -29,7 +29,8 @@ use Rattle.flt_code.specs.Code.{plain, computation, constant, constant_operand, 
 use Rattle.flt_code.specs.declared.follow.Knowledge.{Knowledge}
 use Rattle.flt_code.specs.Follow.{and_fork, load_code, fact, always, and_fact, target}
 use Rattle.flt_code.specs.declared.elementary.Elementary.{Elementary}
-use Rattle.flt_short.specs.Layout.{is_branch, JUMP, IsNeeded, JumpsAreNeeded}
+use Rattle.flt_bpf.specs.Layout.{is_branch, JUMP, IsNeeded, JumpsAreNeeded}
+use Rattle.flt_bpf.proofs.Jumps.{jump_later, needed_put}
 use Rattle.flt_gen.proofs.Tails.{Extends, extends_none, extends_on, test_extends, relation_extends, emitted_extends, by_right}
 use Rattle.flt_short.proofs.Basics.{tail, by_test}
 use Rattle.flt_bpf.specs.declared.operation.Operation.TheVariants.{Jump, JumpIf, LoadIndirect}
@@ -87,22 +88,6 @@ branch_tests test.Greater IndexRegister k jt jf = refl
 branch_tests test.AtLeast IndexRegister k jt jf = refl
 branch_tests test.AnyBit IndexRegister k jt jf = refl
 
--- a jump of the code behind is needed in the whole
-one_later : (c : List Insn) (i : Insn) (place : ℕ) (jump : Insn) → IsNeeded c place jump → IsNeeded (i ∷ c) (suc place) jump
-one_later c i place jump h =
-    record { from = suc h.from; branch = h.branch; there = h.there; branches = h.branches; leads = later h.leads; far = omega (arith, h.far) }
-  where
-    later : (h.from + 1 + h.branch.jt ≡ place) ⊎ (h.from + 1 + h.branch.jf ≡ place) → (suc h.from + 1 + h.branch.jt ≡ suc place) ⊎ (suc h.from + 1 + h.branch.jf ≡ suc place)
-    later (inl e) = inl (omega arith)
-    later (inr e) = inr (omega arith)
-
-needed_put : (c : List Insn) (i : Insn) → i.code ≢ JUMP → JumpsAreNeeded c → JumpsAreNeeded (i ∷ c)
-needed_put c i other h = record { each = at }
-  where
-    at : (place : ℕ) (jump : Insn) → slice_get (i ∷ c) place ≡ Some jump → jump.code ≡ JUMP → IsNeeded (i ∷ c) place jump
-    at zero jump g e = let same : i ≡ jump = cc in absurd (other (ap (λ j. j.code) same ∙ e))
-    at (suc place) jump g e = one_later c i place jump (h.each place jump g e)
-
 -- a test and a jump for one of its ways
 needed_one : (c : List Insn) (t : Test) (o : Operand) (k jt jf to : ℕ) → (jt ≡ 0) ⊎ (jf ≡ 0) → NEAR < length c - to → JumpsAreNeeded c → JumpsAreNeeded (branch_insn t o k jt jf ∷ emit_jump to c)
 needed_one c t o k jt jf to way far h = record { each = at }
@@ -120,7 +105,7 @@ needed_one c t o k jt jf to way far h = record { each = at }
         let same : plain Jump (length c - to) ≡ jump = cc in
         let offset : length c - to ≡ jump.k = ap (λ j. j.k) same in
         record { from = 0; branch = branch_insn t o k jt jf; there = refl; branches = branch_tests t o k jt jf; leads = leads way; far = omega arith }
-    at (suc (suc place)) jump g e = one_later (emit_jump to c) _ (suc place) jump (one_later c _ place jump (h.each place jump g e))
+    at (suc (suc place)) jump g e = jump_later (emit_jump to c) _ (suc place) jump (jump_later c _ place jump (h.each place jump g e))
 
 -- a test and a jump for each of its ways
 needed_two : (c : List Insn) (t : Test) (o : Operand) (k hit miss : ℕ) → NEAR < length c + 1 - hit → NEAR < length c + 1 - miss → JumpsAreNeeded c → JumpsAreNeeded (branch_insn t o k 0 1 ∷ emit_jump hit (emit_jump miss c))
@@ -139,7 +124,7 @@ needed_two c t o k hit miss far_hit far_miss h = record { each = at }
         let same : plain Jump (length c - miss) ≡ jump = cc in
         let offset : length c - miss ≡ jump.k = ap (λ j. j.k) same in
         record { from = 0; branch = branch_insn t o k 0 1; there = refl; branches = branch_tests t o k 0 1; leads = inr refl; far = omega arith }
-    at (suc (suc (suc place))) jump g e = one_later _ _ (suc (suc place)) jump (one_later _ _ (suc place) jump (one_later c _ place jump (h.each place jump g e)))
+    at (suc (suc (suc place))) jump g e = jump_later _ _ (suc (suc place)) jump (jump_later _ _ (suc place) jump (jump_later c _ place jump (h.each place jump g e)))
 
 needed_choice : (t : Test) (o : Operand) (k hit miss : ℕ) (c : List Insn) → JumpsAreNeeded c → (a b d : Bool) → a ≡ (nat_le (length c - hit) NEAR && nat_le (length c - miss) NEAR) → b ≡ nat_le (length c + 1 - miss) NEAR → d ≡ nat_le (length c + 1 - hit) NEAR → JumpsAreNeeded (emit_branch_by (if a then Near else (if b then YesFar else (if d then NoFar else BothFar))) t o k hit miss c)
 needed_choice t o k hit miss c h true b d ea eb ed = needed_put c _ (branch_no_jump t o) h

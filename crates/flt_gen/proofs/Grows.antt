@@ -23,7 +23,7 @@ use Rattle.flt_code.specs.declared.elementary.Elementary.TheVariants.{Outcome, F
 use Rattle.flt_bpf.specs.declared.fault.CheckFault.{CheckFault}
 use Rattle.flt_bpf.specs.declared.fault.CheckFault.TheVariants.{JumpOut, NoSuchWord, DivisionByZero, ShiftTooFar}
 use Rattle.flt_bpf.specs.Instructions.{operation_of}
-use Rattle.flt_bpf.specs.Check.{fault_of, unless, ends_in_return}
+use Rattle.flt_bpf.specs.Check.{fault_of, unless, ends_in_return, IsFaultless}
 use Rattle.flt_code.specs.Elementary.{network}
 use Rattle.flt_code.specs.Numbers.{width_of}
 use Rattle.flt_code.specs.Formula.{Formula, Single, Compare, Both, Either, Except, Guard, Fork, Choose, Among}
@@ -34,7 +34,6 @@ use Rattle.flt_code.specs.declared.follow.Knowledge.{Knowledge}
 use Rattle.flt_code.specs.Follow.{and_fork, fact, always, and_fact, target}
 use Rattle.flt_code.specs.declared.elementary.Elementary.{Elementary}
 use Rattle.flt_gen.proofs.Onward.{target_inside}
-use Rattle.flt_bpf.proofs.Suffix.{IsFaultless}
 use Rattle.flt_gen.proofs.Tails.{by_reach, by_right}
 use Rattle.flt_short.proofs.Basics.{by_test}
 use Rattle.flt_gen.proofs.Numbers.{operand_is}

@@ -26,7 +26,7 @@ use Rattle.flt_code.specs.Code.{plain, computation, constant, constant_operand, 
 use Rattle.flt_code.specs.declared.follow.Knowledge.{Knowledge}
 use Rattle.flt_code.specs.Follow.{and_fork, fact, always, and_fact, target}
 use Rattle.flt_code.specs.declared.elementary.Elementary.{Elementary}
-use Rattle.flt_short.specs.Layout.{JUMP}
+use Rattle.flt_bpf.specs.Layout.{JUMP}
 use Rattle.flt_gen.proofs.Tails.{by_right}
 use Rattle.flt_short.proofs.Basics.{by_test}
 use Rattle.flt_gen.proofs.Far.{load_no_jump, indirect_no_jump, operator_no_jump, branch_no_jump}

@@ -6,7 +6,7 @@ use Rattle.std.proofs.lemmas.List.Elements.{All-drop, All-nil}
 use Rattle.flt_bpf.specs.declared.insn.Insn.{Insn}
 use Rattle.flt_bpf.specs.Instructions.{operation_of}
 use Rattle.flt_bpf.specs.Machine.{step, start}
-use Rattle.flt_bpf.specs.Check.{fault_of, ends_in_return}
+use Rattle.flt_bpf.specs.Check.{fault_of, ends_in_return, IsFaultless}
 use Rattle.flt_bpf.specs.Valid.{IsValid}
 use Rattle.flt_tree.specs.Tree.{TruthTree, Expression, empty, truth}
 use Rattle.flt_tree.specs.Counts.{words_of, bound_of, truth_tests, truth_size}
@@ -22,8 +22,8 @@ use Rattle.flt_code.specs.Follow.{nothing}
 use Rattle.flt_code.specs.Code.{plain, emit_formula, Block}
 use Rattle.flt_gen.specs.ProgramCode.{returns_code, expression_code, from_entry, program_code}
 use Rattle.flt_gen.specs.Correct.{Decides, IsProgramOf}
-use Rattle.flt_short.specs.Layout.{JUMP, JumpsAreNeeded, IsShort}
-use Rattle.flt_bpf.proofs.Suffix.{IsFaultless, valid_if_faultless, faultless_drop, ends_drop, answer_drop, machine_answers}
+use Rattle.flt_bpf.specs.Layout.{JUMP, JumpsAreNeeded, IsShort}
+use Rattle.flt_bpf.proofs.Suffix.{valid_if_faultless, faultless_drop, ends_drop, answer_drop, machine_answers}
 use Rattle.flt_gen.proofs.Onward.{Leads, Settled}
 use Rattle.flt_gen.proofs.Exclusive.{Apt}
 use Rattle.flt_gen.proofs.Runs.{pick, emitted_works}

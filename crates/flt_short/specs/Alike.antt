@@ -1,6 +1,6 @@
 -- How the instructions of a program replace those of another one that does the same with more of
 -- them.
-use Rattle.std.specs.Prelude.{◌≡◌, ◌≢◌, ℕ, ◌+◌, ◌-◌, ◌%◌, ◌^◌, ◌≤◌, ◌==◌, nat_lt, nat_le, Bool, true, false, if◌then◌else◌, ◌&&◌, ◌||◌, List, [], ◌∷◌, length, Option, Some, None, slice_get, drop, All}
+use Rattle.std.specs.Prelude.{◌≡◌, ℕ, ◌+◌, ◌-◌, ◌%◌, ◌^◌, ◌≤◌, ◌==◌, nat_lt, nat_le, Bool, true, false, if◌then◌else◌, ◌&&◌, ◌||◌, List, [], ◌∷◌, length, Option, Some, None, slice_get, drop}
 use Rattle.flt_bpf.specs.declared.insn.Insn.{Insn}
 use Rattle.flt_bpf.specs.declared.operation.Operation.{Operation}
 use Rattle.flt_bpf.specs.declared.operation.Operation.TheVariants.{LoadAbsolute, LoadIndirect, Load, LoadHeaderLength, Store, Compute, Negate, Jump, JumpIf, ReturnConstant, ReturnAccumulator, CopyToIndex, CopyToAccumulator}
@@ -13,7 +13,7 @@ use Rattle.flt_bpf.specs.Instructions.{code_of, operation_of}
 use Rattle.flt_bpf.specs.Machine.{machine, Answered}
 use Rattle.flt_bpf.specs.Valid.{IsValid}
 use Rattle.flt_short.specs.declared.alike.Landing.{Landing}
-use Rattle.flt_short.specs.Layout.{JUMP, JumpsAreNeeded}
+use Rattle.flt_bpf.specs.Layout.{HasNoJump, JumpsAreNeeded}
 
 -- a run comes to this answer in at most so many instructions
 pub record Comes (prog : List Insn) (p : List ℕ) (n answer most : ℕ) : Type 0 where
@@ -30,7 +30,7 @@ pub record Replaces (new old : List Insn) : Type 0 where
   pub runs : (p : List ℕ) (n answer count : ℕ)
       → machine old p n (length old) ≡ Answered answer count → Comes new p n answer count
   pub needed : JumpsAreNeeded old → JumpsAreNeeded new
-  pub no_jump : All (λ i. i.code ≢ JUMP) old → All (λ i. i.code ≢ JUMP) new
+  pub no_jump : HasNoJump old → HasNoJump new
 
 -- an operation reads A, or X
 abbrev pub reads_accumulator : Operation → Bool

@@ -8,7 +8,7 @@ ghost use Rattle.flt_short.specs.Alike.{goes_on};
 ghost use Rattle.flt_short.specs.Alike.{same_step, one_test, direct_code, is_number, direct_load};
 ghost use Rattle.flt_short.specs.Alike.{is_indirect, adds_header, loads_alike, header_load};
 ghost use Rattle.flt_short.specs.Alike.{stands, are_alike, begins, MASK, EQUAL, ANY_BIT};
-ghost use Rattle.flt_short.specs.Layout.{JUMP};
+ghost use Rattle.flt_bpf.specs.Layout.{JUMP};
 
 use flt_bpf::insn::Insn;
 use flt_bpf::operation::{AluOperation, Operand, Operation, Register, Source, Test, decode};

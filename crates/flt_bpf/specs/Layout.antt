@@ -32,7 +32,11 @@ pub record JumpsAreNeeded (prog : List Insn) : Type 0 where
   pub each : (place : ℕ) (jump : Insn) → slice_get prog place ≡ Some jump → jump.code ≡ JUMP
       → IsNeeded prog place jump
 
+-- there is no jump
+abbrev pub HasNoJump : List Insn → Type 0
+HasNoJump prog = All (λ i. i.code ≢ JUMP) prog
+
 -- there is no jump, and the program is short
 pub record IsShort (prog : List Insn) (most : ℕ) : Type 0 where
-  pub no_jump : All (λ i. i.code ≢ JUMP) prog
+  pub no_jump : HasNoJump prog
   pub short : length prog ≤ most

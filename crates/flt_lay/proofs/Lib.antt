@@ -1,0 +1,6 @@
+-- The lemmas that several proofs share.
+pub mod Places
+pub mod Same
+pub mod Needed
+pub mod Counted
+pub mod Sound

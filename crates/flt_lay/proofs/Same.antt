@@ -1,0 +1,131 @@
+-- The code that is laid out gives the answers of the wide code.
+use Rattle.std.proofs.Common.{◌≡◌, ℕ, zero, suc, ◌+◌, ◌-◌, ◌≤◌, List, [], ◌∷◌, ◌++◌, length, drop, Bool, true, false, Option, Some, None, refl, ap, ◌∙◌, arith, length-append}
+use Rattle.std.specs.Prelude.{if◌then◌else◌}
+use Rattle.flt_bpf.specs.declared.insn.Insn.{Insn}
+use Rattle.flt_bpf.specs.declared.machine.State.{State}
+use Rattle.flt_bpf.specs.declared.operation.Operation.{Operation}
+use Rattle.flt_bpf.specs.declared.operation.Operation.TheVariants.{LoadAbsolute, LoadIndirect, Load, LoadHeaderLength, Store, Compute, Negate, Jump, JumpIf, ReturnConstant, ReturnAccumulator, CopyToIndex, CopyToAccumulator}
+use Rattle.flt_bpf.specs.declared.operation.Register.{Register}
+use Rattle.flt_bpf.specs.declared.operation.Register.TheVariants.{Accumulator, Index}
+use Rattle.flt_bpf.specs.declared.operation.Source.TheVariants.{Immediate, Memory, Length}
+use Rattle.flt_bpf.specs.declared.operation.Test.{Test}
+use Rattle.flt_bpf.specs.declared.operation.Operand.{Operand}
+use Rattle.flt_bpf.specs.Instructions.{operation_of}
+use Rattle.flt_bpf.specs.Machine.{Goes, Lost, step, does_if_known, into, word_into, test_holds, operand_value}
+use Rattle.flt_bpf.specs.Answer.{answer_of, answer_after}
+use Rattle.flt_lay.specs.declared.layout.Reach.{Reach}
+use Rattle.flt_lay.specs.declared.layout.Reach.TheVariants.{Near, YesFar, NoFar, BothFar}
+use Rattle.flt_lay.specs.Layout.{PlacedCode, place_at, with_offsets, with_jump, with_test, with_test_by, with_insn, placed_code, laid_out}
+use Rattle.flt_lay.proofs.Places.{IsEndOf, rest_end, target_is, target_inside}
+
+front_passed : (front c : List Insn) (p : List ℕ) (n : ℕ) (s : State) → answer_of (front ++ c) p n (length front) s ≡ answer_of c p n 0 s
+front_passed [] c p n s = refl
+front_passed (i ∷ front) c p n s = front_passed front c p n s
+
+-- the answer from a place on
+end_answer : {c d : List Insn} (h : IsEndOf c d) (p : List ℕ) (n : ℕ) (s : State) → answer_of d p n (length d - length c) s ≡ answer_of c p n 0 s
+end_answer {c} {d} h p n s =
+    let m : length d - length c ≡ length h.front = omega (arith, ap length h.parts, length-append h.front c) in
+    ap (λ k. answer_of d p n k s) m ∙ ap (λ e. answer_of e p n (length h.front) s) h.parts ∙ front_passed h.front c p n s
+
+jumps : (to : ℕ) (c : List Insn) (p : List ℕ) (n : ℕ) (s : State) → answer_of (with_jump to c) p n 0 s ≡ answer_of c p n (length c - to) s
+unfolding step operation_of
+jumps to c p n s = refl
+
+-- past one more instruction
+passed : (i : Insn) (c : List Insn) (to : ℕ) (p : List ℕ) (n : ℕ) (s : State) → to ≤ length c → answer_of (i ∷ c) p n (length c + 1 - to) s ≡ answer_of c p n (length c - to) s
+passed i c to p n s l =
+    let m : length c + 1 - to ≡ suc (length c - to) = omega arith in
+    ap (λ k. answer_of (i ∷ c) p n k s) m
+
+-- where a test goes on
+abbrev goes : Bool → ℕ → ℕ → ℕ
+goes b k m = if b then k else m
+
+yes_far : (b : Bool) (hit miss : ℕ) (c : List Insn) (p : List ℕ) (n : ℕ) (s : State) → miss ≤ length c → answer_of (with_jump hit c) p n (goes b 0 (length c + 1 - miss)) s ≡ answer_of c p n (goes b (length c - hit) (length c - miss)) s
+yes_far true hit miss c p n s l = jumps hit c p n s
+yes_far false hit miss c p n s l = passed _ c miss p n s l
+
+no_far : (b : Bool) (hit miss : ℕ) (c : List Insn) (p : List ℕ) (n : ℕ) (s : State) → hit ≤ length c → answer_of (with_jump miss c) p n (goes b (length c + 1 - hit) 0) s ≡ answer_of c p n (goes b (length c - hit) (length c - miss)) s
+no_far true hit miss c p n s l = passed _ c hit p n s l
+no_far false hit miss c p n s l = jumps miss c p n s
+
+both_far : (b : Bool) (hit miss : ℕ) (c : List Insn) (p : List ℕ) (n : ℕ) (s : State) → hit ≤ length c → answer_of (with_jump hit (with_jump miss c)) p n (goes b 0 1) s ≡ answer_of c p n (goes b (length c - hit) (length c - miss)) s
+both_far true hit miss c p n s l =
+    let m : length (with_jump miss c) - hit ≡ suc (length c - hit) = omega arith in
+    jumps hit (with_jump miss c) p n s ∙ ap (λ k. answer_of (with_jump miss c) p n k s) m
+both_far false hit miss c p n s l = jumps miss c p n s
+
+tests : (i : Insn) (t : Test) (o : Operand) (jt jf : ℕ) (c : List Insn) (p : List ℕ) (n : ℕ) (s : State) → operation_of i.code ≡ Some (JumpIf t o) → answer_of (with_offsets i jt jf ∷ c) p n 0 s ≡ answer_of c p n (goes (test_holds t s.accumulator (operand_value o i.k s.index)) jt jf) s
+unfolding step
+tests i t o jt jf c p n s e = ap (λ op. answer_after (answer_of c p n) (does_if_known op (with_offsets i jt jf) p n s)) e
+
+-- a test goes on at its places, however they are reached
+test_goes : (r : Reach) (i : Insn) (t : Test) (o : Operand) (hit miss : ℕ) (c : List Insn) (p : List ℕ) (n : ℕ) (s : State) → operation_of i.code ≡ Some (JumpIf t o) → hit ≤ length c → miss ≤ length c → answer_of (with_test_by r i hit miss c) p n 0 s ≡ answer_of c p n (goes (test_holds t s.accumulator (operand_value o i.k s.index)) (length c - hit) (length c - miss)) s
+test_goes Near i t o hit miss c p n s e lh lm = tests i t o _ _ c p n s e
+test_goes YesFar i t o hit miss c p n s e lh lm = tests i t o _ _ (with_jump hit c) p n s e ∙ yes_far _ hit miss c p n s lm
+test_goes NoFar i t o hit miss c p n s e lh lm = tests i t o _ _ (with_jump miss c) p n s e ∙ no_far _ hit miss c p n s lh
+test_goes BothFar i t o hit miss c p n s e lh lm = tests i t o _ _ (with_jump hit (with_jump miss c)) p n s e ∙ both_far _ hit miss c p n s lh
+
+-- code that goes on as other code does
+record GoesOn (l : PlacedCode) (is : List Insn) (p : List ℕ) (n : ℕ) : Type 0 where
+  next : (s : State) → answer_of l.code p n 0 s ≡ answer_of is p n 0 s
+  inside : (k : ℕ) → place_at l k ≤ length l.code
+  arrives : (k : ℕ) (s : State) → answer_of l.code p n (length l.code - place_at l k) s ≡ answer_of is p n k s
+
+by_way : (b : Bool) (l : PlacedCode) (is : List Insn) (p : List ℕ) (n yes_k no_k : ℕ) (s : State) → GoesOn l is p n → answer_of l.code p n (goes b (length l.code - place_at l yes_k) (length l.code - place_at l no_k)) s ≡ answer_of is p n (goes b yes_k no_k) s
+by_way true l is p n yes_k no_k s h = h.arrives yes_k s
+by_way false l is p n yes_k no_k s h = h.arrives no_k s
+
+after_into : (register : Register) (o : Option ℕ) (s : State) (l : PlacedCode) (is : List Insn) (p : List ℕ) (n : ℕ) → GoesOn l is p n → answer_after (answer_of l.code p n) (into register o s) ≡ answer_after (answer_of is p n) (into register o s)
+after_into register None s l is p n h = refl
+after_into register (Some v) s l is p n h = h.next _
+
+after_word_into : (register : Register) (o : Option ℕ) (s : State) (l : PlacedCode) (is : List Insn) (p : List ℕ) (n : ℕ) → GoesOn l is p n → answer_after (answer_of l.code p n) (word_into register o s) ≡ answer_after (answer_of is p n) (word_into register o s)
+after_word_into register None s l is p n h = refl
+after_word_into register (Some v) s l is p n h = h.next _
+
+after_into_word : (b : Bool) (t : State) (l : PlacedCode) (is : List Insn) (p : List ℕ) (n : ℕ) → GoesOn l is p n → answer_after (answer_of l.code p n) (if b then Goes 0 t else Lost) ≡ answer_after (answer_of is p n) (if b then Goes 0 t else Lost)
+after_into_word true t l is p n h = h.next t
+after_into_word false t l is p n h = refl
+
+plain : (op : Option Operation) (i : Insn) (c : List Insn) (p : List ℕ) (n : ℕ) (s : State) → operation_of i.code ≡ op → answer_of (with_offsets i 0 0 ∷ c) p n 0 s ≡ answer_after (answer_of c p n) (does_if_known op (with_offsets i 0 0) p n s)
+unfolding step
+plain op i c p n s e = ap (λ o. answer_after (answer_of c p n) (does_if_known o (with_offsets i 0 0) p n s)) e
+
+-- a wide instruction that is laid out does what it does in the wide code
+emitted_same : (op : Option Operation) (i : Insn) (l : PlacedCode) (is : List Insn) (p : List ℕ) (n : ℕ) (s : State) → operation_of i.code ≡ op → GoesOn l is p n → answer_of (with_insn op i l) p n 0 s ≡ answer_after (answer_of is p n) (does_if_known op i p n s)
+unfolding with_test
+emitted_same None i l is p n s e h = plain None i l.code p n s e
+emitted_same (Some (LoadAbsolute width)) i l is p n s e h = plain _ i l.code p n s e ∙ after_into Accumulator _ s l is p n h
+emitted_same (Some (LoadIndirect width)) i l is p n s e h = plain _ i l.code p n s e ∙ after_into Accumulator _ s l is p n h
+emitted_same (Some (Load register Immediate)) i l is p n s e h = plain _ i l.code p n s e ∙ h.next _
+emitted_same (Some (Load register Memory)) i l is p n s e h = plain _ i l.code p n s e ∙ after_word_into register _ s l is p n h
+emitted_same (Some (Load register Length)) i l is p n s e h = plain _ i l.code p n s e ∙ h.next _
+emitted_same (Some LoadHeaderLength) i l is p n s e h = plain _ i l.code p n s e ∙ after_into Index _ s l is p n h
+emitted_same (Some (Store register)) i l is p n s e h = plain _ i l.code p n s e ∙ after_into_word _ _ l is p n h
+emitted_same (Some (Compute operator operand)) i l is p n s e h = plain _ i l.code p n s e ∙ after_into Accumulator _ s l is p n h
+emitted_same (Some Negate) i l is p n s e h = plain _ i l.code p n s e ∙ h.next _
+emitted_same (Some Jump) i l is p n s e h = jumps _ l.code p n s ∙ h.arrives i.k s
+emitted_same (Some (JumpIf t o)) i l is p n s e h =
+    test_goes _ i t o _ _ l.code p n s e (h.inside i.jt) (h.inside i.jf) ∙ by_way _ l is p n i.jt i.jf s h
+emitted_same (Some ReturnConstant) i l is p n s e h = plain _ i l.code p n s e
+emitted_same (Some ReturnAccumulator) i l is p n s e h = plain _ i l.code p n s e
+emitted_same (Some CopyToIndex) i l is p n s e h = plain _ i l.code p n s e ∙ h.next _
+emitted_same (Some CopyToAccumulator) i l is p n s e h = plain _ i l.code p n s e ∙ h.next _
+
+-- the same answer from each wide instruction on
+same_from : (wide : List Insn) (p : List ℕ) (n k : ℕ) (s : State) → answer_of (laid_out (drop k wide)) p n 0 s ≡ answer_of wide p n k s
+unfolding step
+same_from [] p n zero s = refl
+same_from [] p n (suc k) s = refl
+same_from (i ∷ is) p n (suc k) s = same_from is p n k s
+same_from (i ∷ is) p n zero s =
+    emitted_same (operation_of i.code) i (placed_code is) is p n s refl (record {
+      next = λ s'. same_from is p n 0 s';
+      inside = target_inside is;
+      arrives = λ k s'. ap (λ to. answer_of (laid_out is) p n (length (laid_out is) - to) s') (target_is is k) ∙ end_answer (rest_end is k) p n s' ∙ same_from is p n k s';
+    })
+
+pub same_answers : (wide : List Insn) (p : List ℕ) (n : ℕ) (s : State) → answer_of (laid_out wide) p n 0 s ≡ answer_of wide p n 0 s
+same_answers wide p n s = same_from wide p n 0 s

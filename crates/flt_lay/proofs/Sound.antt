@@ -1,0 +1,132 @@
+-- Code without a fault stays so.
+use Rattle.std.proofs.Common.{◌≡◌, ℕ, ◌-◌, ◌<◌, ◌≤◌, List, [], ◌∷◌, ◌++◌, length, drop, true, false, Option, Some, None, refl, sym, ap, ◌∙◌, arith, length-drop}
+use Rattle.std.specs.Prelude.{nat_lt, ◌&&◌}
+use Rattle.std.proofs.lemmas.Bool.Decides.{nat_tests}
+use Rattle.flt_bpf.specs.declared.insn.Insn.{Insn}
+use Rattle.flt_bpf.specs.declared.fault.CheckFault.TheVariants.{JumpOut}
+use Rattle.flt_bpf.specs.declared.operation.Operation.{Operation}
+use Rattle.flt_bpf.specs.declared.operation.Operation.TheVariants.{LoadAbsolute, LoadIndirect, Load, LoadHeaderLength, Store, Compute, Negate, Jump, JumpIf, ReturnConstant, ReturnAccumulator, CopyToIndex, CopyToAccumulator}
+use Rattle.flt_bpf.specs.declared.operation.Source.TheVariants.{Immediate, Memory, Length}
+use Rattle.flt_bpf.specs.declared.operation.Test.{Test}
+use Rattle.flt_bpf.specs.declared.operation.Operand.{Operand}
+use Rattle.flt_bpf.specs.declared.operation.Operand.TheVariants.{Constant, IndexRegister}
+use Rattle.flt_bpf.specs.Instructions.{operation_of}
+use Rattle.flt_bpf.specs.Check.{unless, fault_of, fault_if_known, is_return, ends_in_return, IsFaultless, IsValidUnlessLong}
+use Rattle.flt_lay.specs.declared.layout.Reach.{Reach}
+use Rattle.flt_lay.specs.declared.layout.Reach.TheVariants.{Near, YesFar, NoFar, BothFar}
+use Rattle.flt_lay.specs.Layout.{PlacedCode, place_at, with_offsets, with_jump, test_reach, with_test, with_test_by, with_insn, placed_code, laid_out}
+use Rattle.flt_lay.proofs.Places.{emitted_end, target_is, target_inside}
+use Rattle.flt_lay.proofs.Counted.{at_least}
+
+-- places inside the code
+record IsInside (to : ℕ) (c : List Insn) : Type 0 where
+  some : 0 < to
+  within : to ≤ length c
+
+jump_sound : (to : ℕ) (c : List Insn) → IsInside to c → IsFaultless c → IsFaultless (with_jump to c)
+unfolding fault_of operation_of
+jump_sound to c h sound =
+    let l : nat_lt (length c - to) (length c) ≡ true = (let s = h.some in let w = h.within in grind (arith, nat_tests)) in
+    (ap (λ b. unless b JumpOut) l, sound)
+
+test_sound : (i : Insn) (t : Test) (o : Operand) (jt jf : ℕ) (c : List Insn) → operation_of i.code ≡ Some (JumpIf t o) → jt < length c → jf < length c → IsFaultless c → IsFaultless (with_offsets i jt jf ∷ c)
+unfolding fault_of
+test_sound i t o jt jf c e yes_in no_in sound =
+    let a : nat_lt jt (length c) ≡ true = grind (arith, nat_tests) in
+    let b : nat_lt jf (length c) ≡ true = grind (arith, nat_tests) in
+    let both : (nat_lt jt (length c) && nat_lt jf (length c)) ≡ true = rw (a, b) refl in
+    (ap (λ op. fault_if_known op (with_offsets i jt jf) (length c)) e ∙ ap (λ d. unless d JumpOut) both, sound)
+
+reached_sound : (r : Reach) (i : Insn) (t : Test) (o : Operand) (hit miss : ℕ) (c : List Insn) → operation_of i.code ≡ Some (JumpIf t o) → IsInside hit c → IsInside miss c → IsFaultless c → IsFaultless (with_test_by r i hit miss c)
+reached_sound Near i t o hit miss c e h m sound =
+    test_sound i t o _ _ c e (omega (arith, h.some, h.within)) (omega (arith, m.some, m.within)) sound
+reached_sound YesFar i t o hit miss c e h m sound =
+    test_sound i t o _ _ (with_jump hit c) e (omega arith) (omega (arith, m.some, m.within)) (jump_sound hit c h sound)
+reached_sound NoFar i t o hit miss c e h m sound =
+    test_sound i t o _ _ (with_jump miss c) e (omega (arith, h.some, h.within)) (omega arith) (jump_sound miss c m sound)
+reached_sound BothFar i t o hit miss c e h m sound =
+    let later : IsInside hit (with_jump miss c) = record { some = h.some; within = omega (arith, h.within) } in
+    test_sound i t o _ _ (with_jump hit (with_jump miss c)) e (omega arith) (omega arith) (jump_sound hit (with_jump miss c) later (jump_sound miss c m sound))
+
+plain_sound : (op : Option Operation) (i : Insn) (c : List Insn) → operation_of i.code ≡ op → fault_if_known op (with_offsets i 0 0) (length c) ≡ None → IsFaultless c → IsFaultless (with_offsets i 0 0 ∷ c)
+unfolding fault_of
+plain_sound op i c e none sound = (ap (λ o. fault_if_known o (with_offsets i 0 0) (length c)) e ∙ none, sound)
+
+-- the targets of an instruction with so many behind it
+record HasTargets (l : PlacedCode) (behind : ℕ) : Type 0 where
+  inside : (k : ℕ) → k < behind → IsInside (place_at l k) l.code
+
+within_if : (k behind : ℕ) → unless (nat_lt k behind) JumpOut ≡ None → k < behind
+within_if k behind e = below (nat_lt k behind) refl e
+  where
+    below : (b : _) → b ≡ nat_lt k behind → unless b JumpOut ≡ None → k < behind
+    below true t e = grind (arith, nat_tests)
+    below false t e = cc
+
+emitted_sound : (op : Option Operation) (i : Insn) (l : PlacedCode) (behind : ℕ) → operation_of i.code ≡ op → fault_if_known op i behind ≡ None → HasTargets l behind → IsFaultless l.code → IsFaultless (with_insn op i l)
+unfolding with_test
+emitted_sound None i l behind e none h sound = cc
+emitted_sound (Some (LoadAbsolute width)) i l behind e none h sound = plain_sound _ i l.code e refl sound
+emitted_sound (Some (LoadIndirect width)) i l behind e none h sound = plain_sound _ i l.code e refl sound
+emitted_sound (Some (Load register Immediate)) i l behind e none h sound = plain_sound _ i l.code e refl sound
+emitted_sound (Some (Load register Memory)) i l behind e none h sound = plain_sound _ i l.code e none sound
+emitted_sound (Some (Load register Length)) i l behind e none h sound = plain_sound _ i l.code e refl sound
+emitted_sound (Some LoadHeaderLength) i l behind e none h sound = plain_sound _ i l.code e refl sound
+emitted_sound (Some (Store register)) i l behind e none h sound = plain_sound _ i l.code e none sound
+emitted_sound (Some (Compute operator Constant)) i l behind e none h sound = plain_sound _ i l.code e none sound
+emitted_sound (Some (Compute operator IndexRegister)) i l behind e none h sound = plain_sound _ i l.code e refl sound
+emitted_sound (Some Negate) i l behind e none h sound = plain_sound _ i l.code e refl sound
+emitted_sound (Some Jump) i l behind e none h sound = jump_sound _ l.code (h.inside i.k (within_if i.k behind none)) sound
+emitted_sound (Some (JumpIf t o)) i l behind e none h sound = tests (nat_lt i.jt behind) (nat_lt i.jf behind) refl refl none
+  where
+    tests : (a b : _) → a ≡ nat_lt i.jt behind → b ≡ nat_lt i.jf behind → unless (a && b) JumpOut ≡ None → IsFaultless (with_insn (Some (JumpIf t o)) i l)
+    tests true true ea eb none' =
+        let yes_in : i.jt < behind = grind (arith, nat_tests) in
+        let no_in : i.jf < behind = grind (arith, nat_tests) in
+        reached_sound _ i t o _ _ l.code e (h.inside i.jt yes_in) (h.inside i.jf no_in) sound
+    tests true false ea eb none' = cc
+    tests false b ea eb none' = cc
+emitted_sound (Some ReturnConstant) i l behind e none h sound = plain_sound _ i l.code e refl sound
+emitted_sound (Some ReturnAccumulator) i l behind e none h sound = plain_sound _ i l.code e refl sound
+emitted_sound (Some CopyToIndex) i l behind e none h sound = plain_sound _ i l.code e refl sound
+emitted_sound (Some CopyToAccumulator) i l behind e none h sound = plain_sound _ i l.code e refl sound
+
+targets_of : (wide : List Insn) → HasTargets (placed_code wide) (length wide)
+targets_of wide = record { inside = λ k l. record { some = omega (arith, target_is wide k, at_least (drop k wide), length-drop k wide); within = target_inside wide k } }
+
+faultless_laid : (wide : List Insn) → IsFaultless wide → IsFaultless (laid_out wide)
+unfolding fault_of
+faultless_laid [] h = tt
+faultless_laid (i ∷ is) h =
+    emitted_sound (operation_of i.code) i (placed_code is) (length is) refl h.0 (targets_of is) (faultless_laid is h.1)
+
+-- the end of code
+ends_behind : (front c : List Insn) → 0 < length c → ends_in_return (front ++ c) ≡ ends_in_return c
+ends_behind [] c some = refl
+ends_behind (i ∷ []) [] some = absurd (omega arith)
+ends_behind (i ∷ []) (j ∷ c) some = refl
+ends_behind (i ∷ h ∷ front) c some = ends_behind (h ∷ front) c some
+
+test_no_end : (r : Reach) (i : Insn) (t : Test) (o : Operand) (hit miss : ℕ) → operation_of i.code ≡ Some (JumpIf t o) → ends_in_return (with_test_by r i hit miss []) ≡ false
+unfolding operation_of
+test_no_end Near i t o hit miss e = ap is_return e
+test_no_end YesFar i t o hit miss e = refl
+test_no_end NoFar i t o hit miss e = refl
+test_no_end BothFar i t o hit miss e = refl
+
+last_end : (op : Option Operation) (i : Insn) → operation_of i.code ≡ op → ends_in_return (with_insn op i (placed_code [])) ≡ is_return (operation_of i.code)
+unfolding with_test operation_of
+last_end (Some (JumpIf t o)) i e = test_no_end (test_reach (place_at (placed_code []) i.jt) (place_at (placed_code []) i.jf) []) i t o (place_at (placed_code []) i.jt) (place_at (placed_code []) i.jf) e ∙ sym (ap is_return e)
+last_end (Some Jump) i e = sym (ap is_return e)
+last_end _ i e = refl
+
+ends_laid : (wide : List Insn) → ends_in_return (laid_out wide) ≡ ends_in_return wide
+ends_laid [] = refl
+ends_laid (i ∷ []) = last_end (operation_of i.code) i refl
+ends_laid (i ∷ j ∷ is) =
+    let h = emitted_end (operation_of i.code) i (placed_code (j ∷ is)) in
+    let some : 0 < length (laid_out (j ∷ is)) = omega (arith, at_least (j ∷ is)) in
+    ap ends_in_return h.parts ∙ ends_behind h.front (laid_out (j ∷ is)) some ∙ ends_laid (j ∷ is)
+
+pub sound_laid : (wide : List Insn) → IsValidUnlessLong wide → IsValidUnlessLong (laid_out wide)
+sound_laid wide h = record { faultless = faultless_laid wide h.faultless; ends = ends_laid wide ∙ h.ends }

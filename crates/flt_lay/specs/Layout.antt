@@ -1,0 +1,65 @@
+-- Wide code laid out as instructions, from its end to its beginning.
+use Rattle.std.specs.Prelude.{ℕ, ◌+◌, ◌-◌, nat_le, ◌&&◌, if◌then◌else◌, List, [], ◌∷◌, length, slice_index, Option, Some}
+use Rattle.flt_bpf.specs.declared.insn.Insn.{Insn}
+use Rattle.flt_bpf.specs.declared.operation.Operation.{Operation}
+use Rattle.flt_bpf.specs.declared.operation.Operation.TheVariants.{Jump, JumpIf}
+use Rattle.flt_bpf.specs.Instructions.{operation_of}
+use Rattle.flt_bpf.specs.Layout.{JUMP, MOST_OFFSET}
+use Rattle.flt_lay.specs.declared.layout.Reach.{Reach}
+use Rattle.flt_lay.specs.declared.layout.Reach.TheVariants.{Near, YesFar, NoFar, BothFar}
+
+-- what is laid out so far: the code, and the place of each instruction of the wide code, first to
+-- last. A place is the number of instructions from there to the end
+pub record PlacedCode : Type 0 where
+  pub code : List Insn
+  pub places : List ℕ
+
+-- the place of the wide instruction so many further than the next one; past the last it is the end
+abbrev pub place_at : PlacedCode → ℕ → ℕ
+place_at l further = slice_index l.places further
+
+-- an instruction with other offsets
+abbrev pub with_offsets : Insn → ℕ → ℕ → Insn
+with_offsets i jt jf = record { code = i.code; jt = jt; jf = jf; k = i.k }
+
+-- a jump to a place
+abbrev pub with_jump : ℕ → List Insn → List Insn
+with_jump to c = record { code = JUMP; jt = 0; jf = 0; k = length c - to } ∷ c
+
+-- how a test reaches its two places: one that is too far by a jump right behind the test
+abbrev pub test_reach : ℕ → ℕ → List Insn → Reach
+test_reach hit miss c =
+    if nat_le (length c - hit) MOST_OFFSET && nat_le (length c - miss) MOST_OFFSET then Near
+    else (if nat_le (length c + 1 - miss) MOST_OFFSET then YesFar
+    else (if nat_le (length c + 1 - hit) MOST_OFFSET then NoFar else BothFar))
+
+abbrev pub with_test_by : Reach → Insn → ℕ → ℕ → List Insn → List Insn
+with_test_by Near i hit miss c = with_offsets i (length c - hit) (length c - miss) ∷ c
+with_test_by YesFar i hit miss c = with_offsets i 0 (length c + 1 - miss) ∷ with_jump hit c
+with_test_by NoFar i hit miss c = with_offsets i (length c + 1 - hit) 0 ∷ with_jump miss c
+with_test_by BothFar i hit miss c = with_offsets i 0 1 ∷ with_jump hit (with_jump miss c)
+
+-- a test that goes on at one of two places
+unfoldable pub with_test : Insn → ℕ → ℕ → List Insn → List Insn
+with_test i hit miss c = with_test_by (test_reach hit miss c) i hit miss c
+
+-- a wide instruction with this operation, in front of what is laid out
+abbrev pub with_insn : Option Operation → Insn → PlacedCode → List Insn
+with_insn (Some (JumpIf test operand)) i l = with_test i (place_at l i.jt) (place_at l i.jf) l.code
+with_insn (Some Jump) i l = with_jump (place_at l i.k) l.code
+with_insn _ i l = with_offsets i 0 0 ∷ l.code
+
+-- what is laid out is now this code, in which one more wide instruction stands first
+abbrev pub with_entry : List Insn → PlacedCode → PlacedCode
+with_entry c l = record { code = c; places = length c ∷ l.places }
+
+abbrev pub put : Insn → PlacedCode → PlacedCode
+put i l = with_entry (with_insn (operation_of i.code) i l) l
+
+abbrev pub placed_code : List Insn → PlacedCode
+placed_code [] = record { code = []; places = [] }
+placed_code (i ∷ is) = put i (placed_code is)
+
+-- the instructions of wide code
+abbrev pub laid_out : List Insn → List Insn
+laid_out wide = (placed_code wide).code

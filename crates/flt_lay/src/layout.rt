@@ -1,0 +1,260 @@
+//! Wide code laid out as instructions, from its end to its beginning.
+
+ghost use Rattle.std.specs.Prelude.{◌≡◌, ◌+◌, ◌-◌, ◌*◌, ◌^◌, ◌<◌, ◌≤◌, ℕ, List, [], ◌∷◌, length};
+ghost use Rattle.std.specs.Prelude.{IfOk, OnOk, count_by};
+ghost use Rattle.flt_bpf.specs.Answer.{answer_of};
+ghost use Rattle.flt_bpf.specs.Check.{IsValidUnlessLong};
+ghost use Rattle.flt_bpf.specs.Instructions.{operation_of};
+ghost use Rattle.flt_bpf.specs.Layout.{is_branch, HasNoJump, JumpsAreNeeded, IsShort};
+ghost use Rattle.flt_bpf.specs.Machine.{start};
+ghost use Rattle.flt_bpf.specs.Valid.{MOST_INSTRUCTIONS, IsValid};
+ghost use Rattle.flt_lay.specs.Layout.{place_at, with_offsets, with_jump, test_reach, with_test};
+ghost use Rattle.flt_lay.specs.Layout.{with_entry, put, placed_code};
+
+use flt_bpf::insn::Insn;
+use flt_bpf::operation::{Operation, decode};
+use flt_bpf::wide::Wide;
+use std::alloc::{AllocError, Allocator};
+use std::marker::Model;
+
+/// The greatest offset of a conditional jump.
+const NEAR: usize = 255;
+
+/// How a test reaches its two targets: a far one by a jump right behind the test.
+#[derive(Clone, Copy)]
+pub enum Reach {
+    Near,
+    YesFar,
+    NoFar,
+    BothFar,
+}
+
+/// Where a test goes on.
+#[derive(Clone, Copy)]
+struct Targets {
+    yes: usize,
+    no: usize,
+}
+
+/// The code from some wide instruction to the end. A place is named by the number of instructions
+/// from there on.
+#[derive(Drop)]
+struct Layout<A: Allocator> {
+    backwards: Vec<Insn, A>,
+    /// Where each wide instruction stands, from the last to the first.
+    places: Vec<usize, A>,
+}
+
+impl<A: Allocator> Model for Layout<A> {
+    ghost use Rattle.std.specs.Prelude.{reverse};
+    ghost use Rattle.flt_lay.specs.Layout.{PlacedCode};
+
+    ghost Value = { PlacedCode };
+
+    ghost view = { λ l. record {
+      code = reverse l.backwards.items;
+      places = reverse l.places.items;
+    } };
+}
+
+/// An instruction with other offsets.
+fn with_offsets(insn: Wide, jt: u8, jf: u8) -> Insn
+    ensures { result ≡ with_offsets insn jt jf }
+{
+    Insn {
+        code: insn.code,
+        jt,
+        jf,
+        k: insn.k,
+    }
+}
+
+impl<A: Allocator> Layout<A> {
+    /// Nothing is laid out yet.
+    fn new(code_alloc: A, place_alloc: A) -> Self
+        ensures { result ≡ placed_code [] }
+    {
+        Layout {
+            backwards: Vec::new(code_alloc),
+            places: Vec::new(place_alloc),
+        }
+    }
+
+    /// The place of the instruction that stands first.
+    fn top(&self) -> usize
+        ensures { result ≡ length self.now.code }
+    {
+        self.backwards.len()
+    }
+
+    /// The place of the wide instruction so many further than the next one; past the last it is
+    /// the end.
+    fn target(&self, further: u32) -> usize
+        ensures { result ≡ place_at self.now further }
+    {
+        let (further, count) = (further as usize, self.places.len());
+        if further < count {
+            self.places[count - 1 - further]
+        } else {
+            0
+        }
+    }
+
+    /// How many instructions stand in front of a place.
+    fn distance(&self, place: usize) -> usize
+        ensures { result ≡ length self.now.code - place }
+    {
+        self.top().saturating_sub(place)
+    }
+
+    /// The same once there is one more instruction in front.
+    fn distance_past(&self, place: usize) -> usize
+        requires { length self.now.code < 2 ^ 32 }
+        ensures { result ≡ length self.now.code + 1 - place }
+    {
+        (self.top() + 1).saturating_sub(place)
+    }
+
+    /// One more instruction in front.
+    fn emit(&mut self, insn: Insn) -> Result<(), AllocError>
+        ensures { OnOk result (self.new ≡ record self.old { code = insn ∷ self.old.code }) }
+    {
+        self.backwards.push(insn)?;
+        Ok(())
+    }
+
+    /// A jump to a place.
+    fn emit_jump(&mut self, to: usize) -> Result<(), AllocError>
+        requires { length self.old.code < 2 ^ 32 }
+        ensures { OnOk result (self.new ≡ record self.old { code = with_jump to self.old.code }) }
+    {
+        let offset = self.distance(to) as u32;
+        self.emit(Insn {
+            code: Operation::Jump.code(),
+            jt: 0,
+            jf: 0,
+            k: offset,
+        })
+    }
+
+    /// Which targets are too far for a test that comes next.
+    fn reach(&self, to: Targets) -> Reach
+        requires { length self.now.code < 2 ^ 32 }
+        ensures { result ≡ test_reach to.yes to.no self.now.code }
+    {
+        let (yes, no) = (self.distance(to.yes), self.distance(to.no));
+        if yes <= NEAR && no <= NEAR {
+            Reach::Near
+        } else if self.distance_past(to.no) <= NEAR {
+            Reach::YesFar
+        } else if self.distance_past(to.yes) <= NEAR {
+            Reach::NoFar
+        } else {
+            Reach::BothFar
+        }
+    }
+
+    /// A test that goes on at one of two places.
+    #[tactic(auto, unfolding(crate::specs::Layout::with_test))]
+    fn emit_test(&mut self, insn: Wide, to: Targets) -> Result<(), AllocError>
+        requires { length self.old.code + 3 < 2 ^ 32 }
+        ensures { OnOk result
+            (self.new ≡ record self.old { code = with_test insn to.yes to.no self.old.code }) }
+    {
+        let (jt, jf) = match self.reach(to) {
+            Reach::Near => (self.distance(to.yes), self.distance(to.no)),
+            Reach::YesFar => {
+                self.emit_jump(to.yes)?;
+                (0, self.distance(to.no))
+            }
+            Reach::NoFar => {
+                self.emit_jump(to.no)?;
+                (self.distance(to.yes), 0)
+            }
+            Reach::BothFar => {
+                self.emit_jump(to.no)?;
+                self.emit_jump(to.yes)?;
+                (0, 1)
+            }
+        };
+        self.emit(with_offsets(insn, jt as u8, jf as u8))
+    }
+
+    /// A wide instruction stands first from now on.
+    fn place_first(&mut self) -> Result<(), AllocError>
+        ensures { OnOk result (self.new ≡ with_entry self.old.code self.old) }
+    {
+        let top = self.top();
+        self.places.push(top)?;
+        Ok(())
+    }
+
+    /// One more wide instruction in front.
+    fn put(&mut self, insn: Wide) -> Result<(), AllocError>
+        requires { length self.old.code + 3 < 2 ^ 32 }
+        ensures { OnOk result (self.new ≡ put insn self.old) }
+    {
+        match decode(insn.code) {
+            Some(Operation::JumpIf(_, _)) => {
+                let (yes, no) = (self.target(insn.yes), self.target(insn.no));
+                self.emit_test(insn, Targets { yes, no })?;
+            }
+            Some(Operation::Jump) => {
+                let to = self.target(insn.k);
+                self.emit_jump(to)?;
+            }
+            _ => self.emit(with_offsets(insn, 0, 0))?,
+        }
+        self.place_first()
+    }
+
+    /// The instructions in their order.
+    fn into_insns(self) -> Vec<Insn, A>
+        ensures { result.items ≡ self.code }
+    {
+        let Layout {
+            mut backwards,
+            places: _,
+        } = self;
+        backwards.reverse();
+        backwards
+    }
+}
+
+impl<A: Allocator + Clone> Layout<A> {
+    /// All of some wide code.
+    fn of(alloc: A, wide: &[Wide]) -> Result<Self, AllocError>
+        requires { length wide.now < 2 ^ 30 }
+        ensures { IfOk result (λ layout. layout ≡ placed_code wide.now) }
+    {
+        let mut layout = Layout::new(alloc.clone()?, alloc);
+        for at in (0..wide.len()).rev() {
+            layout.put(wide[at])?;
+        }
+        Ok(layout)
+    }
+}
+
+/// The instructions of wide code, which give the same answers. A target that is more than 255
+/// instructions past the one after its test is reached by a jump (`ja`), so a test costs at most
+/// two of them. Jumps of the wide code itself are kept. With fewer than 2^30 wide instructions the
+/// number of any jump fits its 32 bits.
+///
+/// An error is a failed allocation, or an allocator that cannot be cloned.
+pub fn laid_out<A: Allocator + Clone>(alloc: A, wide: &[Wide]) -> Result<Vec<Insn, A>, AllocError>
+    requires { length wide.now < 2 ^ 30 }
+    ensures answers { IfOk result (λ code. (p : List ℕ) (n : ℕ)
+        → answer_of code.items p n 0 start ≡ answer_of wide.now p n 0 start) }
+    ensures at_least { IfOk result (λ code. length wide.now ≤ length code.items) }
+    ensures at_most { IfOk result (λ code. length code.items
+        ≤ length wide.now + 2 * count_by (λ i. is_branch (operation_of i.code)) wide.now) }
+    ensures jumps { HasNoJump wide.now → IfOk result (λ code. JumpsAreNeeded code.items) }
+    ensures short { HasNoJump wide.now → length wide.now ≤ 256
+        → IfOk result (λ code. IsShort code.items (length wide.now)) }
+    ensures faultless { IsValidUnlessLong wide.now
+        → IfOk result (λ code. IsValidUnlessLong code.items) }
+    ensures valid { IsValidUnlessLong wide.now → IfOk result
+        (λ code. length code.items ≤ MOST_INSTRUCTIONS → IsValid code.items) }
+{
+    Ok(Layout::of(alloc, wide)?.into_insns())
+}

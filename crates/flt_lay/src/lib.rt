@@ -1,0 +1,9 @@
+//! Code whose jumps go any distance, laid out as instructions: a jump (`ja`) stands only for a
+//! target that is too far for its test.
+#![tactic(auto)]
+
+mod layout;
+#[cfg(test)]
+mod tests;
+
+pub use layout::laid_out;

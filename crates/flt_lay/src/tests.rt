@@ -1,0 +1,100 @@
+//! Targets at the borders of what a conditional jump reaches, by runs of what is laid out.
+
+use crate::laid_out;
+use flt_bpf::program::run_any;
+use flt_bpf::{Insn, Wide};
+use std::alloc::{AllocError, Global};
+use std::test::Fail;
+
+// A = original length, A = k ?, return k
+const LOAD_LENGTH: u16 = 128;
+
+const IF_EQUAL: u16 = 21;
+
+const RETURN: u16 = 6;
+
+/// How many returns stand behind the tests.
+const RETURNS: usize = 300;
+
+fn plain(code: u16, k: u32) -> Wide {
+    let (yes, no) = (0, 0);
+    Wide { code, yes, no, k }
+}
+
+/// A test for a packet of this length.
+fn is_long(k: u32, yes: u32, no: u32) -> Wide {
+    let code = IF_EQUAL;
+    Wide { code, yes, no, k }
+}
+
+/// The length of a packet, tests of it, and then returns of 0, 1, 2 and so on, all laid out.
+fn with_returns(alloc: Global, tests: &[Wide]) -> Result<Vec<Insn>, Fail> {
+    let mut wide = Vec::new(alloc);
+    wide.push(plain(LOAD_LENGTH, 0))?;
+    for test in tests {
+        wide.push(*test)?;
+    }
+    for k in 0..RETURNS as u32 {
+        wide.push(plain(RETURN, k))?;
+    }
+    if wide.len() > 1_000 {
+        return Err(Fail::from("too many tests"));
+    }
+    Ok(laid_out(alloc, &wide)?)
+}
+
+/// One test, and by how many jumps its targets are reached.
+#[derive(Clone, Copy)]
+struct Row {
+    yes: u32,
+    no: u32,
+    jumps_if_yes: usize,
+    jumps_if_no: usize,
+}
+
+fn row_of(yes: u32, no: u32, jumps_if_yes: usize, jumps_if_no: usize) -> Row {
+    Row {
+        yes,
+        no,
+        jumps_if_yes,
+        jumps_if_no,
+    }
+}
+
+/// A jump for one target makes the other one farther by one instruction.
+#[test]
+fn one_test(rt: HostRuntime) -> Result<(), Fail> {
+    let rows = [
+        row_of(0, 255, 0, 0),
+        row_of(255, 0, 0, 0),
+        row_of(255, 255, 0, 0),
+        row_of(0, 256, 0, 1),
+        row_of(256, 0, 1, 0),
+        row_of(254, 256, 0, 1),
+        row_of(256, 254, 1, 0),
+        row_of(255, 256, 1, 1),
+        row_of(256, 255, 1, 1),
+        row_of(256, 256, 1, 1),
+    ];
+    for row in &rows {
+        let code = with_returns(rt.alloc(), &[is_long(1, row.yes, row.no)])?;
+        let jumps = row.jumps_if_yes.saturating_add(row.jumps_if_no);
+        assert!(rt; code.len() == RETURNS.saturating_add(2).saturating_add(jumps));
+        let (yes, no) = (run_any(&code, &[], 1), run_any(&code, &[], 2));
+        assert!(rt; yes == Some((row.yes, row.jumps_if_yes.saturating_add(3))));
+        assert!(rt; no == Some((row.no, row.jumps_if_no.saturating_add(3))));
+    }
+    Ok(())
+}
+
+/// The jumps of a test make the targets of one in front of it farther.
+#[test]
+fn two_tests(rt: HostRuntime) -> Result<(), Fail> {
+    let tests = [is_long(1, 255, 0), is_long(2, 256, 270)];
+    let code = with_returns(rt.alloc(), &tests)?;
+    assert!(rt; code.len() == RETURNS + 3 + 3);
+    assert!(rt; run_any(&code, &[], 1) == Some((254, 4)));
+    assert!(rt; run_any(&code, &[], 2) == Some((256, 5)));
+    assert!(rt; run_any(&code, &[], 3) == Some((270, 5)));
+    Ok(())
+}
