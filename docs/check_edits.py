@@ -9,9 +9,10 @@ usage: check_edits.py                   lists edits that no longer apply to thei
                                         one ended, and tries again only what changed
 
 An edit applies where each of its old texts is in its file exactly once. The status is 1 where one doesn't apply, a note is
-stale, or an edit isn't refused. To be tried an edit is a file of must-fail/ for as long as that takes; edits of the gate are
-tried too. A crate is to be checked before (`rt check` in its folder): its edits begin with what that kept.
+stale, or an edit isn't refused. To be tried an edit is a file of must-fail/ for as long as that takes, and those of the gate
+have other names. A crate is to be checked before (`rt check` in its folder): its edits begin with what that kept.
 """
+import contextlib
 import hashlib
 import pathlib
 import re
@@ -24,7 +25,10 @@ NOTE = re.compile(r"In the gate `(\w+)`(?: of (\w+))?|`(\w+)` of (\w+)")
 TOLD = re.compile(r"^rt: must-fail \w+/(\w+)\.edit: (.*)", re.MULTILINE)
 
 # How many edits are files at once, so that a run that is ended loses few.
-BATCH = 8
+BATCH = 16
+
+# What an edit of the gate is called while others are tried.
+ASIDE = ".aside"
 
 # What came of an edit, in the order in which a line is held against them, by the words of `rt must-fail`.
 KINDS = {
@@ -98,16 +102,33 @@ def list_stale():
     return edits + notes
 
 
-def must_fail(crate, edits, **how):
-    """Runs `rt must-fail` with these edits as files of the crate's."""
-    files = [crate / "must-fail" / f"{name}.edit" for name in edits]
+def put_back(folder):
+    """Gives edits of the gate their names back, those too that a run which was ended left aside."""
+    for file in folder.glob(f"*{ASIDE}"):
+        file.rename(file.with_suffix(""))
+
+
+@contextlib.contextmanager
+def alone(folder, edits):
+    """These edits are the files of a crate's must-fail/."""
+    put_back(folder)
+    for file in folder.glob("*.edit"):
+        file.rename(f"{file}{ASIDE}")
+    files = [folder / f"{name}.edit" for name in edits]
     try:
         for file, edit in zip(files, edits.values()):
             file.write_text(edit)
-        return subprocess.run(["rt", "must-fail", crate.name], cwd=ROOT, **how)
+        yield
     finally:
         for file in files:
             file.unlink(missing_ok=True)
+        put_back(folder)
+
+
+def must_fail(crate, edits, **how):
+    """Runs `rt must-fail` with these edits alone."""
+    with alone(crate / "must-fail", edits):
+        return subprocess.run(["rt", "must-fail", crate.name], cwd=ROOT, **how)
 
 
 def try_edits(crate, names):

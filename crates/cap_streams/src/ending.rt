@@ -5,12 +5,11 @@ ghost use Rattle.std.specs.Result.{result_ok};
 ghost use Rattle.cap_streams.specs.Ending.{has_failed, is_unread, status_by};
 ghost use Rattle.cap_streams.specs.Streams.{holds_old_bytes};
 
+use crate::FAULT;
 use crate::held::Outlet;
 use crate::message::Shown;
 use crate::opening::Target;
 use crate::stop::Stop;
-use crate::streams::Created;
-use crate::{FAULT, USAGE};
 use cap_octet::StdOutput;
 use std::alloc::Global;
 use std::io::{self, ErrorKind, Write};
@@ -44,23 +43,9 @@ fn is_unread(cause: Option<ErrorKind>) -> bool
     matches!(cause, Some(ErrorKind::BrokenPipe))
 }
 
-/// Keeps what the output held before if the expression or the listing was refused, and else removes
-/// it.
-fn leave(status: u8, output: &mut Created) -> io::Result<()>
-    ensures refused { status ≡ 2 → output.new ≡ output.old }
-    ensures ran { status ≢ 2 → OnOk result (holds_old_bytes output.new ≡ false) }
-{
-    if status == USAGE {
-        return Ok(());
-    }
-    output.empty()
-}
-
 /// Writes what is buffered, and decides over what the output held before.
 pub fn settle(status: u8, target: &mut Target<'_>) -> io::Result<()> {
-    if let Outlet::Direct(created) = target.get_mut() {
-        leave(status, created)?;
-    }
+    target.get_mut().leave(status)?;
     target.flush()
 }
 

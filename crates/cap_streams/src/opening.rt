@@ -99,18 +99,20 @@ pub fn create<'a>(rt: &HostRuntime, name: &'a str) -> Result<Created, Stop<'a>> 
     }
 }
 
-/// The output with its buffer. What is waited for goes into the buffer that reads write out.
+/// The output with its buffer. Where a read may wait it has none: what is written is held back.
 pub fn target<'a, 'h>(
     rt: &HostRuntime,
     created: Created,
-    is_waited_for: bool,
+    may_wait: bool,
     held: &'h Held,
 ) -> Result<Target<'h>, Stop<'a>> {
-    let capacity = match buffering_of(created.is_terminal(), is_waited_for) {
+    let capacity = match buffering_of(created.is_terminal(), may_wait) {
         Buffering::AtOnce => 0,
         Buffering::WhenFull => BUFFER,
         Buffering::BeforeReads => {
-            held.hold(buffered(BufWriter::with_capacity(rt.alloc(), BUFFER, created))?);
+            if held.hold(rt.alloc(), created).is_err() {
+                return Err(Stop::NoMemory);
+            }
             return buffered(BufWriter::with_capacity(rt.alloc(), 0, Outlet::Held(held)));
         }
     };

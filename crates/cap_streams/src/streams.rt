@@ -1,10 +1,11 @@
 //! What names mean: files and the standard streams.
-ghost use Rattle.std.specs.Prelude.{◌≡◌, ◌||◌, IfOk, OnOk, None, false, true, not, is_err};
+ghost use Rattle.std.specs.Prelude.{◌≡◌, ◌≢◌, ◌||◌, IfOk, OnOk, None, false, true, not, is_err};
 ghost use Rattle.std.specs.Io.{WritesAtMost};
 ghost use Rattle.std.specs.Io.KnownBytes.{WriteAppends};
 ghost use Rattle.capkit.specs.Names.{is_standard};
 ghost use Rattle.cap_streams.specs.Streams.{holds_old_bytes, is_standard_input, is_standard_output};
 
+use crate::USAGE;
 use capkit::STANDARD;
 use std::fs::{self, File, OpenOptions};
 use std::io::{self, IsTerminal, Read, Stdin, Stdout, Write};
@@ -90,6 +91,18 @@ impl<S> Created<S> {
             }
             _ => Ok(()),
         }
+    }
+
+    /// Keeps what it held before if the run's status says that the expression or the listing was
+    /// refused, and else removes it.
+    pub(crate) fn leave(&mut self, status: u8) -> io::Result<()>
+        ensures refused { status ≡ 2 → self.new ≡ self.old }
+        ensures ran { status ≢ 2 → OnOk result (holds_old_bytes self.new ≡ false) }
+    {
+        if status == USAGE {
+            return Ok(());
+        }
+        self.empty()
     }
 }
 

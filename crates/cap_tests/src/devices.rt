@@ -1,7 +1,7 @@
 //! Tests of cap_octet: devices over std's readers and writers, times as dates.
 
 mod courses;
-mod marked;
+pub mod marked;
 mod reads;
 mod streams;
 mod times;

@@ -2,7 +2,7 @@
 
 use super::folder::{CAPTURE, enter, leave, line_of, words_of};
 use cap_streams::files::{Identify, Identity, is_plain};
-use cap_streams::held::is_waited_for;
+use cap_streams::held::may_wait;
 use cap_streams::overwrites::overwrites_input;
 use cap_streams::words;
 use capkit::Usage;
@@ -110,35 +110,34 @@ fn standard_output_may_be_an_input(rt: HostRuntime) {
     assert!(rt; overwrites(rt.alloc(), &files, "edit - out") == Some(true));
 }
 
-/// Whether an output is waited for. None if memory ran out.
-fn waits(alloc: Global, files: &impl Identify, inputs: &str, output: &str) -> Option<bool> {
+/// Whether a read of some input may wait. None if memory ran out.
+fn waits(alloc: Global, files: &impl Identify, inputs: &str) -> Option<bool> {
     let names = words_of(alloc, inputs).ok()?;
-    Some(is_waited_for(files, names.as_slice(), output))
+    Some(may_wait(files, names.as_slice()))
 }
 
-/// Inputs and an output, and whether it is waited for.
-const WAITED: [(&str, &str, bool); 6] = [
-    ("in code", "/dev/null", false),
-    ("in /dev/null", "/dev/null", true),
-    ("/dev/null in", "/dev/null", true),
-    ("none", "/dev/null", true),
-    ("/dev/null", "in", false),
-    ("", "/dev/null", false),
+/// Inputs, and whether a read of some of them may wait.
+const WAITED: [(&str, bool); 6] = [
+    ("in code", false),
+    ("in /dev/null", true),
+    ("/dev/null in", true),
+    ("none", true),
+    ("in", false),
+    ("", false),
 ];
 
-/// Inputs and outputs that aren't plain files are waited for: devices, and what isn't there.
-/// Standard streams go by the files that they are.
+/// Inputs that aren't plain files may be waited for: devices, and what isn't there. Standard input
+/// goes by the file that it is.
 #[test]
 fn devices_are_waited_for(rt: HostRuntime) {
     assert!(rt; enter(&rt, "waited").is_ok());
     assert!(rt; is_plain(&rt, "in") && !is_plain(&rt, "."));
-    for (inputs, output, wanted) in WAITED {
-        let is_waited_for = waits(rt.alloc(), &rt, inputs, output);
-        assert!(rt; is_waited_for == Some(wanted), "{inputs} {output}");
+    for (inputs, wanted) in WAITED {
+        assert!(rt; waits(rt.alloc(), &rt, inputs) == Some(wanted), "{inputs}");
     }
-    for (file, wanted) in [("/dev/stdin", false), ("/dev/stdout", false), ("-", true)] {
+    for (file, wanted) in [("/dev/stdin", false), ("/dev/stdout", true), ("-", true)] {
         assert!(rt;
-            waits(rt.alloc(), &OneFile(file, ""), "-", "-") == Some(wanted),
+            waits(rt.alloc(), &OneFile(file, ""), "-") == Some(wanted),
             "{file}"
         );
     }

@@ -2,13 +2,17 @@
 ghost use Rattle.std.specs.Prelude.{◌≤◌};
 
 use super::folder::{enter, leave};
-use cap_octet::StdOutput;
+use crate::devices::marked::{Counts, Manner, MarkedWriter, write_marks};
+use cap_octet::{Input, MemInput, StdOutput, write_all};
 use cap_streams::ending::{finish, settle};
 use cap_streams::held::{Held, Outlet};
 use cap_streams::opening::{Target, create, target};
 use cap_streams::progress::{Counted, Progress};
 use cap_streams::stop::Stop;
 use cap_streams::streams::Created;
+use cap_streams::waited::{WaitedOutput, waited};
+use std::alloc::Global;
+use std::cell::Cell;
 use std::fs;
 use std::io::{self, BufWriter, Error, ErrorKind, IsTerminal, Read, Write};
 
@@ -16,11 +20,11 @@ use std::io::{self, BufWriter, Error, ErrorKind, IsTerminal, Read, Write};
 fn target_of<'h>(
     rt: &HostRuntime,
     name: &str,
-    is_waited_for: bool,
+    may_wait: bool,
     held: &'h Held,
 ) -> Option<Target<'h>> {
     let created = create(rt, name).ok()?;
-    target(rt, created, is_waited_for, held).ok()
+    target(rt, created, may_wait, held).ok()
 }
 
 /// Whether this is the failure of a device that takes nothing.
@@ -56,11 +60,11 @@ fn last_writes_are_made(rt: HostRuntime) {
     }
 }
 
-/// Whether an output is written before a read if it is waited for, and else when it is flushed.
-fn is_written_in_time(rt: &HostRuntime, is_waited_for: bool) -> bool {
+/// Whether an output is written before a read if one may wait, and else when it is flushed.
+fn is_written_in_time(rt: &HostRuntime, may_wait: bool) -> bool {
     let progress = Progress::since(rt, None, 0);
     let held = Held::new();
-    let Some(mut target) = target_of(rt, "/dev/full", is_waited_for, &held) else {
+    let Some(mut target) = target_of(rt, "/dev/full", may_wait, &held) else {
         return false;
     };
     let is_buffered = matches!(target.write(b"a"), Ok(1));
@@ -68,15 +72,81 @@ fn is_written_in_time(rt: &HostRuntime, is_waited_for: bool) -> bool {
     let is_read = matches!(reader.read(&mut [0u8; 2]), Ok(2));
     let is_failed = is_full(target.write(b"b").err());
     let is_flushed = is_full(target.flush().err());
-    is_buffered && is_read && is_failed == is_waited_for && is_flushed
+    is_buffered && is_read && is_failed == may_wait && is_flushed
 }
 
-/// What is waited for is written before a read, whose failure is told to the next write. Other
-/// outputs are written where their buffer is full.
+/// Where a read may wait, an output is written before each, whose failure is told to the next write.
+/// Else it is written where its buffer is full.
 #[test]
 fn failures_before_reads_are_told(rt: HostRuntime) {
     assert!(rt; is_written_in_time(&rt, true));
     assert!(rt; is_written_in_time(&rt, false));
+}
+
+/// Packets and the bytes of each; how many bytes came to the output, and by how many calls, behind
+/// them; and once all is written out.
+type Whole = (usize, usize, (usize, usize), (usize, usize));
+
+const WHOLE: [Whole; 3] = [
+    (8, 60_000, (0, 0), (480_000, 1)),
+    // Of the ninth the header has room, and the rest doesn't.
+    (9, 60_000, (480_000, 1), (540_000, 2)),
+    (1, 600_000, (600_000, 2), (600_000, 2)),
+];
+
+/// Writes packets, each by two calls, before which an input is asked for bytes.
+fn put_packets(
+    alloc: Global,
+    held: &Held<MarkedWriter<'_>>,
+    packets: usize,
+    size: usize,
+) -> Option<()> {
+    let inputs = Vec::from_array(alloc, [MemInput::new(&[])]).ok()?;
+    let mut inputs = waited(alloc, inputs, held).ok()?;
+    let target = BufWriter::with_capacity(alloc, 0, Outlet::Held(held)).ok()?;
+    let mut output = WaitedOutput::new(StdOutput::new(target), held);
+    let mut bytes = vec![in alloc; 0; size].ok()?;
+    for packet in 0..packets {
+        write_marks(packet.wrapping_mul(size), &mut bytes);
+        let (header, data) = bytes.split_at_checked(16)?;
+        inputs.first_mut()?.pass(1);
+        write_all(&mut output, header).ok()?;
+        write_all(&mut output, data).ok()?;
+    }
+    Some(())
+}
+
+/// Whether an output of marked bytes is written out as the row says.
+fn is_written_whole(alloc: Global, row: Whole) -> Option<bool> {
+    let (packets, size, behind, at_end) = row;
+    let counts = Cell::new(Counts::new());
+    let manner = Manner {
+        piece: usize::MAX,
+        failing: 0,
+        kind: ErrorKind::Other,
+    };
+    let writer = MarkedWriter {
+        manner,
+        counts: &counts,
+    };
+    let held = Held::new();
+    held.hold(alloc, Created::Stream(writer)).ok()?;
+    put_packets(alloc, &held, packets, size)?;
+    let before = counts.get();
+    Outlet::Held(&held).flush().ok()?;
+    let after = counts.get();
+    let are_right = (before.bytes, before.calls) == behind && (after.bytes, after.calls) == at_end;
+    Some(are_right && after.in_order)
+}
+
+/// What is held back goes out by whole packets, in one write, where there is no more room; of a
+/// packet that has no room at all in parts.
+#[test]
+fn whole_packets_go_out(rt: HostRuntime) {
+    for row in WHOLE {
+        let is_whole = is_written_whole(rt.alloc(), row);
+        assert!(rt; is_whole == Some(true), "{} of {}", row.0, row.1);
+    }
 }
 
 /// A stream that takes all, whose flush fails, and that is a terminal.
@@ -106,7 +176,7 @@ fn passes_on() -> bool {
     is_written && is_full(stream.flush().err()) && stream.is_terminal()
 }
 
-/// An output, whether it is waited for, the room of its buffer, and whether that is its own.
+/// An output, whether a read may wait, the room of its buffer, and whether that is its own.
 type Buffer = (&'static str, bool, usize, bool);
 
 const BUFFERS: [Buffer; 4] = [
@@ -118,9 +188,9 @@ const BUFFERS: [Buffer; 4] = [
 
 /// Whether an output has this buffer.
 fn has_buffer(rt: &HostRuntime, row: Buffer) -> bool {
-    let (name, is_waited_for, room, is_direct) = row;
+    let (name, may_wait, room, is_direct) = row;
     let held = Held::new();
-    match target_of(rt, name, is_waited_for, &held) {
+    match target_of(rt, name, may_wait, &held) {
         Some(mut target) => {
             target.capacity() == room && matches!(target.get_mut(), Outlet::Direct(_)) == is_direct
         }
