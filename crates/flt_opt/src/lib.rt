@@ -1,0 +1,6 @@
+//! Whether one program may replace another one, as notes on both of them show it.
+#![tactic(auto)]
+
+mod note;
+
+pub use note::{Both, Fact, Load, Note, Notes, Piece, Registers, Span, Term};
