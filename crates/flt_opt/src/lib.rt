@@ -1,6 +1,8 @@
 //! Whether one program may replace another one, as notes on both of them show it.
 #![tactic(auto)]
 
+mod facts;
 mod note;
+mod terms;
 
 pub use note::{Both, Fact, Load, Note, Notes, Piece, Registers, Span, Term};

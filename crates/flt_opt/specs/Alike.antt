@@ -1,0 +1,40 @@
+-- What the rules of `replaces` show.
+use Rattle.std.specs.Prelude.{◌≡◌, ℕ, ◌<◌, List, [], Option, Some, slice_get}
+use Rattle.flt_bpf.specs.declared.insn.Insn.{Insn}
+use Rattle.flt_bpf.specs.declared.machine.State.{State}
+use Rattle.flt_bpf.specs.Answer.{answer_of}
+use Rattle.flt_opt.specs.declared.facts.Learnt.{Learnt}
+use Rattle.flt_opt.specs.declared.note.Both.{Both}
+use Rattle.flt_opt.specs.declared.note.Fact.{Fact}
+use Rattle.flt_opt.specs.declared.note.Note.{Note}
+use Rattle.flt_opt.specs.declared.note.Piece.{Piece}
+use Rattle.flt_opt.specs.Facts.{Known, part}
+use Rattle.flt_opt.specs.Terms.{Agree}
+
+-- from a place of each program on both return the same, where so much is known
+pub record Alike (new old : List Insn) (p : List ℕ) (n : ℕ) (at_new at_old : ℕ) (b : Both) (facts : List Fact) (pieces : List Piece) (learnt : List Learnt) : Type 0 where
+  pub returns : (s t : State) (answer : ℕ) → Agree p n b s t → Known p n facts pieces learnt
+      → answer_of old p n at_old t ≡ Some answer → answer_of new p n at_new s ≡ Some answer
+
+-- they do from a note on
+abbrev pub IsGood : List Insn → List Insn → List Fact → List Piece → List ℕ → ℕ → Note → Type 0
+IsGood new old facts pieces p n m =
+    Alike new old p n m.new m.old m.registers (part facts m.facts) pieces []
+
+-- from each note on that is for a place further on in the new program
+abbrev pub AreGoodPast : List Insn → List Insn → List Note → List Fact → List Piece → List ℕ → ℕ → ℕ → Type 0
+AreGoodPast new old notes facts pieces p n at =
+    (j : ℕ) (m : Note) → slice_get notes j ≡ Some m → at < m.new
+    → IsGood new old facts pieces p n m
+
+-- a note is as good as those further on are
+abbrev pub Stands : List Insn → List Insn → List Note → List Fact → List Piece → Note → Type 0
+Stands new old notes facts pieces m =
+    (p : List ℕ) (n : ℕ) → AreGoodPast new old notes facts pieces p n m.new
+    → IsGood new old facts pieces p n m
+
+-- the old run comes to a place, where it is as is known, and returns what it returned
+pub record Comes (old : List Insn) (p : List ℕ) (n : ℕ) (b : Both) (new_state : State) (answer at : ℕ) : Type 0 where
+  pub state : State
+  pub agree : Agree p n b new_state state
+  pub returns : answer_of old p n at state ≡ Some answer
