@@ -96,3 +96,8 @@ within_at v (q ∷ qs) (suc k) d low e = or_right (in_piece v q) (within v qs) (
 
 pub in_wider : (v : ℕ) (q r : Piece) → r.high ≤ 0xffff_ffff → r.low ≤ q.low → q.high ≤ r.high → in_piece v q ≡ true → in_piece v r ≡ true
 in_wider v q r fits low high e = grind (arith, nat_tests)
+
+-- the same of a test of bits, and what is left of a number under its mask
+pub in_bits : (k v x : ℕ) (t : Term) (b : Bool) → bit_and v k ≡ x → test_holds AnyBit v k ≡ b → in_either x (outcome AnyBit k t b) ≡ true
+in_bits k v x t true is e = in_one x (past 0) (past 0) (masked t k) (in_past 0 x (grind (arith, nat_tests)))
+in_bits k v x t false is e = in_one x (only 0) (only 0) (masked t k) (in_only 0 x (grind (arith, nat_tests)))

@@ -2,12 +2,13 @@
 use Rattle.std.specs.Prelude.{◌≡◌, ℕ, ◌+◌, ◌-◌, min, Bool, true, false, ◌&&◌, ◌||◌, ◌==◌, nat_le, List, [], ◌∷◌, Option, Some, None, length, if◌then◌else◌, slice_range}
 use Rattle.flt_bpf.specs.declared.operation.Test.{Test}
 use Rattle.flt_bpf.specs.declared.operation.Test.TheVariants.{Equal, Greater, AtLeast, AnyBit}
+use Rattle.flt_bpf.specs.Machine.{test_holds}
 use Rattle.flt_opt.specs.declared.facts.Learnt.{Learnt}
 use Rattle.flt_opt.specs.declared.note.Fact.{Fact}
 use Rattle.flt_opt.specs.declared.note.Piece.{Piece}
 use Rattle.flt_opt.specs.declared.note.Span.{Span}
 use Rattle.flt_opt.specs.declared.note.Term.{Term}
-use Rattle.flt_opt.specs.Terms.{value, masked}
+use Rattle.flt_opt.specs.Terms.{value, Holds, masked}
 
 -- the greatest `high` is no bound
 abbrev pub in_piece : ℕ → Piece → Bool
@@ -92,3 +93,32 @@ abbrev pub IsWithin : Piece → Term → List Learnt → List Piece → Type 0
 IsWithin q t learnt numbers =
     (p : List ℕ) (n number : ℕ) → AllLearnt p n learnt → value p n t ≡ Some number
     → in_piece number q ≡ true → within number numbers ≡ true
+
+-- a term's value is in part of the pieces
+abbrev pub HasNumbers : Term → Span → List Fact → List Piece → Type 0
+HasNumbers t s facts pieces =
+    (p : List ℕ) (n number : ℕ) → AllHold p n pieces facts → value p n t ≡ Some number
+    → within number (part pieces s) ≡ true
+
+-- what a test would show isn't so where a term's value is in a piece, in one of the pieces, or at
+-- all
+abbrev pub NeverSo : Piece → Learnt → List Learnt → Type 0
+NeverSo q l learnt =
+    (p : List ℕ) (n number : ℕ) → AllLearnt p n learnt → value p n l.term ≡ Some number
+    → in_piece number q ≡ true → in_either number l ≡ false
+
+abbrev pub NeverAmong : List Piece → Learnt → List Learnt → Type 0
+NeverAmong qs l learnt =
+    (p : List ℕ) (n number : ℕ) → AllLearnt p n learnt → value p n l.term ≡ Some number
+    → within number qs ≡ true → in_either number l ≡ false
+
+abbrev pub CannotBe : Learnt → List Fact → List Piece → List Learnt → Type 0
+CannotBe l facts pieces learnt =
+    (p : List ℕ) (n number : ℕ) → Known p n facts pieces learnt → value p n l.term ≡ Some number
+    → in_either number l ≡ false
+
+-- a test has one outcome
+abbrev pub IsDecided : Test → ℕ → Term → List Fact → List Piece → List Learnt → Bool → Type 0
+IsDecided test k t facts pieces learnt holds =
+    (p : List ℕ) (n number : ℕ) → Known p n facts pieces learnt → Holds p n t number
+    → test_holds test number k ≡ holds

@@ -3,7 +3,9 @@
 ghost use Rattle.std.specs.Prelude.{◌≡◌, ℕ, ◌<◌, true, false, List, length, IfSome, IsTrue};
 ghost use Rattle.flt_opt.specs.Facts.{in_piece};
 ghost use Rattle.flt_opt.specs.Facts.{before, only, starting, past, outcome, IsWithin, NeverIs};
-ghost use Rattle.flt_opt.specs.Facts.{IsIn};
+ghost use Rattle.flt_opt.specs.Facts.{IsIn, part, HasNumbers, NeverSo, NeverAmong, CannotBe};
+ghost use Rattle.flt_opt.specs.Facts.{IsDecided};
+ghost use Rattle.flt_opt.specs.declared.note.Piece.{Piece};
 
 use crate::note::{Fact, Piece, Span, Term};
 use crate::terms::{is_known, masked, same_term};
@@ -15,6 +17,36 @@ pub(crate) struct Learnt {
     pub term: Term,
     pub below: Piece,
     pub above: Piece,
+}
+
+/// What is known of a packet.
+#[derive(Clone, Copy)]
+pub(crate) struct Knowledge<'a> {
+    pub facts: &'a [Fact],
+    pub pieces: &'a [Piece],
+    pub learnt: &'a [Learnt],
+}
+
+/// Part of a list of pieces, or nothing where it has no such part.
+fn part(pieces: &[Piece], span: Span) -> &[Piece]
+    ensures { result.now ≡ part pieces.now span }
+{
+    if span.start <= span.end && span.end <= pieces.len() {
+        &pieces[span.start..span.end]
+    } else {
+        &[]
+    }
+}
+
+/// Part of a list of facts, or nothing where it has no such part.
+pub(crate) fn facts_in(facts: &[Fact], span: Span) -> &[Fact]
+    ensures { result.now ≡ part facts.now span }
+{
+    if span.start <= span.end && span.end <= facts.len() {
+        &facts[span.start..span.end]
+    } else {
+        &[]
+    }
 }
 
 /// The numbers below one.
@@ -139,5 +171,66 @@ fn covered(
                 covered(piece, term, rest, numbers, from)
             }
         }
+    }
+}
+
+/// Where the pieces of the first fact on a term are.
+fn numbers_of(term: Term, facts: &[Fact]) -> Option<Span>
+    ensures { IfSome result (λ span. (pieces : List Piece) → HasNumbers term span facts.now pieces) }
+{
+    for fact in facts {
+        if same_term(fact.term, term) {
+            return Some(fact.pieces);
+        }
+    }
+    None
+}
+
+/// The outcome of a test may be, where a term's value is in a piece.
+fn may_be_in(piece: Piece, outcome: &Learnt, learnt: &[Learnt]) -> bool
+    ensures { result ≡ false → NeverSo piece outcome.now learnt.now }
+{
+    may_be(overlap(piece, outcome.below), outcome.term, learnt)
+        || may_be(overlap(piece, outcome.above), outcome.term, learnt)
+}
+
+/// The same, where it is in one of the pieces.
+fn may_be_among(pieces: &[Piece], outcome: &Learnt, learnt: &[Learnt]) -> bool
+    ensures { result ≡ false → NeverAmong pieces.now outcome.now learnt.now }
+{
+    for piece in pieces {
+        if may_be_in(*piece, outcome, learnt) {
+            return true;
+        }
+    }
+    false
+}
+
+/// The outcome of a test may be.
+fn is_possible(outcome: &Learnt, knowledge: &Knowledge) -> bool
+    ensures { result ≡ false → CannotBe outcome.now knowledge.now.facts.now
+        knowledge.now.pieces.now knowledge.now.learnt.now }
+{
+    match numbers_of(outcome.term, knowledge.facts) {
+        None => may_be_in(starting(0), outcome, knowledge.learnt),
+        Some(span) => may_be_among(part(knowledge.pieces, span), outcome, knowledge.learnt),
+    }
+}
+
+/// Whether a test of a register with a number holds, where that is known.
+pub(crate) fn decided(test: Test, k: u32, term: Term, knowledge: &Knowledge) -> Option<bool>
+    ensures { IfSome result (IsDecided test k term knowledge.now.facts.now
+        knowledge.now.pieces.now knowledge.now.learnt.now) }
+{
+    let holds = outcome(test, k, term, true);
+    let fails = outcome(test, k, term, false);
+    if !is_known(holds.term) {
+        None
+    } else if !is_possible(&fails, knowledge) {
+        Some(true)
+    } else if !is_possible(&holds, knowledge) {
+        Some(false)
+    } else {
+        None
     }
 }
