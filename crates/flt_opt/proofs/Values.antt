@@ -1,17 +1,19 @@
 -- What facts and tests say of the value of a term.
-use Rattle.std.proofs.Common.{◌≡◌, ℕ, zero, suc, ◌+◌, ◌-◌, ◌^◌, ◌<◌, ◌≤◌, List, [], ◌∷◌, length, get_or, take, drop, Bool, true, false, Option, Some, None, refl, sym, ap, ◌∙◌, subst, arith, add-one}
+use Rattle.std.proofs.Common.{◌≡◌, ℕ, zero, suc, ◌+◌, ◌-◌, ◌%◌, ◌^◌, ◌<◌, ◌≤◌, List, [], ◌∷◌, length, get_or, take, drop, Bool, true, false, Option, Some, None, refl, sym, ap, ◌∙◌, subst, arith, add-one}
 use Rattle.std.specs.Prelude.{min, nat_le, nat_lt, ◌==◌, ◌&&◌, ◌||◌, not, bit_and, slice_get, if◌then◌else◌}
 use Rattle.std.proofs.lemmas.Bool.Decides.{nat_tests}
 use Rattle.flt_bpf.specs.declared.operation.Test.{Test}
 use Rattle.flt_bpf.specs.declared.operation.Test.TheVariants.{Equal, Greater, AtLeast, AnyBit}
 use Rattle.flt_bpf.specs.Machine.{test_holds}
 use Rattle.flt_opt.specs.declared.facts.Learnt.{Learnt}
+use Rattle.flt_opt.specs.declared.note.Both.{Both}
 use Rattle.flt_opt.specs.declared.note.Fact.{Fact}
 use Rattle.flt_opt.specs.declared.note.Piece.{Piece}
 use Rattle.flt_opt.specs.declared.note.Term.{Term}
 use Rattle.flt_opt.specs.declared.note.Term.TheVariants.{Anything, Number, Length, Field, HeaderLength}
-use Rattle.flt_opt.specs.Terms.{value, is_known, Holds, There, masked}
-use Rattle.flt_opt.specs.Facts.{in_piece, within, in_either, only, past, learnt_of, outcome, LearntHolds, AllLearnt, FactHolds, AllHold, Known, part, HasNumbers, NeverSo, NeverAmong, CannotBe, IsDecided}
+use Rattle.std.specs.Option.{option_map}
+use Rattle.flt_opt.specs.Terms.{header_at, bare, under, value, is_known, Holds, There, masked, source, is_constant}
+use Rattle.flt_opt.specs.Facts.{in_piece, within, in_either, only, past, learnt_of, outcome, LearntHolds, AllLearnt, FactHolds, AllHold, Known, part, HasNumbers, NeverSo, NeverAmong, CannotBe, IsDecided, IsWithin, AreWithin, FactFollows, FactsFollow}
 use Rattle.flt_opt.proofs.Steps.{masked_value}
 use Rattle.flt_opt.proofs.Numbers.{or_left, or_right, one_of, in_outcome, in_bits}
 
@@ -99,3 +101,51 @@ decided_false test k t fs pieces ls is cannot p n v known h = by (test_holds tes
     by : (b : Bool) → test_holds test v k ≡ b → test_holds test v k ≡ false
     by false e = e
     by true e = never p n v test k t fs pieces ls true is cannot known h e
+
+-- a term has a value where its source has
+some_of : (f g : ℕ → ℕ) (o : Option ℕ) (x : ℕ) → option_map f o ≡ Some x → (y : ℕ) × (option_map g o ≡ Some y)
+some_of f g None x e = cc
+some_of f g (Some v) x e = (g v, refl)
+
+pub there_source : (p : List ℕ) (n : ℕ) (t : Term) → There p n t → There p n (source t)
+there_source p n Anything h = h
+there_source p n (Number k) h = h
+there_source p n Length h = h
+there_source p n (Field l) h = let v = some_of (under l.mask) (under None) (bare p l.width l.at l.header) h.number h.is in record { number = v.0; is = v.1 }
+there_source p n (HeaderLength at more) h = let v = some_of (λ l. (l + more) % 2 ^ 32) (λ l. (l + 0) % 2 ^ 32) (header_at p at) h.number h.is in record { number = v.0; is = v.1 }
+
+pub source_there : (p : List ℕ) (n : ℕ) (t : Term) → There p n (source t) → There p n t
+source_there p n Anything h = h
+source_there p n (Number k) h = h
+source_there p n Length h = h
+source_there p n (Field l) h = let v = some_of (under None) (under l.mask) (bare p l.width l.at l.header) h.number h.is in record { number = v.0; is = v.1 }
+source_there p n (HeaderLength at more) h = let v = some_of (λ l. (l + 0) % 2 ^ 32) (λ l. (l + more) % 2 ^ 32) (header_at p at) h.number h.is in record { number = v.0; is = v.1 }
+
+pub comes_along : (p : List ℕ) (n : ℕ) (t u : Term) → source t ≡ source u → There p n t → There p n u
+comes_along p n t u same h = source_there p n u (subst (λ z. There p n z) same (there_source p n t h))
+
+pub held_there : (p : List ℕ) (n v : ℕ) (t : Term) → is_known t ≡ true → Holds p n t v → There p n t
+held_there p n v t known h = record { number = v; is = h.is known }
+
+pub constant_there : (p : List ℕ) (n : ℕ) (t : Term) → is_constant t ≡ true → There p n t
+constant_there p n (Number k) e = record { number = k; is = refl }
+constant_there p n Length e = record { number = n; is = refl }
+constant_there p n Anything e = cc
+constant_there p n (Field l) e = cc
+constant_there p n (HeaderLength at more) e = cc
+
+pub within_all : (qs : List Piece) (i : ℕ) (d : Piece) (t : Term) (ls : List Learnt) (numbers : List Piece) → i < length qs → AreWithin (take i qs) t ls numbers → IsWithin (get_or qs i d) t ls numbers → AreWithin (take (i + 1) qs) t ls numbers
+within_all qs i d t ls numbers low before here p n v learnt e w =
+    within_more v qs i d low (subst (λ z. within v (take z qs) ≡ true) (add-one i) w)
+    (before p n v learnt e)
+    (here p n v learnt e)
+
+one_more : (p : List ℕ) (n : ℕ) (pieces : List Piece) (fs : List Fact) (i : ℕ) (d : Fact) → i < length fs → AllHold p n pieces (take i fs) → FactHolds p n pieces (get_or fs i d) → AllHold p n pieces (take (suc i) fs)
+one_more p n pieces [] i d low before here = absurd (omega arith)
+one_more p n pieces (f ∷ fs) zero d low before here = (here, tt)
+one_more p n pieces (f ∷ fs) (suc i) d low before here = (before.0, one_more p n pieces fs i d (omega arith) before.1 here)
+
+pub facts_more : (fs : List Fact) (i : ℕ) (d : Fact) (b : Both) (known : List Fact) (pieces : List Piece) (ls : List Learnt) → i < length fs → FactsFollow (take i fs) b known pieces ls → FactFollows (get_or fs i d) b known pieces ls → FactsFollow (take (i + 1) fs) b known pieces ls
+facts_more fs i d b known pieces ls low before here p n s t agree k =
+    subst (λ z. AllHold p n pieces (take z fs)) (sym (add-one i))
+    (one_more p n pieces fs i d low (before p n s t agree k) (here p n s t agree k))

@@ -2,13 +2,15 @@
 use Rattle.std.specs.Prelude.{◌≡◌, ℕ, ◌+◌, ◌-◌, min, Bool, true, false, ◌&&◌, ◌||◌, ◌==◌, nat_le, List, [], ◌∷◌, Option, Some, None, length, if◌then◌else◌, slice_range}
 use Rattle.flt_bpf.specs.declared.operation.Test.{Test}
 use Rattle.flt_bpf.specs.declared.operation.Test.TheVariants.{Equal, Greater, AtLeast, AnyBit}
+use Rattle.flt_bpf.specs.declared.machine.State.{State}
 use Rattle.flt_bpf.specs.Machine.{test_holds}
 use Rattle.flt_opt.specs.declared.facts.Learnt.{Learnt}
 use Rattle.flt_opt.specs.declared.note.Fact.{Fact}
 use Rattle.flt_opt.specs.declared.note.Piece.{Piece}
 use Rattle.flt_opt.specs.declared.note.Span.{Span}
 use Rattle.flt_opt.specs.declared.note.Term.{Term}
-use Rattle.flt_opt.specs.Terms.{value, Holds, masked}
+use Rattle.flt_opt.specs.declared.note.Both.{Both}
+use Rattle.flt_opt.specs.Terms.{value, There, Holds, Agree, masked}
 
 -- the greatest `high` is no bound
 abbrev pub in_piece : ℕ → Piece → Bool
@@ -122,3 +124,32 @@ abbrev pub IsDecided : Test → ℕ → Term → List Fact → List Piece → Li
 IsDecided test k t facts pieces learnt holds =
     (p : List ℕ) (n number : ℕ) → Known p n facts pieces learnt → Holds p n t number
     → test_holds test number k ≡ holds
+
+-- a term has a value where so much is known
+abbrev pub IsThere : Term → List Fact → Both → Type 0
+IsThere t facts b =
+    (p : List ℕ) (n : ℕ) (pieces : List Piece) (new old : State) → Agree p n b new old
+    → AllHold p n pieces facts → There p n t
+
+-- a term's value is in numbers if it is in one of the pieces
+abbrev pub AreWithin : List Piece → Term → List Learnt → List Piece → Type 0
+AreWithin qs t learnt numbers =
+    (p : List ℕ) (n number : ℕ) → AllLearnt p n learnt → value p n t ≡ Some number
+    → within number qs ≡ true → within number numbers ≡ true
+
+-- the value of a fact's term is in its pieces, if it has one
+abbrev pub NumbersFollow : Fact → List Fact → List Piece → List Learnt → Type 0
+NumbersFollow f facts pieces learnt =
+    (p : List ℕ) (n number : ℕ) → Known p n facts pieces learnt → value p n f.term ≡ Some number
+    → within number (part pieces f.pieces) ≡ true
+
+-- a fact holds, and all of them do, where so much is known
+abbrev pub FactFollows : Fact → Both → List Fact → List Piece → List Learnt → Type 0
+FactFollows f b facts pieces learnt =
+    (p : List ℕ) (n : ℕ) (new old : State) → Agree p n b new old → Known p n facts pieces learnt
+    → FactHolds p n pieces f
+
+abbrev pub FactsFollow : List Fact → Both → List Fact → List Piece → List Learnt → Type 0
+FactsFollow fs b facts pieces learnt =
+    (p : List ℕ) (n : ℕ) (new old : State) → Agree p n b new old → Known p n facts pieces learnt
+    → AllHold p n pieces fs

@@ -206,3 +206,15 @@ is_sure Negate k there = true
 is_sure CopyToIndex k there = true
 is_sure CopyToAccumulator k there = true
 is_sure _ k there = false
+
+-- what has to be there for a term to have a value
+abbrev pub source : Term → Term
+source (Field l) = Field (record l { mask = None })
+source (HeaderLength at more) = HeaderLength at 0
+source t = t
+
+-- a term that has a value on each packet
+abbrev pub is_constant : Term → Bool
+is_constant (Number k) = true
+is_constant Length = true
+is_constant _ = false

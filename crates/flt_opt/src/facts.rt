@@ -28,7 +28,7 @@ pub(crate) struct Knowledge<'a> {
 }
 
 /// Part of a list of pieces, or nothing where it has no such part.
-fn part(pieces: &[Piece], span: Span) -> &[Piece]
+pub(crate) fn part(pieces: &[Piece], span: Span) -> &[Piece]
     ensures { result.now ≡ part pieces.now span }
 {
     if span.start <= span.end && span.end <= pieces.len() {
@@ -71,7 +71,7 @@ fn only(k: u32) -> Piece
 }
 
 /// The numbers from one on.
-fn starting(k: u32) -> Piece
+pub(crate) fn starting(k: u32) -> Piece
     ensures { result ≡ starting k }
 {
     Piece {
@@ -151,7 +151,7 @@ fn place_of(piece: Piece, numbers: &[Piece], from: usize) -> Option<usize>
 
 /// A term's value is in the numbers if it is in a piece, by what tests have shown. Each part of the
 /// piece is looked for where the one before it was found.
-fn covered(
+pub(crate) fn covered(
     piece: Piece,
     term: Term,
     learnt: &[Learnt],
@@ -175,7 +175,7 @@ fn covered(
 }
 
 /// Where the pieces of the first fact on a term are.
-fn numbers_of(term: Term, facts: &[Fact]) -> Option<Span>
+pub(crate) fn numbers_of(term: Term, facts: &[Fact]) -> Option<Span>
     ensures { IfSome result (λ span. (pieces : List Piece) → HasNumbers term span facts.now pieces) }
 {
     for fact in facts {

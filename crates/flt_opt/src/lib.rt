@@ -2,6 +2,7 @@
 #![tactic(auto)]
 
 mod facts;
+mod follows;
 mod note;
 mod terms;
 
