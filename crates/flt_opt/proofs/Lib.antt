@@ -1,3 +1,4 @@
 pub mod Steps
 pub mod Numbers
 pub mod Values
+pub mod Walking

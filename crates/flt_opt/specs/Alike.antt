@@ -1,15 +1,18 @@
 -- What the rules of `replaces` show.
-use Rattle.std.specs.Prelude.{◌≡◌, ℕ, ◌<◌, List, [], Option, Some, slice_get}
+use Rattle.std.specs.Prelude.{◌≡◌, ℕ, ◌<◌, Bool, true, List, [], Option, Some, slice_get}
 use Rattle.flt_bpf.specs.declared.insn.Insn.{Insn}
 use Rattle.flt_bpf.specs.declared.machine.State.{State}
+use Rattle.flt_bpf.specs.declared.operation.Operation.{Operation}
 use Rattle.flt_bpf.specs.Answer.{answer_of}
+use Rattle.flt_bpf.specs.Machine.{Goes, step}
 use Rattle.flt_opt.specs.declared.facts.Learnt.{Learnt}
 use Rattle.flt_opt.specs.declared.note.Both.{Both}
 use Rattle.flt_opt.specs.declared.note.Fact.{Fact}
 use Rattle.flt_opt.specs.declared.note.Note.{Note}
 use Rattle.flt_opt.specs.declared.note.Piece.{Piece}
+use Rattle.flt_opt.specs.declared.note.Registers.{Registers}
 use Rattle.flt_opt.specs.Facts.{Known, part}
-use Rattle.flt_opt.specs.Terms.{Agree}
+use Rattle.flt_opt.specs.Terms.{Agree, There, asked, is_sure}
 
 -- from a place of each program on both return the same, where so much is known
 pub record Alike (new old : List Insn) (p : List ℕ) (n : ℕ) (at_new at_old : ℕ) (b : Both) (facts : List Fact) (pieces : List Piece) (learnt : List Learnt) : Type 0 where
@@ -38,3 +41,32 @@ pub record Comes (old : List Insn) (p : List ℕ) (n : ℕ) (b : Both) (new_stat
   pub state : State
   pub agree : Agree p n b new_state state
   pub returns : answer_of old p n at state ≡ Some answer
+
+-- an operation leads on, if what it loads is there, which it is
+pub record Leads (op : Operation) (k : ℕ) (r : Registers) (p : List ℕ) (n : ℕ) : Type 0 where
+  pub there : Bool
+  pub sure : is_sure op k there ≡ true
+  pub is_there : there ≡ true → There p n (asked op k r)
+
+abbrev pub IsSure : Operation → ℕ → Registers → Both → List Fact → List Piece → List Learnt → Type 0
+IsSure op k r b facts pieces learnt =
+    (p : List ℕ) (n : ℕ) (s t : State) → Agree p n b s t → Known p n facts pieces learnt
+    → Leads op k r p n
+
+-- the old run goes on behind an instruction, and so much is known then
+pub record Passed (i : Insn) (far : ℕ) (b : Both) (p : List ℕ) (n : ℕ) (new old : State) : Type 0 where
+  pub state : State
+  pub goes : step i p n old ≡ Goes far state
+  pub agree : Agree p n b new state
+
+abbrev pub Passes : Insn → ℕ → Both → Both → List Fact → List Piece → List Learnt → Type 0
+Passes i far b after facts pieces learnt =
+    (p : List ℕ) (n : ℕ) (s t : State) → Agree p n b s t → Known p n facts pieces learnt
+    → Passed i far after p n s t
+
+-- from one place the old run comes to another one
+abbrev pub Walks : List Insn → ℕ → ℕ → Both → Both → List Fact → List Piece → List Learnt → Type 0
+Walks old from to b after facts pieces learnt =
+    (p : List ℕ) (n : ℕ) (s t : State) (answer : ℕ) → Agree p n b s t
+    → Known p n facts pieces learnt → answer_of old p n from t ≡ Some answer
+    → Comes old p n after s answer to

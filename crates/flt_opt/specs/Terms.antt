@@ -12,6 +12,7 @@ use Rattle.flt_bpf.specs.declared.operation.AluOperation.{AluOperation}
 use Rattle.flt_bpf.specs.declared.operation.AluOperation.TheVariants.{Add, And, Divide, Remainder}
 use Rattle.flt_bpf.specs.declared.operation.Operand.{Operand}
 use Rattle.flt_bpf.specs.declared.operation.Operand.TheVariants.{Constant, IndexRegister}
+use Rattle.flt_bpf.specs.declared.operation.Test.{Test}
 use Rattle.flt_bpf.specs.Machine.{field, header_length}
 use Rattle.flt_opt.specs.declared.note.Load.{Load}
 use Rattle.flt_opt.specs.declared.note.Term.{Term}
@@ -218,3 +219,8 @@ abbrev pub is_constant : Term → Bool
 is_constant (Number k) = true
 is_constant Length = true
 is_constant _ = false
+
+-- the test of a register with a number that an operation is
+abbrev pub test_of : Operation → Option Test
+test_of (JumpIf test Constant) = Some test
+test_of _ = None

@@ -5,5 +5,6 @@ mod facts;
 mod follows;
 mod note;
 mod terms;
+mod walk;
 
 pub use note::{Both, Fact, Load, Note, Notes, Piece, Registers, Span, Term};

@@ -4,10 +4,10 @@ ghost use Rattle.std.specs.Prelude.{◌≡◌, IsTrue};
 ghost use Rattle.flt_opt.specs.Terms.{indirect, mask_of, masked, sum, computed, accumulator_after};
 ghost use Rattle.flt_opt.specs.Terms.{index_after, after, after_both, after_old, after_new, asked};
 ghost use Rattle.flt_opt.specs.Terms.{reads_accumulator, reads_index, sets_accumulator, sets_index};
-ghost use Rattle.flt_opt.specs.Terms.{is_known, is_sure};
+ghost use Rattle.flt_opt.specs.Terms.{is_known, is_sure, test_of};
 
 use crate::note::{Both, Load, Registers, Term};
-use flt_bpf::operation::{AluOperation, Operand, Operation, Register, Source, Width};
+use flt_bpf::operation::{AluOperation, Operand, Operation, Register, Source, Test, Width};
 
 /// Something is known of it.
 pub(crate) fn is_known(term: Term) -> bool
@@ -135,6 +135,16 @@ fn after(operation: Operation, k: u32, registers: Registers) -> Registers
     Registers {
         accumulator: accumulator_after(operation, k, registers),
         index: index_after(operation, k, registers),
+    }
+}
+
+/// The test of a register with a number that an operation is.
+pub(crate) fn test_of(operation: Operation) -> Option<Test>
+    ensures { result ≡ test_of operation }
+{
+    match operation {
+        Operation::JumpIf(test, Operand::Constant) => Some(test),
+        _ => None,
     }
 }
 
