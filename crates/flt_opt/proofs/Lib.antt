@@ -2,3 +2,4 @@ pub mod Steps
 pub mod Numbers
 pub mod Values
 pub mod Walking
+pub mod Standing

@@ -11,6 +11,8 @@ use Rattle.flt_opt.specs.declared.note.Fact.{Fact}
 use Rattle.flt_opt.specs.declared.note.Note.{Note}
 use Rattle.flt_opt.specs.declared.note.Piece.{Piece}
 use Rattle.flt_opt.specs.declared.note.Registers.{Registers}
+use Rattle.flt_opt.specs.declared.replaces.Programs.{Programs}
+use Rattle.flt_opt.specs.declared.replaces.Way.{Way}
 use Rattle.flt_opt.specs.Facts.{Known, part}
 use Rattle.flt_opt.specs.Terms.{Agree, There, asked, is_sure}
 
@@ -70,3 +72,16 @@ Walks old from to b after facts pieces learnt =
     (p : List ℕ) (n : ℕ) (s t : State) (answer : ℕ) → Agree p n b s t
     → Known p n facts pieces learnt → answer_of old p n from t ≡ Some answer
     → Comes old p n after s answer to
+
+-- the same for two programs with their notes
+abbrev pub AreGood : Programs → List ℕ → ℕ → ℕ → Type 0
+AreGood programs p n at =
+    AreGoodPast programs.new.now programs.old.now programs.notes.notes.now
+    programs.notes.facts.now programs.notes.pieces.now p n at
+
+-- from a way on both return the same, if they do from the notes further on
+abbrev pub LeadsTo : Programs → Way → List Fact → List Learnt → Type 0
+LeadsTo programs way facts learnt =
+    (p : List ℕ) (n at : ℕ) → at < way.new → AreGood programs p n at
+    → Alike programs.new.now programs.old.now p n way.new way.old way.both facts
+        programs.notes.pieces.now learnt

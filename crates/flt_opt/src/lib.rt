@@ -4,6 +4,7 @@
 mod facts;
 mod follows;
 mod note;
+mod replaces;
 mod terms;
 mod walk;
 
