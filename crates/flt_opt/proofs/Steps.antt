@@ -25,7 +25,7 @@ use Rattle.flt_opt.specs.declared.note.Term.{Term}
 use Rattle.flt_opt.specs.declared.note.Term.TheVariants.{Anything, Number, Length, Field, HeaderLength}
 use Rattle.flt_opt.specs.declared.note.Registers.{Registers}
 use Rattle.flt_opt.specs.declared.note.Both.{Both}
-use Rattle.flt_opt.specs.Terms.{header_at, past, bare, under, loaded, value, is_known, There, Holds, Hold, Agree, indirect, mask_of, masked, sum, computed, accumulator_after, index_after, after, reads_accumulator, reads_index, sets_accumulator, sets_index, after_both, after_old, after_new, asked, is_sure}
+use Rattle.flt_opt.specs.Terms.{header_at, past, bare, under, loaded, value, is_known, There, Holds, Hold, Agree, indirect, mask_of, masked, sum, computed, accumulator_after, index_after, after, reads_accumulator, reads_index, sets_accumulator, sets_index, after_both, after_old, after_new, asked, is_sure, Reads, leads_on}
 
 pub both_true : (a b : Bool) → (a && b) ≡ true → (a ≡ true) × (b ≡ true)
 both_true true b e = (refl, e)
@@ -178,11 +178,6 @@ module _ (p : List ℕ) (n : ℕ) where
   effect CopyToIndex i far r s u e h = to_x (Some s.accumulator) CopyToIndex i.k far r s u refl refl e (λ x f. let is : s.accumulator ≡ x = cc in subst (λ z. Holds p n r.accumulator z) is h.accumulator) h
   effect CopyToAccumulator i far r s u e h = to_a (Some s.index) CopyToAccumulator i.k far r s u refl refl e (λ x f. let is : s.index ≡ x = cc in subst (λ z. Holds p n r.index z) is h.index) h
 
-  -- two runs in which A and X are the same where an operation reads them
-  pub record Reads (op : Operation) (s t : State) : Type 0 where
-    pub accumulator : reads_accumulator op ≡ true → s.accumulator ≡ t.accumulator
-    pub index : reads_index op ≡ true → s.index ≡ t.index
-
   -- what is put into a register is the same in both
   module _ (op : Operation) (i : Insn) (b : Both) (s t : State) (agree : Agree p n b s t) (rn ro : ℕ → State → Option ℕ) (answer : ℕ) (rest : (u w : State) → Agree p n (after_both op i.k b) u w → ro 0 w ≡ Some answer → rn 0 u ≡ Some answer) where
     agree_after : (u w : State) → does op i p n s ≡ Goes 0 u → does op i p n t ≡ Goes 0 w → (sets_accumulator op ≡ true → u.accumulator ≡ w.accumulator) → (sets_index op ≡ true → u.index ≡ w.index) → u.memory ≡ w.memory → Agree p n (after_both op i.k b) u w
@@ -220,14 +215,6 @@ module _ (p : List ℕ) (n : ℕ) where
     store_both false m ds dt sa sx e = let no : None ≡ Some answer = ap (answer_after ro) (sym dt) ∙ e in cc
     store_both true m ds dt sa sx e =
         ap (answer_after rn) ds ∙ rest (record s { memory = m }) (record t { memory = m }) (agree_after (record s { memory = m }) (record t { memory = m }) ds dt (λ f. let no : false ≡ true = sym sa ∙ f in cc) (λ f. let no : false ≡ true = sym sx ∙ f in cc) refl) (ap (answer_after ro) (sym dt) ∙ e)
-
-  -- it leads to the next instruction
-  abbrev pub leads_on : Operation → Bool
-  leads_on Jump = false
-  leads_on (JumpIf test operand) = false
-  leads_on ReturnConstant = false
-  leads_on ReturnAccumulator = false
-  leads_on _ = true
 
   operand_same : (o : Operand) (k x y : ℕ) → (reads_index (Compute Add o) ≡ true → x ≡ y) → operand_value o k x ≡ operand_value o k y
   operand_same Constant k x y e = refl

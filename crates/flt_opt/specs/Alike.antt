@@ -1,19 +1,20 @@
 -- What the rules of `replaces` show.
-use Rattle.std.specs.Prelude.{◌≡◌, ℕ, ◌<◌, Bool, true, List, [], Option, Some, slice_get}
+use Rattle.std.specs.Prelude.{◌≡◌, ℕ, ◌+◌, ◌<◌, Bool, true, if◌then◌else◌, List, [], Option, Some, slice_get}
 use Rattle.flt_bpf.specs.declared.insn.Insn.{Insn}
 use Rattle.flt_bpf.specs.declared.machine.State.{State}
 use Rattle.flt_bpf.specs.declared.operation.Operation.{Operation}
 use Rattle.flt_bpf.specs.Answer.{answer_of}
-use Rattle.flt_bpf.specs.Machine.{Goes, step}
+use Rattle.flt_bpf.specs.Machine.{Goes, step, test_holds, operand_value}
 use Rattle.flt_opt.specs.declared.facts.Learnt.{Learnt}
 use Rattle.flt_opt.specs.declared.note.Both.{Both}
 use Rattle.flt_opt.specs.declared.note.Fact.{Fact}
 use Rattle.flt_opt.specs.declared.note.Note.{Note}
 use Rattle.flt_opt.specs.declared.note.Piece.{Piece}
 use Rattle.flt_opt.specs.declared.note.Registers.{Registers}
+use Rattle.flt_opt.specs.declared.replaces.Condition.{Condition}
 use Rattle.flt_opt.specs.declared.replaces.Programs.{Programs}
 use Rattle.flt_opt.specs.declared.replaces.Way.{Way}
-use Rattle.flt_opt.specs.Facts.{Known, part}
+use Rattle.flt_opt.specs.Facts.{AllHold, Known, part}
 use Rattle.flt_opt.specs.Terms.{Agree, There, asked, is_sure}
 
 -- from a place of each program on both return the same, where so much is known
@@ -85,3 +86,30 @@ LeadsTo programs way facts learnt =
     (p : List ℕ) (n at : ℕ) → at < way.new → AreGood programs p n at
     → Alike programs.new.now programs.old.now p n way.new way.old way.both facts
         programs.notes.pieces.now learnt
+
+-- they do after a test of the new program that holds, or doesn't
+abbrev pub Branches : Programs → Note → Both → Insn → Condition → Bool → ℕ → Type 0
+Branches programs m b i condition holds at_old =
+    (p : List ℕ) (n : ℕ) (s t : State) (answer : ℕ) → AreGood programs p n m.new
+    → Agree p n b s t
+    → AllHold p n programs.notes.pieces.now (part programs.notes.facts.now m.facts)
+    → test_holds condition.test s.accumulator (operand_value condition.operand i.k s.index) ≡ holds
+    → answer_of programs.old.now p n at_old t ≡ Some answer
+    → answer_of programs.new.now p n (m.new + 1 + (if holds then i.jt else i.jf)) s ≡ Some answer
+
+-- from a test of the new program on both return the same, where the old run is at one of two places
+abbrev pub Tests : Programs → Note → Both → Insn → Condition → ℕ → ℕ → Type 0
+Tests programs m b i condition at_yes at_no =
+    (p : List ℕ) (n : ℕ) (s t : State) (answer : ℕ) → AreGood programs p n m.new
+    → Agree p n b s t
+    → AllHold p n programs.notes.pieces.now (part programs.notes.facts.now m.facts)
+    → answer_of programs.old.now p n
+        (if test_holds condition.test s.accumulator
+            (operand_value condition.operand i.k s.index) then at_yes else at_no) t ≡ Some answer
+    → answer_of programs.new.now p n m.new s ≡ Some answer
+
+-- a note is as good as those further on are
+abbrev pub IsSound : Programs → Note → Type 0
+IsSound programs m =
+    Stands programs.new.now programs.old.now programs.notes.notes.now programs.notes.facts.now
+    programs.notes.pieces.now m

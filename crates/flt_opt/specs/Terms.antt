@@ -144,6 +144,11 @@ reads_index (JumpIf test IndexRegister) = true
 reads_index CopyToAccumulator = true
 reads_index _ = false
 
+-- two runs have the same in A and X where an operation reads them
+pub record Reads (op : Operation) (s t : State) : Type 0 where
+  pub accumulator : reads_accumulator op ≡ true → s.accumulator ≡ t.accumulator
+  pub index : reads_index op ≡ true → s.index ≡ t.index
+
 -- it puts something into A, or into X
 abbrev pub sets_accumulator : Operation → Bool
 sets_accumulator (LoadAbsolute width) = true
@@ -224,3 +229,16 @@ is_constant _ = false
 abbrev pub test_of : Operation → Option Test
 test_of (JumpIf test Constant) = Some test
 test_of _ = None
+
+-- an operation that leads to the next instruction, or fails
+abbrev pub leads_on : Operation → Bool
+leads_on Jump = false
+leads_on (JumpIf test operand) = false
+leads_on ReturnConstant = false
+leads_on ReturnAccumulator = false
+leads_on _ = true
+
+abbrev pub returns : Operation → Bool
+returns ReturnConstant = true
+returns ReturnAccumulator = true
+returns _ = false

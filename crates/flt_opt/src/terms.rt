@@ -4,7 +4,7 @@ ghost use Rattle.std.specs.Prelude.{◌≡◌, IsTrue};
 ghost use Rattle.flt_opt.specs.Terms.{indirect, mask_of, masked, sum, computed, accumulator_after};
 ghost use Rattle.flt_opt.specs.Terms.{index_after, after, after_both, after_old, after_new, asked};
 ghost use Rattle.flt_opt.specs.Terms.{reads_accumulator, reads_index, sets_accumulator, sets_index};
-ghost use Rattle.flt_opt.specs.Terms.{is_known, is_sure, test_of};
+ghost use Rattle.flt_opt.specs.Terms.{is_known, is_sure, leads_on, returns, test_of};
 
 use crate::note::{Both, Load, Registers, Term};
 use flt_bpf::operation::{AluOperation, Operand, Operation, Register, Source, Test, Width};
@@ -270,4 +270,21 @@ pub(crate) fn is_sure(operation: Operation, k: u32, there: bool) -> bool
         | Operation::CopyToAccumulator => true,
         _ => false,
     }
+}
+
+/// An operation leads to the next instruction, or fails.
+pub(crate) fn leads_on(operation: Operation) -> bool
+    ensures { result ≡ leads_on operation }
+{
+    !matches!(operation, Operation::Jump | Operation::JumpIf(_, _)) && !returns(operation)
+}
+
+/// It returns.
+pub(crate) fn returns(operation: Operation) -> bool
+    ensures { result ≡ returns operation }
+{
+    matches!(
+        operation,
+        Operation::ReturnConstant | Operation::ReturnAccumulator
+    )
 }
