@@ -3,3 +3,4 @@ pub mod Numbers
 pub mod Values
 pub mod Walking
 pub mod Standing
+pub mod Rules

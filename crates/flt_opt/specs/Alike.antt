@@ -15,7 +15,7 @@ use Rattle.flt_opt.specs.declared.replaces.Condition.{Condition}
 use Rattle.flt_opt.specs.declared.replaces.Programs.{Programs}
 use Rattle.flt_opt.specs.declared.replaces.Way.{Way}
 use Rattle.flt_opt.specs.Facts.{AllHold, Known, part}
-use Rattle.flt_opt.specs.Terms.{Agree, There, asked, is_sure}
+use Rattle.flt_opt.specs.Terms.{Agree, There, Reads, asked, is_sure}
 
 -- from a place of each program on both return the same, where so much is known
 pub record Alike (new old : List Insn) (p : List ℕ) (n : ℕ) (at_new at_old : ℕ) (b : Both) (facts : List Fact) (pieces : List Piece) (learnt : List Learnt) : Type 0 where
@@ -113,3 +113,7 @@ abbrev pub IsSound : Programs → Note → Type 0
 IsSound programs m =
     Stands programs.new.now programs.old.now programs.notes.notes.now programs.notes.facts.now
     programs.notes.pieces.now m
+
+-- both runs have the same in A and X where an operation reads them
+abbrev pub OperandsAgree : Operation → Both → Type 0
+OperandsAgree op b = (p : List ℕ) (n : ℕ) (s t : State) → Agree p n b s t → Reads op s t

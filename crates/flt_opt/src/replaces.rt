@@ -1,17 +1,19 @@
 //! Whether a program may replace another one: note by note, by four rules.
 
-ghost use Rattle.std.specs.Prelude.{◌≡◌, ℕ, ◌+◌, ◌^◌, ◌<◌, Some, IsTrue, slice_get};
+ghost use Rattle.std.specs.Prelude.{◌≡◌, ℕ, ◌+◌, ◌^◌, ◌<◌, [], Some, IsTrue, slice_get};
 ghost use Rattle.std.specs.Prelude.{if◌then◌else◌};
 ghost use Rattle.flt_bpf.specs.declared.operation.Operation.TheVariants.{JumpIf};
 ghost use Rattle.flt_bpf.specs.Instructions.{operation_of};
 ghost use Rattle.flt_bpf.specs.declared.machine.State.{State};
-ghost use Rattle.flt_opt.specs.Alike.{LeadsTo, Branches, Tests};
+ghost use Rattle.flt_opt.specs.Alike.{LeadsTo, Branches, Tests, OperandsAgree, IsSound};
 ghost use Rattle.flt_opt.specs.Facts.{part};
 
 use crate::facts::{Knowledge, Learnt, facts_in, outcome};
 use crate::follows::{facts_follow, fits, same_accumulator, same_index};
 use crate::note::{Both, Fact, Note, Notes};
-use crate::terms::{after_both, after_new, after_old, reads_accumulator, reads_index};
+use crate::terms::{
+    after_both, after_new, leads_on, reads_accumulator, reads_index, returns,
+};
 use crate::walk::{goes_on, walk};
 use flt_bpf::Wide;
 use flt_bpf::operation::{Operand, Operation, Test, decode};
@@ -123,4 +125,81 @@ fn test_leads(
 {
     branch_leads(programs, note, both, new, condition, true, yes)
         && branch_leads(programs, note, both, new, condition, false, no)
+}
+
+/// The next instruction of the new program leads to a note, where the old run is at a place.
+fn step_leads(programs: &Programs, note: &Note, both: Both, old: usize) -> bool
+    requires { note.now.new < 2 ^ 62 }
+    ensures { IsTrue result → LeadsTo programs.now
+        (record { new = note.now.new + 1; old = old; both = both })
+        (part programs.now.notes.facts.now note.now.facts) [] }
+{
+    let way = Way {
+        new: note.new + 1,
+        old,
+        both,
+    };
+    leads(programs, facts_of(programs, note), &[], &way, note.yes)
+}
+
+/// Both runs have the same in A and X where an operation reads them.
+fn operands_agree(operation: Operation, both: &Both) -> bool
+    ensures { IsTrue result → OperandsAgree operation both.now }
+{
+    (!reads_accumulator(operation) || same_accumulator(both))
+        && (!reads_index(operation) || same_index(both))
+}
+
+/// The new run does the instruction of the old one.
+fn does_same(programs: &Programs, note: &Note, new: Wide, old: Wide) -> bool
+    requires new_bound { note.now.new < 2 ^ 62 }
+    requires old_bound { note.now.old < 2 ^ 62 }
+    requires new_there { slice_get programs.now.new.now note.now.new ≡ Some new }
+    requires old_there { slice_get programs.now.old.now note.now.old ≡ Some old }
+    ensures { IsTrue result → IsSound programs.now note.now }
+{
+    if new.code != old.code || new.k != old.k {
+        return false;
+    }
+    let Some(operation) = decode(new.code) else {
+        return false;
+    };
+    if !operands_agree(operation, &note.registers) {
+        return false;
+    }
+    if returns(operation) {
+        return true;
+    }
+    if let Operation::JumpIf(test, operand) = operation {
+        let condition = Condition { test, operand };
+        let yes = note.old + 1 + old.yes as usize;
+        let no = note.old + 1 + old.no as usize;
+        return test_leads(programs, note, &note.registers, new, condition, yes, no);
+    }
+    let both = after_both(operation, new.k, note.registers);
+    leads_on(operation) && step_leads(programs, note, both, note.old + 1)
+}
+
+/// The new run does an instruction of its own, which can't fail, and the old run waits.
+fn does_own(programs: &Programs, note: &Note, new: Wide) -> bool
+    requires bound { note.now.new < 2 ^ 62 }
+    requires there { slice_get programs.now.new.now note.now.new ≡ Some new }
+    ensures { IsTrue result → IsSound programs.now note.now }
+{
+    let Some(operation) = decode(new.code) else {
+        return false;
+    };
+    if let Operation::JumpIf(test, operand) = operation {
+        let condition = Condition { test, operand };
+        let registers = &note.registers;
+        return test_leads(programs, note, registers, new, condition, note.old, note.old);
+    }
+    let knowledge = Knowledge {
+        facts: facts_of(programs, note),
+        pieces: programs.notes.pieces,
+        learnt: &[],
+    };
+    let both = after_new(operation, new.k, note.registers);
+    goes_on(operation, new.k, note.registers.new, &knowledge, &note.registers)
+        && step_leads(programs, note, both, note.old)
 }
