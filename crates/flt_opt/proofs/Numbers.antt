@@ -1,6 +1,6 @@
 -- Which numbers are in pieces.
-use Rattle.std.proofs.Common.{◌≡◌, ℕ, zero, suc, ◌+◌, ◌-◌, ◌^◌, ◌<◌, ◌≤◌, List, [], ◌∷◌, length, get_or, take, drop, Bool, true, false, Option, Some, None, refl, sym, ap, ◌∙◌, subst, arith}
-use Rattle.std.specs.Prelude.{min, nat_le, nat_lt, ◌==◌, ◌&&◌, ◌||◌, not, bit_and, slice_get, if◌then◌else◌}
+use Rattle.std.proofs.Common.{◌≡◌, ℕ, zero, suc, ◌+◌, ◌-◌, ◌<◌, ◌≤◌, List, [], ◌∷◌, length, get_or, take, drop, Bool, true, false, refl, sym, ap, ◌∙◌, subst, arith}
+use Rattle.std.specs.Prelude.{min, nat_lt, ◌||◌, bit_and}
 use Rattle.std.proofs.lemmas.Bool.Decides.{nat_tests}
 use Rattle.std.proofs.lemmas.List.{take_rest}
 use Rattle.flt_bpf.specs.declared.operation.Test.{Test}
@@ -9,9 +9,8 @@ use Rattle.flt_bpf.specs.Machine.{test_holds}
 use Rattle.flt_opt.specs.declared.facts.Learnt.{Learnt}
 use Rattle.flt_opt.specs.declared.note.Piece.{Piece}
 use Rattle.flt_opt.specs.declared.note.Term.{Term}
-use Rattle.flt_opt.specs.Terms.{value, is_known, Holds, masked}
-use Rattle.flt_opt.specs.Facts.{in_piece, within, in_either, before, only, starting, past, learnt_of, outcome, LearntHolds, AllLearnt, NeverIs, IsWithin, IsIn}
-use Rattle.flt_opt.proofs.Steps.{masked_value}
+use Rattle.flt_opt.specs.Terms.{value, masked}
+use Rattle.flt_opt.specs.Facts.{in_piece, within, in_either, before, only, starting, past, learnt_of, outcome, LearntHolds, AllLearnt, NeverIs, IsWithin}
 
 pub or_left : (a b : Bool) → a ≡ true → (a || b) ≡ true
 or_left true b e = refl

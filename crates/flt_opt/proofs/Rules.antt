@@ -1,5 +1,5 @@
 -- Each rule makes a note as good as those further on.
-use Rattle.std.proofs.Common.{◌≡◌, ℕ, zero, suc, ◌+◌, ◌%◌, ◌^◌, ◌<◌, ◌≤◌, List, [], ◌∷◌, length, Bool, true, false, Option, Some, None, refl, sym, ap, ◌∙◌, subst, arith}
+use Rattle.std.proofs.Common.{◌≡◌, ℕ, zero, suc, ◌+◌, ◌%◌, ◌^◌, List, [], ◌∷◌, Bool, true, false, Option, Some, refl, sym, ap, ◌∙◌, arith}
 use Rattle.std.specs.Prelude.{slice_get, if◌then◌else◌}
 use Rattle.std.specs.Option.{option_map}
 use Rattle.flt_bpf.specs.declared.insn.Insn.{Insn}
@@ -18,12 +18,12 @@ use Rattle.flt_bpf.specs.Machine.{Next, Goes, Ends, Lost, step, does, into, word
 use Rattle.flt_opt.specs.declared.note.Both.{Both}
 use Rattle.flt_opt.specs.declared.note.Fact.{Fact}
 use Rattle.flt_opt.specs.declared.note.Note.{Note}
-use Rattle.flt_opt.specs.declared.replaces.Condition.{Condition}
-use Rattle.flt_opt.specs.declared.replaces.Programs.{Programs}
-use Rattle.flt_opt.specs.declared.replaces.Way.{Way}
-use Rattle.flt_opt.specs.Terms.{Agree, Reads, leads_on, returns, after_both, after_new}
-use Rattle.flt_opt.specs.Facts.{Known, part}
-use Rattle.flt_opt.specs.Alike.{Alike, IsSure, AreGood, LeadsTo, Tests, IsSound, OperandsAgree}
+use Rattle.flt_opt.specs.declared.validator.Condition.{Condition}
+use Rattle.flt_opt.specs.declared.validator.Programs.{Programs}
+use Rattle.flt_opt.specs.declared.validator.Way.{Way}
+use Rattle.flt_opt.specs.Terms.{Reads, leads_on, returns, after_both, after_new}
+use Rattle.flt_opt.specs.Facts.{part}
+use Rattle.flt_opt.specs.Alike.{IsSure, LeadsTo, Tests, IsSound, OperandsAgree}
 use Rattle.flt_opt.proofs.Steps.{op_both, op_sure, agree_new, knows_step}
 
 -- an instruction at a place, and what comes behind it
@@ -81,18 +81,18 @@ module _ (programs : Programs) (m : Note) (i : Insn) (new_there : slice_get prog
   pub own_leads : (op : Operation) → operation_of i.code ≡ Some op → IsSure op i.k m.registers.new m.registers facts_here programs.notes.pieces.now [] → LeadsTo programs (way_on m.old (after_new op i.k m.registers)) facts_here [] → IsSound programs m
   own_leads op is sure leads p n good = record {
     returns = λ s t answer agree known e.
-    (let l = sure p n s t agree known in
-    let go = op_sure p n op i m.registers.new s l.there l.sure l.is_there agree.new_registers in
-    let rn = λ (far : ℕ) (u : State). answer_of programs.new.now p n (m.new + 1 + far) u in
-    at_step programs.new.now p n m.new i s new_there ∙ ap (answer_after rn) (knows_step p n i op s is ∙ go.goes)
-    ∙ no_further programs.new.now p n m.new go.state
-    ∙ (leads p n m.new (omega arith) good).returns go.state t answer (agree_new p n op i m.registers s t go.state agree go.goes go.memory) known e);
+        (let l = sure p n s t agree known in
+        let go = op_sure p n op i m.registers.new s l.there l.sure l.is_there agree.new_registers in
+        let rn = λ (far : ℕ) (u : State). answer_of programs.new.now p n (m.new + 1 + far) u in
+        at_step programs.new.now p n m.new i s new_there ∙ ap (answer_after rn) (knows_step p n i op s is ∙ go.goes)
+        ∙ no_further programs.new.now p n m.new go.state
+        ∙ (leads p n m.new (omega arith) good).returns go.state t answer (agree_new p n op i m.registers s t go.state agree go.goes go.memory) known e);
   }
 
   pub own_tests : (condition : Condition) → Tests programs m m.registers i condition m.old m.old → IsSound programs m
   own_tests condition tests p n good = record {
     returns = λ s t answer agree known e.
-    (tests p n s t answer good agree known.noted (one (test_holds condition.test s.accumulator (operand_value condition.operand i.k s.index)) t ∙ e));
+        (tests p n s t answer good agree known.noted (one (test_holds condition.test s.accumulator (operand_value condition.operand i.k s.index)) t ∙ e));
   }
     where
       one : (truth : Bool) (t : State) → answer_of programs.old.now p n (if truth then m.old else m.old) t ≡ answer_of programs.old.now p n m.old t
@@ -107,13 +107,13 @@ module _ (programs : Programs) (m : Note) (i : Insn) (new_there : slice_get prog
       pub same_leads : leads_on op ≡ true → LeadsTo programs (way_on (m.old + 1) (after_both op i.k m.registers)) facts_here [] → IsSound programs m
       same_leads on leads p n good = record {
         returns = λ s t answer agree known e.
-        (let rn = λ (far : ℕ) (u : State). answer_of programs.new.now p n (m.new + 1 + far) u in
-        let ro = λ (far : ℕ) (u : State). answer_of programs.old.now p n (m.old + 1 + far) u in
-        let old_does = ap (answer_after ro) (sym (same_does p n op i o t on k)) ∙ ap (answer_after ro) (sym (knows_step p n o op t old_is)) ∙ sym (at_step programs.old.now p n m.old o t old_there) ∙ e in
-        at_step programs.new.now p n m.new i s new_there ∙ ap (answer_after rn) (knows_step p n i op s is)
-        ∙ op_both p n op i m.registers s t agree on (agrees p n s t agree) rn ro answer
-        (λ u w a r. no_further programs.new.now p n m.new u ∙ (leads p n m.new (omega arith) good).returns u w answer a known (sym (no_further programs.old.now p n m.old w) ∙ r))
-        old_does);
+            (let rn = λ (far : ℕ) (u : State). answer_of programs.new.now p n (m.new + 1 + far) u in
+            let ro = λ (far : ℕ) (u : State). answer_of programs.old.now p n (m.old + 1 + far) u in
+            let old_does = ap (answer_after ro) (sym (same_does p n op i o t on k)) ∙ ap (answer_after ro) (sym (knows_step p n o op t old_is)) ∙ sym (at_step programs.old.now p n m.old o t old_there) ∙ e in
+            at_step programs.new.now p n m.new i s new_there ∙ ap (answer_after rn) (knows_step p n i op s is)
+            ∙ op_both p n op i m.registers s t agree on (agrees p n s t agree) rn ro answer
+            (λ u w a r. no_further programs.new.now p n m.new u ∙ (leads p n m.new (omega arith) good).returns u w answer a known (sym (no_further programs.old.now p n m.old w) ∙ r))
+            old_does);
       }
 
     module _ (test : Test) (operand : Operand) (is : operation_of i.code ≡ Some (JumpIf test operand)) (code : i.code ≡ o.code) (k : i.k ≡ o.k) (agrees : OperandsAgree (JumpIf test operand) m.registers) where
@@ -128,21 +128,21 @@ module _ (programs : Programs) (m : Note) (i : Insn) (new_there : slice_get prog
       pub same_tests : Tests programs m m.registers i (record { test = test; operand = operand }) (m.old + 1 + o.jt) (m.old + 1 + o.jf) → IsSound programs m
       same_tests tests p n good = record {
         returns = λ s t answer agree known e.
-        (let reads = agrees p n s t agree in
-        let truth = test_holds test s.accumulator (operand_value operand i.k s.index) in
-        let old_truth : test_holds test t.accumulator (operand_value operand o.k t.index) ≡ truth = ap (λ z. test_holds test z (operand_value operand o.k t.index)) (sym (reads.accumulator refl)) ∙ ap (λ z. test_holds test s.accumulator z) (sym (same_operand operand s t reads)) in
-        let goes : step o p n t ≡ Goes (if truth then o.jt else o.jf) t = knows_step p n o (JumpIf test operand) t (ap operation_of (sym code) ∙ is) ∙ ap (λ z. Goes (if z then o.jt else o.jf) t) old_truth in
-        tests p n s t answer good agree known.noted
-        (ap (λ z. answer_of programs.old.now p n z t) (pick truth m.old o.jt o.jf n n)
-        ∙ ap (answer_after (λ far u. answer_of programs.old.now p n (m.old + 1 + far) u)) (sym goes)
-        ∙ sym (at_step programs.old.now p n m.old o t old_there) ∙ e));
+            (let reads = agrees p n s t agree in
+            let truth = test_holds test s.accumulator (operand_value operand i.k s.index) in
+            let old_truth : test_holds test t.accumulator (operand_value operand o.k t.index) ≡ truth = ap (λ z. test_holds test z (operand_value operand o.k t.index)) (sym (reads.accumulator refl)) ∙ ap (λ z. test_holds test s.accumulator z) (sym (same_operand operand s t reads)) in
+            let goes : step o p n t ≡ Goes (if truth then o.jt else o.jf) t = knows_step p n o (JumpIf test operand) t (ap operation_of (sym code) ∙ is) ∙ ap (λ z. Goes (if z then o.jt else o.jf) t) old_truth in
+            tests p n s t answer good agree known.noted
+            (ap (λ z. answer_of programs.old.now p n z t) (pick truth m.old o.jt o.jf n n)
+            ∙ ap (answer_after (λ far u. answer_of programs.old.now p n (m.old + 1 + far) u)) (sym goes)
+            ∙ sym (at_step programs.old.now p n m.old o t old_there) ∙ e));
       }
 
     pub same_returns : (op : Operation) → operation_of i.code ≡ Some op → i.code ≡ o.code → i.k ≡ o.k → OperandsAgree op m.registers → returns op ≡ true → IsSound programs m
     same_returns op is code k agrees r p n good = record {
       returns = λ s t answer agree known e.
-      (at_step programs.new.now p n m.new i s new_there
-      ∙ by op s t answer (λ far u. answer_of programs.new.now p n (m.new + 1 + far) u) (λ far u. answer_of programs.old.now p n (m.old + 1 + far) u) (agrees p n s t agree) r (knows_step p n i op s is) (knows_step p n o op t (ap operation_of (sym code) ∙ is)) (sym (at_step programs.old.now p n m.old o t old_there) ∙ e));
+          (at_step programs.new.now p n m.new i s new_there
+          ∙ by op s t answer (λ far u. answer_of programs.new.now p n (m.new + 1 + far) u) (λ far u. answer_of programs.old.now p n (m.old + 1 + far) u) (agrees p n s t agree) r (knows_step p n i op s is) (knows_step p n o op t (ap operation_of (sym code) ∙ is)) (sym (at_step programs.old.now p n m.old o t old_there) ∙ e));
     }
       where
         by : (q : Operation) (s t : State) (answer : ℕ) (rn ro : ℕ → State → Option ℕ) → Reads q s t → returns q ≡ true → step i p n s ≡ does q i p n s → step o p n t ≡ does q o p n t → answer_after ro (step o p n t) ≡ Some answer → answer_after rn (step i p n s) ≡ Some answer

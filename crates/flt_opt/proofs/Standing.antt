@@ -1,25 +1,27 @@
 -- From each note on both programs return the same.
-use Rattle.std.proofs.Common.{◌≡◌, ℕ, zero, suc, ◌+◌, ◌<◌, ◌≤◌, List, [], ◌∷◌, length, get_or, Bool, true, false, Option, Some, None, refl, sym, ap, ◌∙◌, subst, arith}
-use Rattle.std.specs.Prelude.{slice_get, if◌then◌else◌}
+use Rattle.std.proofs.Common.{◌≡◌, ℕ, zero, suc, ◌+◌, ◌<◌, ◌≤◌, List, [], ◌∷◌, length, get_or, take, drop, Bool, true, false, Some, refl, sym, ap, ◌∙◌, subst, arith}
+use Rattle.std.specs.Prelude.{◌≢◌, ◌-◌, ◌==◌, ◌&&◌, nat_le, slice_get, slice_range, if◌then◌else◌, All}
+use Rattle.std.proofs.lemmas.Bool.Decides.{nat_tests}
+use Rattle.std.proofs.lemmas.Option.{get_or_from_slice_get}
 use Rattle.flt_bpf.specs.declared.insn.Insn.{Insn}
 use Rattle.flt_bpf.specs.declared.machine.State.{State}
-use Rattle.flt_bpf.specs.declared.operation.Operation.{Operation}
-use Rattle.flt_bpf.specs.declared.operation.Operation.TheVariants.{JumpIf}
+use Rattle.flt_bpf.specs.declared.operation.Operation.TheVariants.{Jump, JumpIf}
 use Rattle.flt_bpf.specs.declared.operation.Operand.TheVariants.{Constant}
-use Rattle.flt_bpf.specs.Answer.{answer_of, answer_after}
-use Rattle.flt_bpf.specs.Instructions.{operation_of}
-use Rattle.flt_bpf.specs.Machine.{Next, Goes, Ends, Lost, step, test_holds, operand_value}
+use Rattle.flt_bpf.specs.Answer.{answer_of}
+use Rattle.flt_bpf.specs.Instructions.{code_of, operation_of}
+use Rattle.flt_bpf.specs.Machine.{Goes, test_holds, operand_value, start}
 use Rattle.flt_opt.specs.declared.facts.Learnt.{Learnt}
 use Rattle.flt_opt.specs.declared.note.Both.{Both}
 use Rattle.flt_opt.specs.declared.note.Fact.{Fact}
 use Rattle.flt_opt.specs.declared.note.Note.{Note}
-use Rattle.flt_opt.specs.declared.note.Piece.{Piece}
-use Rattle.flt_opt.specs.declared.replaces.Condition.{Condition}
-use Rattle.flt_opt.specs.declared.replaces.Programs.{Programs}
-use Rattle.flt_opt.specs.declared.replaces.Way.{Way}
+use Rattle.flt_opt.specs.declared.note.Span.{Span}
+use Rattle.flt_opt.specs.declared.validator.Condition.{Condition}
+use Rattle.flt_opt.specs.declared.validator.Programs.{Programs}
+use Rattle.flt_opt.specs.declared.validator.Way.{Way}
 use Rattle.flt_opt.specs.Terms.{Agree, Holds}
-use Rattle.flt_opt.specs.Facts.{AllHold, AllLearnt, LearntHolds, Known, FactsFollow, outcome, part}
-use Rattle.flt_opt.specs.Alike.{Alike, Walks, AreGood, LeadsTo, Branches, Tests}
+use Rattle.flt_opt.specs.Facts.{AllHold, AllLearnt, LearntHolds, FactsFollow, outcome, part}
+use Rattle.flt_opt.specs.Alike.{Walks, IsGood, LeadsTo, Branches, Tests, IsSound, AreSound, Begins}
+use Rattle.flt_opt.specs.Replaces.{Replaces}
 use Rattle.flt_opt.proofs.Steps.{knows_step}
 use Rattle.flt_opt.proofs.Values.{shown}
 use Rattle.flt_opt.proofs.Walking.{at_goes}
@@ -27,10 +29,10 @@ use Rattle.flt_opt.proofs.Walking.{at_goes}
 pub leads_good : (programs : Programs) (way : Way) (facts : List Fact) (learnt : List Learnt) (k : ℕ) (m : Note) (known : Both) → slice_get programs.notes.notes.now k ≡ Some m → m.new ≡ way.new → Walks programs.old.now way.old m.old way.both known facts programs.notes.pieces.now learnt → ((p : List ℕ) (n : ℕ) (s t : State) → Agree p n known s t → Agree p n m.registers s t) → FactsFollow (part programs.notes.facts.now m.facts) way.both facts programs.notes.pieces.now learnt → LeadsTo programs way facts learnt
 leads_good programs way facts learnt k m known there same walks fits follow p n at low good = record {
   returns = λ s t answer agree k' e.
-  (let c = walks p n s t answer agree k' e in
-  let g = good k m there (subst (λ z. at < z) (sym same) low) in
-  ap (λ z. answer_of programs.new.now p n z s) (sym same)
-  ∙ g.returns s c.state answer (fits p n s c.state c.agree) (record { noted = follow p n s t agree k'; shown = tt }) c.returns);
+      (let c = walks p n s t answer agree k' e in
+      let g = good k m there (subst (λ z. at < z) (sym same) low) in
+      ap (λ z. answer_of programs.new.now p n z s) (sym same)
+      ∙ g.returns s c.state answer (fits p n s c.state c.agree) (record { noted = follow p n s t agree k'; shown = tt }) c.returns);
 }
 
 -- what a test with a number shows
@@ -60,3 +62,54 @@ test_good programs m b i condition at_yes at_no there is yes_good no_good p n s 
     by : (z : Bool) → test_holds condition.test s.accumulator (operand_value condition.operand i.k s.index) ≡ z → answer_of programs.old.now p n (if z then at_yes else at_no) t ≡ Some answer → answer_of programs.new.now p n m.new s ≡ Some answer
     by true h w = new_goes true h ∙ yes_good p n s t answer good agree hold h w
     by false h w = new_goes false h ∙ no_good p n s t answer good agree hold h w
+
+-- one more note
+pub sound_more : (programs : Programs) (k : ℕ) (d : Note) → k < length programs.notes.notes.now → ((j : ℕ) (m : Note) → j < k → slice_get programs.notes.notes.now j ≡ Some m → IsSound programs m) → IsSound programs (get_or programs.notes.notes.now k d) → (j : ℕ) (m : Note) → j < k + 1 → slice_get programs.notes.notes.now j ≡ Some m → IsSound programs m
+sound_more programs k d low before here j m l e = by (j == k) refl
+  where
+    by : (z : Bool) → (j == k) ≡ z → IsSound programs m
+    by true w =
+        let same : j ≡ k = grind (arith, nat_tests) in
+        let is : get_or programs.notes.notes.now k d ≡ m = get_or_from_slice_get programs.notes.notes.now k m d (subst (λ z. slice_get programs.notes.notes.now z ≡ Some m) same e) in
+        subst (λ z. IsSound programs z) is here
+    by false w = let less : j < k = grind (arith, nat_tests) in before j m less e
+
+-- a number that no note's place is past
+most : List Note → ℕ
+most [] = 0
+most (m ∷ ms) = m.new + most ms
+
+up_to : (ms : List Note) (j : ℕ) (m : Note) → slice_get ms j ≡ Some m → m.new ≤ most ms
+unfolding most
+up_to [] j m e = cc
+up_to (k ∷ ms) zero m e = let same : k.new ≡ m.new = cc in omega arith
+up_to (k ∷ ms) (suc j) m e = let l = up_to ms j m e in omega arith
+
+good_from : (programs : Programs) → AreSound programs → (p : List ℕ) (n left j : ℕ) (m : Note) → slice_get programs.notes.notes.now j ≡ Some m → most programs.notes.notes.now ≤ m.new + left → IsGood programs.new.now programs.old.now programs.notes.facts.now programs.notes.pieces.now p n m
+good_from programs sound p n zero j m e l =
+    sound j m e p n (λ k q w further. let low = up_to programs.notes.notes.now k q w in absurd (omega arith))
+good_from programs sound p n (suc left) j m e l =
+    sound j m e p n (λ k q w further. good_from programs sound p n left k q w (omega arith))
+
+pub replaced : (programs : Programs) → Begins programs → AreSound programs → All (λ i. i.code ≢ code_of Jump) programs.new.now → Replaces programs.new.now programs.old.now
+replaced programs begins sound free = record {
+  runs = λ p n answer e.
+      (let first = begins.first in
+      let good = good_from programs sound p n (most programs.notes.notes.now) 0 first begins.there (omega arith) in
+      let hold = subst (λ z. AllHold p n programs.notes.pieces.now z) (sym begins.no_facts) tt in
+      ap (λ z. answer_of programs.new.now p n z start) (sym begins.new)
+      ∙ good.returns start start answer (begins.agree p n) (record { noted = hold; shown = tt })
+      (ap (λ z. answer_of programs.old.now p n z start) begins.old ∙ e));
+  no_jump = free;
+}
+
+-- no part of a list
+pub empty_part : {A : Type 0} (xs : List A) (s : Span) → s.start ≡ s.end → part xs s ≡ []
+empty_part xs s e = by (nat_le s.start s.end && nat_le s.end (length xs))
+  where
+    none : s.end - s.start ≡ 0
+    none = omega arith
+
+    by : (b : Bool) → (if b then slice_range xs s.start s.end else []) ≡ []
+    by true = ap (λ k. take k (drop s.start xs)) none
+    by false = refl

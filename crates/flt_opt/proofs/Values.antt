@@ -1,7 +1,6 @@
 -- What facts and tests say of the value of a term.
-use Rattle.std.proofs.Common.{◌≡◌, ℕ, zero, suc, ◌+◌, ◌-◌, ◌%◌, ◌^◌, ◌<◌, ◌≤◌, List, [], ◌∷◌, length, get_or, take, drop, Bool, true, false, Option, Some, None, refl, sym, ap, ◌∙◌, subst, arith, add-one}
-use Rattle.std.specs.Prelude.{min, nat_le, nat_lt, ◌==◌, ◌&&◌, ◌||◌, not, bit_and, slice_get, if◌then◌else◌}
-use Rattle.std.proofs.lemmas.Bool.Decides.{nat_tests}
+use Rattle.std.proofs.Common.{◌≡◌, ℕ, zero, suc, ◌+◌, ◌%◌, ◌^◌, ◌<◌, List, [], ◌∷◌, length, get_or, take, Bool, true, false, Option, Some, None, refl, sym, ap, ◌∙◌, subst, arith, add-one}
+use Rattle.std.specs.Prelude.{bit_and}
 use Rattle.flt_bpf.specs.declared.operation.Test.{Test}
 use Rattle.flt_bpf.specs.declared.operation.Test.TheVariants.{Equal, Greater, AtLeast, AnyBit}
 use Rattle.flt_bpf.specs.Machine.{test_holds}
@@ -13,7 +12,7 @@ use Rattle.flt_opt.specs.declared.note.Term.{Term}
 use Rattle.flt_opt.specs.declared.note.Term.TheVariants.{Anything, Number, Length, Field, HeaderLength}
 use Rattle.std.specs.Option.{option_map}
 use Rattle.flt_opt.specs.Terms.{header_at, bare, under, value, is_known, Holds, There, masked, source, is_constant}
-use Rattle.flt_opt.specs.Facts.{in_piece, within, in_either, only, past, learnt_of, outcome, LearntHolds, AllLearnt, FactHolds, AllHold, Known, part, HasNumbers, NeverSo, NeverAmong, CannotBe, IsDecided, IsWithin, AreWithin, FactFollows, FactsFollow}
+use Rattle.flt_opt.specs.Facts.{in_piece, within, outcome, LearntHolds, FactHolds, AllHold, Known, part, HasNumbers, NeverSo, NeverAmong, CannotBe, IsDecided, IsWithin, AreWithin, FactFollows, FactsFollow}
 use Rattle.flt_opt.proofs.Steps.{masked_value}
 use Rattle.flt_opt.proofs.Numbers.{or_left, or_right, one_of, in_outcome, in_bits}
 

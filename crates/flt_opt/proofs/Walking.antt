@@ -1,5 +1,5 @@
 -- A run goes on by what is known.
-use Rattle.std.proofs.Common.{◌≡◌, ℕ, zero, suc, ◌+◌, ◌<◌, ◌≤◌, List, [], ◌∷◌, length, Bool, true, false, Option, Some, None, refl, sym, ap, ◌∙◌, subst, arith}
+use Rattle.std.proofs.Common.{◌≡◌, ℕ, zero, suc, ◌+◌, List, [], ◌∷◌, Bool, Some, sym, ap, ◌∙◌, arith}
 use Rattle.std.specs.Prelude.{slice_get, if◌then◌else◌}
 use Rattle.flt_bpf.specs.declared.insn.Insn.{Insn}
 use Rattle.flt_bpf.specs.declared.machine.State.{State}
@@ -9,13 +9,13 @@ use Rattle.flt_bpf.specs.declared.operation.Operand.TheVariants.{Constant}
 use Rattle.flt_bpf.specs.declared.operation.Test.{Test}
 use Rattle.flt_bpf.specs.Answer.{answer_of, answer_after}
 use Rattle.flt_bpf.specs.Instructions.{operation_of}
-use Rattle.flt_bpf.specs.Machine.{Next, Goes, Ends, Lost, step, test_holds}
+use Rattle.flt_bpf.specs.Machine.{Goes, step}
 use Rattle.flt_opt.specs.declared.facts.Learnt.{Learnt}
 use Rattle.flt_opt.specs.declared.note.Both.{Both}
 use Rattle.flt_opt.specs.declared.note.Fact.{Fact}
 use Rattle.flt_opt.specs.declared.note.Piece.{Piece}
-use Rattle.flt_opt.specs.Terms.{Agree, after_old, test_of}
-use Rattle.flt_opt.specs.Facts.{Known, IsDecided}
+use Rattle.flt_opt.specs.Terms.{after_old, test_of}
+use Rattle.flt_opt.specs.Facts.{IsDecided}
 use Rattle.flt_opt.specs.Alike.{IsSure, Passes, Walks}
 use Rattle.flt_opt.proofs.Steps.{op_sure, agree_old, knows_step}
 

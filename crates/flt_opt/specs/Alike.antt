@@ -1,19 +1,19 @@
 -- What the rules of `replaces` show.
-use Rattle.std.specs.Prelude.{◌≡◌, ℕ, ◌+◌, ◌<◌, Bool, true, if◌then◌else◌, List, [], Option, Some, slice_get}
+use Rattle.std.specs.Prelude.{◌≡◌, ℕ, ◌+◌, ◌<◌, Bool, true, if◌then◌else◌, List, [], Some, slice_get}
 use Rattle.flt_bpf.specs.declared.insn.Insn.{Insn}
 use Rattle.flt_bpf.specs.declared.machine.State.{State}
 use Rattle.flt_bpf.specs.declared.operation.Operation.{Operation}
 use Rattle.flt_bpf.specs.Answer.{answer_of}
-use Rattle.flt_bpf.specs.Machine.{Goes, step, test_holds, operand_value}
+use Rattle.flt_bpf.specs.Machine.{Goes, step, test_holds, operand_value, start}
 use Rattle.flt_opt.specs.declared.facts.Learnt.{Learnt}
 use Rattle.flt_opt.specs.declared.note.Both.{Both}
 use Rattle.flt_opt.specs.declared.note.Fact.{Fact}
 use Rattle.flt_opt.specs.declared.note.Note.{Note}
 use Rattle.flt_opt.specs.declared.note.Piece.{Piece}
 use Rattle.flt_opt.specs.declared.note.Registers.{Registers}
-use Rattle.flt_opt.specs.declared.replaces.Condition.{Condition}
-use Rattle.flt_opt.specs.declared.replaces.Programs.{Programs}
-use Rattle.flt_opt.specs.declared.replaces.Way.{Way}
+use Rattle.flt_opt.specs.declared.validator.Condition.{Condition}
+use Rattle.flt_opt.specs.declared.validator.Programs.{Programs}
+use Rattle.flt_opt.specs.declared.validator.Way.{Way}
 use Rattle.flt_opt.specs.Facts.{AllHold, Known, part}
 use Rattle.flt_opt.specs.Terms.{Agree, There, Reads, asked, is_sure}
 
@@ -85,7 +85,7 @@ abbrev pub LeadsTo : Programs → Way → List Fact → List Learnt → Type 0
 LeadsTo programs way facts learnt =
     (p : List ℕ) (n at : ℕ) → at < way.new → AreGood programs p n at
     → Alike programs.new.now programs.old.now p n way.new way.old way.both facts
-        programs.notes.pieces.now learnt
+    programs.notes.pieces.now learnt
 
 -- they do after a test of the new program that holds, or doesn't
 abbrev pub Branches : Programs → Note → Both → Insn → Condition → Bool → ℕ → Type 0
@@ -104,8 +104,8 @@ Tests programs m b i condition at_yes at_no =
     → Agree p n b s t
     → AllHold p n programs.notes.pieces.now (part programs.notes.facts.now m.facts)
     → answer_of programs.old.now p n
-        (if test_holds condition.test s.accumulator
-            (operand_value condition.operand i.k s.index) then at_yes else at_no) t ≡ Some answer
+    (if test_holds condition.test s.accumulator
+    (operand_value condition.operand i.k s.index) then at_yes else at_no) t ≡ Some answer
     → answer_of programs.new.now p n m.new s ≡ Some answer
 
 -- a note is as good as those further on are
@@ -117,3 +117,16 @@ IsSound programs m =
 -- both runs have the same in A and X where an operation reads them
 abbrev pub OperandsAgree : Operation → Both → Type 0
 OperandsAgree op b = (p : List ℕ) (n : ℕ) (s t : State) → Agree p n b s t → Reads op s t
+
+abbrev pub AreSound : Programs → Type 0
+AreSound programs =
+    (j : ℕ) (m : Note) → slice_get programs.notes.notes.now j ≡ Some m → IsSound programs m
+
+-- the first note is for the beginning of both programs, of which nothing is known
+pub record Begins (programs : Programs) : Type 0 where
+  pub first : Note
+  pub there : slice_get programs.notes.notes.now 0 ≡ Some first
+  pub new : first.new ≡ 0
+  pub old : first.old ≡ 0
+  pub agree : (p : List ℕ) (n : ℕ) → Agree p n first.registers start start
+  pub no_facts : part programs.notes.facts.now first.facts ≡ []

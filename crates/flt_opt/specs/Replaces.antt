@@ -1,5 +1,5 @@
 -- When a program may stand for another one.
-use Rattle.std.specs.Prelude.{◌≡◌, ◌≢◌, ℕ, List, Option, Some, All}
+use Rattle.std.specs.Prelude.{◌≡◌, ◌≢◌, ℕ, List, Some, All}
 use Rattle.flt_bpf.specs.declared.insn.Insn.{Insn}
 use Rattle.flt_bpf.specs.declared.operation.Operation.TheVariants.{Jump}
 use Rattle.flt_bpf.specs.Answer.{answer_of}

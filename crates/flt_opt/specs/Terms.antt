@@ -171,7 +171,7 @@ after_both op k b = record {
   new = after op k b.new;
   old = after op k b.old;
   same_accumulator = sets_accumulator op || b.same_accumulator;
-  same_index = sets_index op || b.same_index
+  same_index = sets_index op || b.same_index;
 }
 
 -- after the old run alone did it
@@ -179,7 +179,7 @@ abbrev pub after_old : Operation → ℕ → Both → Both
 after_old op k b = record b {
   old = after op k b.old;
   same_accumulator = not (sets_accumulator op) && b.same_accumulator;
-  same_index = not (sets_index op) && b.same_index
+  same_index = not (sets_index op) && b.same_index;
 }
 
 -- after the new run alone did it
@@ -187,7 +187,7 @@ abbrev pub after_new : Operation → ℕ → Both → Both
 after_new op k b = record b {
   new = after op k b.new;
   same_accumulator = not (sets_accumulator op) && b.same_accumulator;
-  same_index = not (sets_index op) && b.same_index
+  same_index = not (sets_index op) && b.same_index;
 }
 
 -- the term that an operation makes, whose value is there only where the operation doesn't fail

@@ -4,8 +4,9 @@
 mod facts;
 mod follows;
 mod note;
-mod replaces;
 mod terms;
+mod validator;
 mod walk;
 
 pub use note::{Both, Fact, Load, Note, Notes, Piece, Registers, Span, Term};
+pub use validator::replaces;

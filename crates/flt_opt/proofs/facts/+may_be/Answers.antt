@@ -1,4 +1,3 @@
-use Rattle.std.proofs.Common.{sym, ◌∙◌}
 use Rattle.flt_opt.proofs.Numbers.{never_of}
 use Rattle.flt_opt.proofs.facts.+may_be.Goals as goal
 

@@ -1,4 +1,4 @@
-use Rattle.std.proofs.Common.{◌≡◌, ℕ, take}
+use Rattle.std.proofs.Common.{take}
 use Rattle.flt_opt.specs.Facts.{NeverAmong}
 use Rattle.flt_opt.proofs.facts.may_be_among.Given as goal
 

@@ -1,4 +1,4 @@
-use Rattle.std.proofs.Common.{◌≡◌, ℕ, ◌≤◌, true, false, get_or, arith}
+use Rattle.std.proofs.Common.{◌≤◌, get_or, arith}
 use Rattle.flt_opt.specs.declared.note.Piece.{Piece}
 use Rattle.flt_opt.proofs.Numbers.{in_wider, within_at}
 use Rattle.flt_opt.proofs.facts.place_of.Goals as goal

@@ -1,4 +1,4 @@
-use Rattle.std.proofs.Common.{◌≡◌, true, sym, ap, ◌∙◌, subst}
+use Rattle.std.proofs.Common.{sym, ◌∙◌, subst}
 use Rattle.flt_opt.specs.Terms.{There}
 use Rattle.flt_opt.proofs.walk.goes_on.Goals as goal
 

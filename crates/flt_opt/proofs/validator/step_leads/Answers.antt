@@ -1,6 +1,6 @@
 use Rattle.std.proofs.Common.{[], ◌+◌, subst}
 use Rattle.flt_opt.specs.Alike.{LeadsTo}
-use Rattle.flt_opt.proofs.replaces.step_leads.Goals as goal
+use Rattle.flt_opt.proofs.validator.step_leads.Goals as goal
 
 pub returns : goal.returns
 returns c = λ e.

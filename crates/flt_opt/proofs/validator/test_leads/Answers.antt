@@ -1,5 +1,5 @@
 use Rattle.flt_opt.proofs.Standing.{test_good}
-use Rattle.flt_opt.proofs.replaces.test_leads.Goals as goal
+use Rattle.flt_opt.proofs.validator.test_leads.Goals as goal
 
 pub returns-then-branch_leads : goal.returns-then-branch_leads
 returns-then-branch_leads c = λ e.

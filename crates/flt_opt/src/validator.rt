@@ -1,19 +1,21 @@
 //! Whether a program may replace another one: note by note, by four rules.
 
-ghost use Rattle.std.specs.Prelude.{◌≡◌, ℕ, ◌+◌, ◌^◌, ◌<◌, [], Some, IsTrue, slice_get};
+ghost use Rattle.std.specs.Prelude.{◌≡◌, ◌≢◌, ◌↔◌, ℕ, ◌+◌, ◌^◌, ◌<◌, List, [], Some, All, IsTrue, slice_get};
 ghost use Rattle.std.specs.Prelude.{if◌then◌else◌};
-ghost use Rattle.flt_bpf.specs.declared.operation.Operation.TheVariants.{JumpIf};
-ghost use Rattle.flt_bpf.specs.Instructions.{operation_of};
+ghost use Rattle.flt_bpf.specs.declared.operation.Operation.TheVariants.{Jump, JumpIf};
+ghost use Rattle.flt_bpf.specs.Instructions.{code_of, operation_of};
 ghost use Rattle.flt_bpf.specs.declared.machine.State.{State};
 ghost use Rattle.flt_opt.specs.Alike.{LeadsTo, Branches, Tests, OperandsAgree, IsSound};
+ghost use Rattle.flt_opt.specs.Alike.{AreSound, Begins};
+ghost use Rattle.flt_opt.specs.Replaces.{Replaces};
+ghost use Rattle.flt_opt.specs.Terms.{Agree};
+ghost use Rattle.flt_bpf.specs.Machine.{start};
 ghost use Rattle.flt_opt.specs.Facts.{part};
 
 use crate::facts::{Knowledge, Learnt, facts_in, outcome};
 use crate::follows::{facts_follow, fits, same_accumulator, same_index};
-use crate::note::{Both, Fact, Note, Notes};
-use crate::terms::{
-    after_both, after_new, leads_on, reads_accumulator, reads_index, returns,
-};
+use crate::note::{Both, Fact, Note, Notes, Registers, Term};
+use crate::terms::{after_both, after_new, leads_on, reads_accumulator, reads_index, returns};
 use crate::walk::{goes_on, walk};
 use flt_bpf::Wide;
 use flt_bpf::operation::{Operand, Operation, Test, decode};
@@ -73,7 +75,10 @@ fn leads(programs: &Programs, facts: &[Fact], learnt: &[Learnt], way: &Way, to: 
 fn way_from(note: &Note, both: &Both, new: Wide, holds: bool, old: usize) -> Way
     requires { note.now.new < 2 ^ 62 }
     ensures { result ≡ record {
-        new = note.now.new + 1 + (if holds then new.jt else new.jf); old = old; both = both.now } }
+      new = note.now.new + 1 + (if holds then new.jt else new.jf);
+      old = old;
+      both = both.now;
+    } }
 {
     let skipped = if holds { new.yes } else { new.no };
     Way {
@@ -192,7 +197,9 @@ fn does_own(programs: &Programs, note: &Note, new: Wide) -> bool
     if let Operation::JumpIf(test, operand) = operation {
         let condition = Condition { test, operand };
         let registers = &note.registers;
-        return test_leads(programs, note, registers, new, condition, note.old, note.old);
+        return test_leads(
+            programs, note, registers, new, condition, note.old, note.old,
+        );
     }
     let knowledge = Knowledge {
         facts: facts_of(programs, note),
@@ -200,6 +207,90 @@ fn does_own(programs: &Programs, note: &Note, new: Wide) -> bool
         learnt: &[],
     };
     let both = after_new(operation, new.k, note.registers);
-    goes_on(operation, new.k, note.registers.new, &knowledge, &note.registers)
-        && step_leads(programs, note, both, note.old)
+    goes_on(
+        operation,
+        new.k,
+        note.registers.new,
+        &knowledge,
+        &note.registers,
+    ) && step_leads(programs, note, both, note.old)
+}
+
+/// A note stands: from it on both programs return the same, if they do from those further on.
+fn stands(programs: &Programs, note: &Note) -> bool
+    ensures { IsTrue result → IsSound programs.now note.now }
+{
+    let Some(new) = programs.new.get(note.new) else {
+        return false;
+    };
+    let Some(old) = programs.old.get(note.old) else {
+        return false;
+    };
+    if does_same(programs, note, *new, *old) {
+        return true;
+    }
+    does_own(programs, note, *new)
+}
+
+/// All notes stand.
+fn all_stand(programs: &Programs) -> bool
+    ensures { IsTrue result → AreSound programs.now }
+{
+    for note in programs.notes.notes {
+        if !stands(programs, note) {
+            return false;
+        }
+    }
+    true
+}
+
+/// What is known of two runs at their beginning.
+fn known_at_start() -> Both
+    ensures { (p : List ℕ) (n : ℕ) → Agree p n result start start }
+{
+    let zero = Registers {
+        accumulator: Term::Number(0),
+        index: Term::Number(0),
+    };
+    Both {
+        new: zero,
+        old: zero,
+        same_accumulator: true,
+        same_index: true,
+    }
+}
+
+/// The first note is for the beginning of both programs.
+fn begins(programs: &Programs) -> bool
+    ensures { IsTrue result → Begins programs.now }
+{
+    let Some(first) = programs.notes.notes.get(0) else {
+        return false;
+    };
+    if first.new != 0 || first.old != 0 || first.facts.start != first.facts.end {
+        return false;
+    }
+    fits(&known_at_start(), &first.registers)
+}
+
+/// There is no jump but those of tests.
+fn has_no_jump(code: &[Wide]) -> bool
+    ensures { IsTrue result ↔ All (λ i. i.code ≢ code_of Jump) code.now }
+{
+    code.iter().all(|insn| insn.code != 5)
+}
+
+/// Whether a program may replace an old one, as the notes show: it returns what the old one
+/// returns. The notes are only a help: wrong ones make the answer no.
+pub fn replaces(new: &[Wide], old: &[Wide], notes: Notes) -> bool
+    ensures { IsTrue result → Replaces new.now old.now }
+{
+    let programs = Programs { new, old, notes };
+    if !begins(&programs) {
+        return false;
+    }
+    if !all_stand(&programs) {
+        return false;
+    }
+    has_no_jump(new)
 }

@@ -1,6 +1,6 @@
-use Rattle.std.proofs.Common.{[], ◌∷◌, refl, ap}
+use Rattle.std.proofs.Common.{[], ◌∷◌, ap}
 use Rattle.flt_opt.proofs.Standing.{shown_constant, branch_good}
-use Rattle.flt_opt.proofs.replaces.branch_leads.Goals as goal
+use Rattle.flt_opt.proofs.validator.branch_leads.Goals as goal
 
 pub returns-in-Constant : goal.returns-in-Constant
 returns-in-Constant c = λ e.
