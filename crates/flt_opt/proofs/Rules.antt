@@ -1,6 +1,6 @@
 -- Each rule makes a note as good as those further on.
-use Rattle.std.proofs.Common.{◌≡◌, ℕ, zero, suc, ◌+◌, ◌%◌, ◌^◌, List, [], ◌∷◌, Bool, true, false, Option, Some, refl, sym, ap, ◌∙◌, arith}
-use Rattle.std.specs.Prelude.{slice_get, if◌then◌else◌}
+use Rattle.std.proofs.Common.{◌≡◌, ℕ, zero, suc, ◌+◌, ◌%◌, ◌^◌, List, [], ◌∷◌, Bool, true, false, Option, Some, None, refl, sym, ap, ◌∙◌, subst, arith}
+use Rattle.std.specs.Prelude.{◌==◌, not, bit_and, slice_get, if◌then◌else◌}
 use Rattle.std.specs.Option.{option_map}
 use Rattle.flt_bpf.specs.declared.insn.Insn.{Insn}
 use Rattle.flt_bpf.specs.declared.machine.State.{State}
@@ -10,7 +10,9 @@ use Rattle.flt_bpf.specs.declared.operation.Register.TheVariants.{Accumulator, I
 use Rattle.flt_bpf.specs.declared.operation.Source.TheVariants.{Immediate, Memory, Length as OriginalLength}
 use Rattle.flt_bpf.specs.declared.operation.Operand.{Operand}
 use Rattle.flt_bpf.specs.declared.operation.Operand.TheVariants.{Constant, IndexRegister}
+use Rattle.flt_bpf.specs.declared.operation.AluOperation.TheVariants.{And}
 use Rattle.flt_bpf.specs.declared.operation.Test.{Test}
+use Rattle.flt_bpf.specs.declared.operation.Test.TheVariants.{Equal, AnyBit}
 use Rattle.flt_bpf.specs.declared.operation.Width.TheVariants.{Byte}
 use Rattle.flt_bpf.specs.Answer.{answer_of, answer_after}
 use Rattle.flt_bpf.specs.Instructions.{operation_of}
@@ -18,13 +20,15 @@ use Rattle.flt_bpf.specs.Machine.{Next, Goes, Ends, Lost, step, does, into, word
 use Rattle.flt_opt.specs.declared.note.Both.{Both}
 use Rattle.flt_opt.specs.declared.note.Fact.{Fact}
 use Rattle.flt_opt.specs.declared.note.Note.{Note}
+use Rattle.flt_opt.specs.declared.note.Registers.{Registers}
+use Rattle.flt_opt.specs.declared.note.Term.{Term}
 use Rattle.flt_opt.specs.declared.validator.Condition.{Condition}
 use Rattle.flt_opt.specs.declared.validator.Programs.{Programs}
 use Rattle.flt_opt.specs.declared.validator.Way.{Way}
-use Rattle.flt_opt.specs.Terms.{Reads, leads_on, returns, after_both, after_new}
+use Rattle.flt_opt.specs.Terms.{value, is_known, Hold, Agree, Reads, leads_on, returns, after_both, after_old, after_new, after_loads, asked, is_load}
 use Rattle.flt_opt.specs.Facts.{part}
-use Rattle.flt_opt.specs.Alike.{IsSure, LeadsTo, Tests, IsSound, OperandsAgree}
-use Rattle.flt_opt.proofs.Steps.{op_both, op_sure, agree_new, knows_step}
+use Rattle.flt_opt.specs.Alike.{IsSure, LeadsTo, Tests, IsSound, IsBits, OperandsAgree}
+use Rattle.flt_opt.proofs.Steps.{op_both, op_sure, agree_old, agree_new, knows_step, load_is}
 
 -- an instruction at a place, and what comes behind it
 pub at_step : (c : List Insn) (p : List ℕ) (n k : ℕ) (i : Insn) (s : State) → slice_get c k ≡ Some i → answer_of c p n k s ≡ answer_after (λ far u. answer_of c p n (k + 1 + far) u) (step i p n s)
@@ -149,3 +153,60 @@ module _ (programs : Programs) (m : Note) (i : Insn) (new_there : slice_get prog
         by ReturnConstant s t answer rn ro reads w di do_ e = ap (answer_after rn) di ∙ ap Some k ∙ sym (ap (answer_after ro) do_) ∙ e
         by ReturnAccumulator s t answer rn ro reads w di do_ e = ap (answer_after rn) di ∙ ap Some (reads.accumulator refl) ∙ sym (ap (answer_after ro) do_) ∙ e
         by _ s t answer rn ro reads w di do_ e = cc
+
+    -- two loads of one field
+    module _ (op other : Operation) (t : Term) (new_is : operation_of i.code ≡ Some op) (old_is : operation_of o.code ≡ Some other) (new_loads : is_load op ≡ true) (old_loads : is_load other ≡ true) (known : is_known t ≡ true) (new_term : t ≡ asked op i.k m.registers.new) (old_term : t ≡ asked other o.k m.registers.old) where
+      loads : (p : List ℕ) (n : ℕ) (j : Insn) (q : Operation) (r : Registers) (s : State) → operation_of j.code ≡ Some q → is_load q ≡ true → t ≡ asked q j.k r → Hold p n r s → step j p n s ≡ into Accumulator (value p n t) s
+      loads p n j q r s is load same hold =
+          knows_step p n j q s is
+          ∙ load_is p n q j r s load hold (subst (λ z. is_known z ≡ true) same known)
+          ∙ ap (λ z. into Accumulator (value p n z) s) (sym same)
+
+      into_both : (p : List ℕ) (n : ℕ) (v : Option ℕ) (s u : State) (answer : ℕ) (rn ro : ℕ → State → Option ℕ) → ((x : ℕ) → v ≡ Some x → ro 0 (record u { accumulator = x }) ≡ Some answer → rn 0 (record s { accumulator = x }) ≡ Some answer) → answer_after ro (into Accumulator v u) ≡ Some answer → answer_after rn (into Accumulator v s) ≡ Some answer
+      into_both p n None s u answer rn ro rest e = e
+      into_both p n (Some x) s u answer rn ro rest e = rest x refl e
+
+      agree_loaded : (p : List ℕ) (n x : ℕ) (s u : State) → Agree p n m.registers s u → value p n t ≡ Some x → Agree p n (after_loads t m.registers) (record s { accumulator = x }) (record u { accumulator = x })
+      agree_loaded p n x s u agree is = record {
+        new_registers = record { accumulator = record { is = λ e. is }; index = agree.new_registers.index };
+        old_registers = record { accumulator = record { is = λ e. is }; index = agree.old_registers.index };
+        accumulator = λ e. refl;
+        index = agree.index;
+        memory = agree.memory;
+      }
+
+      pub loads_lead : LeadsTo programs (way_on (m.old + 1) (after_loads t m.registers)) facts_here [] → IsSound programs m
+      loads_lead leads p n good = record {
+        returns = λ s u answer agree k e.
+        (let rn = λ (far : ℕ) (w : State). answer_of programs.new.now p n (m.new + 1 + far) w in
+        let ro = λ (far : ℕ) (w : State). answer_of programs.old.now p n (m.old + 1 + far) w in
+        at_step programs.new.now p n m.new i s new_there
+        ∙ ap (answer_after rn) (loads p n i op m.registers.new s new_is new_loads new_term agree.new_registers)
+        ∙ into_both p n (value p n t) s u answer rn ro
+        (λ x is r. no_further programs.new.now p n m.new (record s { accumulator = x })
+        ∙ (leads p n m.new (omega arith) good).returns (record s { accumulator = x }) (record u { accumulator = x }) answer (agree_loaded p n x s u agree is) k
+        (sym (no_further programs.old.now p n m.old (record u { accumulator = x })) ∙ r))
+        (ap (answer_after ro) (sym (loads p n o other m.registers.old u old_is old_loads old_term agree.old_registers))
+        ∙ sym (at_step programs.old.now p n m.old o u old_there) ∙ e));
+      }
+
+    -- a test of bits, for a mask and a test of what is left
+    pub bits_lead : (w : Insn) → slice_get programs.old.now (m.old + 1) ≡ Some w → IsBits i o w → ((p : List ℕ) (n : ℕ) (s t : State) → Agree p n m.registers s t → s.accumulator ≡ t.accumulator) → Tests programs m (after_old (Compute And Constant) o.k m.registers) i (record { test = AnyBit; operand = Constant }) (m.old + 2 + w.jf) (m.old + 2 + w.jt) → IsSound programs m
+    bits_lead w test_there bits same tests p n good = record {
+      returns = λ s t answer agree known e.
+      (let left = record t { accumulator = bit_and t.accumulator o.k } in
+      let old_does : does (Compute And Constant) o p n t ≡ Goes 0 left = refl in
+      let ro = λ (at far : ℕ) (u : State). answer_of programs.old.now p n (at + 1 + far) u in
+      let one = ap (answer_after (ro m.old)) (sym (knows_step p n o (Compute And Constant) t bits.mask_is)) ∙ sym (at_step programs.old.now p n m.old o t old_there) ∙ e in
+      let two = sym (no_further programs.old.now p n m.old left) ∙ one in
+      let truth = bit_and s.accumulator i.k == 0 in
+      let left_is : test_holds Equal left.accumulator w.k ≡ truth = ap (λ z. test_holds Equal left.accumulator z) bits.zero ∙ ap (λ z. bit_and t.accumulator z == 0) bits.same ∙ ap (λ z. bit_and z i.k == 0) (sym (same p n s t agree)) in
+      let goes : step w p n left ≡ Goes (if truth then w.jt else w.jf) left = knows_step p n w (JumpIf Equal Constant) left bits.test_is ∙ ap (λ z. Goes (if z then w.jt else w.jf) left) left_is in
+      let three = ap (answer_after (ro (m.old + 1))) (sym goes) ∙ sym (at_step programs.old.now p n (m.old + 1) w left test_there) ∙ two in
+      tests p n s left answer good (agree_old p n (Compute And Constant) o m.registers s t left agree old_does refl) known.noted
+      (turned truth left ∙ three));
+    }
+      where
+        turned : (z : Bool) (u : State) → answer_of programs.old.now p n (if not z then m.old + 2 + w.jf else m.old + 2 + w.jt) u ≡ answer_of programs.old.now p n (m.old + 1 + 1 + (if z then w.jt else w.jf)) u
+        turned true u = let same : m.old + 2 + w.jt ≡ m.old + 1 + 1 + w.jt = omega arith in ap (λ z. answer_of programs.old.now p n z u) same
+        turned false u = let same : m.old + 2 + w.jf ≡ m.old + 1 + 1 + w.jf = omega arith in ap (λ z. answer_of programs.old.now p n z u) same

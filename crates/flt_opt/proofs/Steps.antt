@@ -23,7 +23,7 @@ use Rattle.flt_opt.specs.declared.note.Term.{Term}
 use Rattle.flt_opt.specs.declared.note.Term.TheVariants.{Anything, Number, Length, Field, HeaderLength}
 use Rattle.flt_opt.specs.declared.note.Registers.{Registers}
 use Rattle.flt_opt.specs.declared.note.Both.{Both}
-use Rattle.flt_opt.specs.Terms.{header_at, past, bare, under, There, Holds, Hold, Agree, indirect, mask_of, masked, sum, computed, accumulator_after, index_after, after, reads_index, sets_accumulator, sets_index, after_both, after_old, after_new, asked, is_sure, Reads, leads_on}
+use Rattle.flt_opt.specs.Terms.{value, is_known, is_load, header_at, past, bare, under, There, Holds, Hold, Agree, indirect, mask_of, masked, sum, computed, accumulator_after, index_after, after, reads_index, sets_accumulator, sets_index, after_both, after_old, after_new, asked, is_sure, Reads, leads_on}
 
 pub both_true : (a b : Bool) → (a && b) ≡ true → (a ≡ true) × (b ≡ true)
 both_true true b e = (refl, e)
@@ -344,3 +344,30 @@ module _ (p : List ℕ) (n : ℕ) where
   pub knows_step : (i : Insn) (op : Operation) (s : State) → operation_of i.code ≡ Some op → step i p n s ≡ does op i p n s
   unfolding step
   knows_step i op s e = ap (λ o. does_if_known o i p n s) e
+
+  -- a load puts the value of its term into A
+  under_none : (o : Option ℕ) → o ≡ option_map (under None) o
+  under_none None = refl
+  under_none (Some v) = refl
+
+  past_is : (w : Width) (more k v : ℕ) (o : Option ℕ) → option_map (λ l. (l + more) % 2 ^ 32) o ≡ Some v → field p ((v + k) % 2 ^ 32) w ≡ option_map (under None) (past p w ((more + k) % 2 ^ 32) o)
+  past_is w more k v None e = cc
+  past_is w more k v (Some l) e =
+      let is : (l + more) % 2 ^ 32 ≡ v = cc in
+      let same : (v + k) % 2 ^ 32 ≡ (l + (more + k) % 2 ^ 32) % 2 ^ 32 = omega arith in
+      ap (λ m. field p m w) same ∙ under_none (field p ((l + (more + k) % 2 ^ 32) % 2 ^ 32) w)
+
+  indirect_is : (w : Width) (k v : ℕ) (t : Term) → Holds p n t v → is_known (indirect w k t) ≡ true → field p ((v + k) % 2 ^ 32) w ≡ value p n (indirect w k t)
+  indirect_is w k v Anything h known = cc
+  indirect_is w k v Length h known = cc
+  indirect_is w k v (Field l) h known = cc
+  indirect_is w k v (Number y) h known =
+      let is : Some y ≡ Some v = h.is refl in
+      let same : v ≡ y = cc in
+      ap (λ m. field p ((m + k) % 2 ^ 32) w) same ∙ under_none (field p ((y + k) % 2 ^ 32) w)
+  indirect_is w k v (HeaderLength at more) h known = past_is w more k v (header_at p at) (h.is refl)
+
+  pub load_is : (op : Operation) (i : Insn) (r : Registers) (s : State) → is_load op ≡ true → Hold p n r s → is_known (asked op i.k r) ≡ true → does op i p n s ≡ into Accumulator (value p n (asked op i.k r)) s
+  load_is (LoadAbsolute w) i r s e h known = ap (λ o. into Accumulator o s) (under_none (field p i.k w))
+  load_is (LoadIndirect w) i r s e h known = ap (λ o. into Accumulator o s) (indirect_is w i.k s.index r.index h.index known)
+  load_is _ i r s e h known = cc

@@ -3,7 +3,12 @@ use Rattle.std.specs.Prelude.{◌≡◌, ℕ, ◌+◌, ◌<◌, Bool, true, if�
 use Rattle.flt_bpf.specs.declared.insn.Insn.{Insn}
 use Rattle.flt_bpf.specs.declared.machine.State.{State}
 use Rattle.flt_bpf.specs.declared.operation.Operation.{Operation}
+use Rattle.flt_bpf.specs.declared.operation.Operation.TheVariants.{Compute, JumpIf}
+use Rattle.flt_bpf.specs.declared.operation.AluOperation.TheVariants.{And}
+use Rattle.flt_bpf.specs.declared.operation.Operand.TheVariants.{Constant}
+use Rattle.flt_bpf.specs.declared.operation.Test.TheVariants.{Equal, AnyBit}
 use Rattle.flt_bpf.specs.Answer.{answer_of}
+use Rattle.flt_bpf.specs.Instructions.{operation_of}
 use Rattle.flt_bpf.specs.Machine.{Goes, step, test_holds, operand_value, start}
 use Rattle.flt_opt.specs.declared.facts.Learnt.{Learnt}
 use Rattle.flt_opt.specs.declared.note.Both.{Both}
@@ -130,3 +135,11 @@ pub record Begins (programs : Programs) : Type 0 where
   pub old : first.old ≡ 0
   pub agree : (p : List ℕ) (n : ℕ) → Agree p n first.registers start start
   pub no_facts : part programs.notes.facts.now first.facts ≡ []
+
+-- a test of bits means a mask, and a test of whether what is left is 0
+pub record IsBits (new mask test : Insn) : Type 0 where
+  pub new_is : operation_of new.code ≡ Some (JumpIf AnyBit Constant)
+  pub mask_is : operation_of mask.code ≡ Some (Compute And Constant)
+  pub test_is : operation_of test.code ≡ Some (JumpIf Equal Constant)
+  pub zero : test.k ≡ 0
+  pub same : mask.k ≡ new.k

@@ -242,3 +242,18 @@ abbrev pub returns : Operation → Bool
 returns ReturnConstant = true
 returns ReturnAccumulator = true
 returns _ = false
+
+-- a load from the packet into A
+abbrev pub is_load : Operation → Bool
+is_load (LoadAbsolute width) = true
+is_load (LoadIndirect width) = true
+is_load _ = false
+
+-- what is known after both runs loaded one field
+abbrev pub after_loads : Term → Both → Both
+after_loads t b = record {
+  new = record { accumulator = t; index = b.new.index };
+  old = record { accumulator = t; index = b.old.index };
+  same_accumulator = true;
+  same_index = b.same_index
+}

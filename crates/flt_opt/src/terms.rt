@@ -5,6 +5,7 @@ ghost use Rattle.flt_opt.specs.Terms.{indirect, mask_of, masked, sum, computed, 
 ghost use Rattle.flt_opt.specs.Terms.{index_after, after, after_both, after_old, after_new, asked};
 ghost use Rattle.flt_opt.specs.Terms.{reads_accumulator, reads_index, sets_accumulator, sets_index};
 ghost use Rattle.flt_opt.specs.Terms.{is_known, is_sure, leads_on, returns, test_of};
+ghost use Rattle.flt_opt.specs.Terms.{after_loads, is_load};
 
 use crate::note::{Both, Load, Registers, Term};
 use flt_bpf::operation::{AluOperation, Operand, Operation, Register, Source, Test, Width};
@@ -287,4 +288,32 @@ pub(crate) fn returns(operation: Operation) -> bool
         operation,
         Operation::ReturnConstant | Operation::ReturnAccumulator
     )
+}
+
+/// It loads bytes of the packet into A.
+pub(crate) fn is_load(operation: Operation) -> bool
+    ensures { result ≡ is_load operation }
+{
+    matches!(
+        operation,
+        Operation::LoadAbsolute(_) | Operation::LoadIndirect(_)
+    )
+}
+
+/// What is known after both runs loaded the same field.
+pub(crate) fn after_loads(field: Term, both: Both) -> Both
+    ensures { result ≡ after_loads field both }
+{
+    Both {
+        new: Registers {
+            accumulator: field,
+            index: both.new.index,
+        },
+        old: Registers {
+            accumulator: field,
+            index: both.old.index,
+        },
+        same_accumulator: true,
+        same_index: both.same_index,
+    }
 }

@@ -6,7 +6,7 @@ ghost use Rattle.flt_bpf.specs.declared.operation.Operation.TheVariants.{Jump, J
 ghost use Rattle.flt_bpf.specs.Instructions.{code_of, operation_of};
 ghost use Rattle.flt_bpf.specs.declared.machine.State.{State};
 ghost use Rattle.flt_opt.specs.Alike.{LeadsTo, Branches, Tests, OperandsAgree, IsSound};
-ghost use Rattle.flt_opt.specs.Alike.{AreSound, Begins};
+ghost use Rattle.flt_opt.specs.Alike.{AreSound, Begins, IsBits};
 ghost use Rattle.flt_opt.specs.Replaces.{Replaces};
 ghost use Rattle.flt_opt.specs.Terms.{Agree};
 ghost use Rattle.flt_bpf.specs.Machine.{start};
@@ -15,10 +15,13 @@ ghost use Rattle.flt_opt.specs.Facts.{part};
 use crate::facts::{Knowledge, Learnt, facts_in, outcome};
 use crate::follows::{facts_follow, fits, same_accumulator, same_index};
 use crate::note::{Both, Fact, Note, Notes, Registers, Term};
-use crate::terms::{after_both, after_new, leads_on, reads_accumulator, reads_index, returns};
+use crate::terms::{
+    after_both, after_loads, after_new, after_old, asked, is_known, is_load, leads_on,
+    reads_accumulator, reads_index, returns, same_term,
+};
 use crate::walk::{goes_on, walk};
 use flt_bpf::Wide;
-use flt_bpf::operation::{Operand, Operation, Test, decode};
+use flt_bpf::operation::{AluOperation, Operand, Operation, Test, decode};
 
 /// Two programs and the notes on them.
 #[derive(Clone, Copy)]
@@ -216,6 +219,70 @@ fn does_own(programs: &Programs, note: &Note, new: Wide) -> bool
     ) && step_leads(programs, note, both, note.old)
 }
 
+/// Both runs load the same field, by what is in X.
+fn loads_same(programs: &Programs, note: &Note, new: Wide, old: Wide) -> bool
+    requires new_bound { note.now.new < 2 ^ 62 }
+    requires old_bound { note.now.old < 2 ^ 62 }
+    requires new_there { slice_get programs.now.new.now note.now.new ≡ Some new }
+    requires old_there { slice_get programs.now.old.now note.now.old ≡ Some old }
+    ensures { IsTrue result → IsSound programs.now note.now }
+{
+    let Some(operation) = decode(new.code) else {
+        return false;
+    };
+    let Some(other) = decode(old.code) else {
+        return false;
+    };
+    if !is_load(operation) || !is_load(other) {
+        return false;
+    }
+    let field = asked(operation, new.k, note.registers.new);
+    if !is_known(field) || !same_term(field, asked(other, old.k, note.registers.old)) {
+        return false;
+    }
+    let both = after_loads(field, note.registers);
+    step_leads(programs, note, both, note.old + 1)
+}
+
+/// The codes and numbers are those of a test of bits, and of a mask and a test of what is left for 0.
+fn is_bits(new: Wide, mask: Wide, test: Wide) -> bool
+    ensures { IsTrue result → IsBits new mask test }
+{
+    (new.code == Operation::JumpIf(Test::AnyBit, Operand::Constant).code()
+        && mask.code == Operation::Compute(AluOperation::And, Operand::Constant).code())
+        && (test.code == Operation::JumpIf(Test::Equal, Operand::Constant).code()
+            && (test.k == 0 && mask.k == new.k))
+}
+
+/// The new run tests bits, where the old one has a mask and tests what is left for 0.
+fn tests_bits(programs: &Programs, note: &Note, new: Wide, old: Wide) -> bool
+    requires new_bound { note.now.new < 2 ^ 62 }
+    requires old_bound { note.now.old < 2 ^ 62 }
+    requires new_there { slice_get programs.now.new.now note.now.new ≡ Some new }
+    requires old_there { slice_get programs.now.old.now note.now.old ≡ Some old }
+    ensures { IsTrue result → IsSound programs.now note.now }
+{
+    let Some(test) = programs.old.get(note.old + 1) else {
+        return false;
+    };
+    let test = *test;
+    if !is_bits(new, old, test) {
+        return false;
+    }
+    if !same_accumulator(&note.registers) {
+        return false;
+    }
+    let mask = Operation::Compute(AluOperation::And, Operand::Constant);
+    let both = after_old(mask, old.k, note.registers);
+    let condition = Condition {
+        test: Test::AnyBit,
+        operand: Operand::Constant,
+    };
+    let yes = note.old + 2 + test.no as usize;
+    let no = note.old + 2 + test.yes as usize;
+    test_leads(programs, note, &both, new, condition, yes, no)
+}
+
 /// A note stands: from it on both programs return the same, if they do from those further on.
 fn stands(programs: &Programs, note: &Note) -> bool
     ensures { IsTrue result → IsSound programs.now note.now }
@@ -227,6 +294,12 @@ fn stands(programs: &Programs, note: &Note) -> bool
         return false;
     };
     if does_same(programs, note, *new, *old) {
+        return true;
+    }
+    if loads_same(programs, note, *new, *old) {
+        return true;
+    }
+    if tests_bits(programs, note, *new, *old) {
         return true;
     }
     does_own(programs, note, *new)
