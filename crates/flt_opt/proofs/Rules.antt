@@ -90,7 +90,7 @@ module _ (programs : Programs) (m : Note) (i : Insn) (new_there : slice_get prog
         let rn = λ (far : ℕ) (u : State). answer_of programs.new.now p n (m.new + 1 + far) u in
         at_step programs.new.now p n m.new i s new_there ∙ ap (answer_after rn) (knows_step p n i op s is ∙ go.goes)
         ∙ no_further programs.new.now p n m.new go.state
-        ∙ (leads p n m.new (omega arith) good).returns go.state t answer (agree_new p n op i m.registers s t go.state agree go.goes go.memory) known e);
+        ∙ (leads p n (m.new + 1) (omega arith) good).returns go.state t answer (agree_new p n op i m.registers s t go.state agree go.goes go.memory) known e);
   }
 
   pub own_tests : (condition : Condition) → Tests programs m m.registers i condition m.old m.old → IsSound programs m
@@ -116,7 +116,7 @@ module _ (programs : Programs) (m : Note) (i : Insn) (new_there : slice_get prog
             let old_does = ap (answer_after ro) (sym (same_does p n op i o t on k)) ∙ ap (answer_after ro) (sym (knows_step p n o op t old_is)) ∙ sym (at_step programs.old.now p n m.old o t old_there) ∙ e in
             at_step programs.new.now p n m.new i s new_there ∙ ap (answer_after rn) (knows_step p n i op s is)
             ∙ op_both p n op i m.registers s t agree on (agrees p n s t agree) rn ro answer
-            (λ u w a r. no_further programs.new.now p n m.new u ∙ (leads p n m.new (omega arith) good).returns u w answer a known (sym (no_further programs.old.now p n m.old w) ∙ r))
+            (λ u w a r. no_further programs.new.now p n m.new u ∙ (leads p n (m.new + 1) (omega arith) good).returns u w answer a known (sym (no_further programs.old.now p n m.old w) ∙ r))
             old_does);
       }
 
@@ -184,7 +184,7 @@ module _ (programs : Programs) (m : Note) (i : Insn) (new_there : slice_get prog
         ∙ ap (answer_after rn) (loads p n i op m.registers.new s new_is new_loads new_term agree.new_registers)
         ∙ into_both p n (value p n t) s u answer rn ro
         (λ x is r. no_further programs.new.now p n m.new (record s { accumulator = x })
-        ∙ (leads p n m.new (omega arith) good).returns (record s { accumulator = x }) (record u { accumulator = x }) answer (agree_loaded p n x s u agree is) k
+        ∙ (leads p n (m.new + 1) (omega arith) good).returns (record s { accumulator = x }) (record u { accumulator = x }) answer (agree_loaded p n x s u agree is) k
         (sym (no_further programs.old.now p n m.old (record u { accumulator = x })) ∙ r))
         (ap (answer_after ro) (sym (loads p n o other m.registers.old u old_is old_loads old_term agree.old_registers))
         ∙ sym (at_step programs.old.now p n m.old o u old_there) ∙ e));

@@ -30,7 +30,7 @@ pub leads_good : (programs : Programs) (way : Way) (facts : List Fact) (learnt :
 leads_good programs way facts learnt k m known there same walks fits follow p n at low good = record {
   returns = λ s t answer agree k' e.
       (let c = walks p n s t answer agree k' e in
-      let g = good k m there (subst (λ z. at < z) (sym same) low) in
+      let g = good k m there (subst (λ z. at ≤ z) (sym same) low) in
       ap (λ z. answer_of programs.new.now p n z s) (sym same)
       ∙ g.returns s c.state answer (fits p n s c.state c.agree) (record { noted = follow p n s t agree k'; shown = tt }) c.returns);
 }
@@ -48,7 +48,7 @@ pub branch_good : (programs : Programs) (m : Note) (b : Both) (i : Insn) (condit
 branch_good programs m b i condition holds at_old learnt way facts shows w f leads p n s t answer good agree hold h e =
     let here = subst (λ z. LeadsTo programs z facts learnt) w leads in
     let there = subst (λ z. LeadsTo programs (way_to m b i holds at_old) z learnt) f here in
-    let a = there p n m.new (omega arith) good in
+    let a = there p n (m.new + 1) (omega arith) good in
     a.returns s t answer agree (record { noted = hold; shown = shows p n s agree.new_registers.accumulator h }) e
 
 pub test_good : (programs : Programs) (m : Note) (b : Both) (i : Insn) (condition : Condition) (at_yes at_no : ℕ) → slice_get programs.new.now m.new ≡ Some i → operation_of i.code ≡ Some (JumpIf condition.test condition.operand) → Branches programs m b i condition true at_yes → Branches programs m b i condition false at_no → Tests programs m b i condition at_yes at_no
@@ -93,23 +93,6 @@ good_from programs sound p n (suc left) j m e l =
 
 pub replaced : (programs : Programs) → Begins programs → AreSound programs → All (λ i. i.code ≢ code_of Jump) programs.new.now → Replaces programs.new.now programs.old.now
 replaced programs begins sound free = record {
-  runs = λ p n answer e.
-      (let first = begins.first in
-      let good = good_from programs sound p n (most programs.notes.notes.now) 0 first begins.there (omega arith) in
-      let hold = subst (λ z. AllHold p n programs.notes.pieces.now z) (sym begins.no_facts) tt in
-      ap (λ z. answer_of programs.new.now p n z start) (sym begins.new)
-      ∙ good.returns start start answer (begins.agree p n) (record { noted = hold; shown = tt })
-      (ap (λ z. answer_of programs.old.now p n z start) begins.old ∙ e));
+  runs = λ p n answer e. begins p n answer (λ j m w low. good_from programs sound p n (most programs.notes.notes.now) j m w (omega arith)) e;
   no_jump = free;
 }
-
--- no part of a list
-pub empty_part : {A : Type 0} (xs : List A) (s : Span) → s.start ≡ s.end → part xs s ≡ []
-empty_part xs s e = by (nat_le s.start s.end && nat_le s.end (length xs))
-  where
-    none : s.end - s.start ≡ 0
-    none = omega arith
-
-    by : (b : Bool) → (if b then slice_range xs s.start s.end else []) ≡ []
-    by true = ap (λ k. take k (drop s.start xs)) none
-    by false = refl

@@ -1,5 +1,5 @@
 -- What the rules of `replaces` show.
-use Rattle.std.specs.Prelude.{◌≡◌, ℕ, ◌+◌, ◌<◌, Bool, true, if◌then◌else◌, List, [], Some, slice_get}
+use Rattle.std.specs.Prelude.{◌≡◌, ℕ, ◌+◌, ◌≤◌, Bool, true, if◌then◌else◌, List, [], Some, slice_get}
 use Rattle.flt_bpf.specs.declared.insn.Insn.{Insn}
 use Rattle.flt_bpf.specs.declared.machine.State.{State}
 use Rattle.flt_bpf.specs.declared.operation.Operation.{Operation}
@@ -32,16 +32,16 @@ abbrev pub IsGood : List Insn → List Insn → List Fact → List Piece → Lis
 IsGood new old facts pieces p n m =
     Alike new old p n m.new m.old m.registers (part facts m.facts) pieces []
 
--- from each note on that is for a place further on in the new program
-abbrev pub AreGoodPast : List Insn → List Insn → List Note → List Fact → List Piece → List ℕ → ℕ → ℕ → Type 0
-AreGoodPast new old notes facts pieces p n at =
-    (j : ℕ) (m : Note) → slice_get notes j ≡ Some m → at < m.new
+-- from each note on that is for a place of the new program from one on
+abbrev pub AreGoodFrom : List Insn → List Insn → List Note → List Fact → List Piece → List ℕ → ℕ → ℕ → Type 0
+AreGoodFrom new old notes facts pieces p n at =
+    (j : ℕ) (m : Note) → slice_get notes j ≡ Some m → at ≤ m.new
     → IsGood new old facts pieces p n m
 
 -- a note is as good as those further on are
 abbrev pub Stands : List Insn → List Insn → List Note → List Fact → List Piece → Note → Type 0
 Stands new old notes facts pieces m =
-    (p : List ℕ) (n : ℕ) → AreGoodPast new old notes facts pieces p n m.new
+    (p : List ℕ) (n : ℕ) → AreGoodFrom new old notes facts pieces p n (m.new + 1)
     → IsGood new old facts pieces p n m
 
 -- the old run comes to a place, where it is as is known, and returns what it returned
@@ -82,20 +82,20 @@ Walks old from to b after facts pieces learnt =
 -- the same for two programs with their notes
 abbrev pub AreGood : Programs → List ℕ → ℕ → ℕ → Type 0
 AreGood programs p n at =
-    AreGoodPast programs.new.now programs.old.now programs.notes.notes.now
+    AreGoodFrom programs.new.now programs.old.now programs.notes.notes.now
     programs.notes.facts.now programs.notes.pieces.now p n at
 
 -- from a way on both return the same, if they do from the notes further on
 abbrev pub LeadsTo : Programs → Way → List Fact → List Learnt → Type 0
 LeadsTo programs way facts learnt =
-    (p : List ℕ) (n at : ℕ) → at < way.new → AreGood programs p n at
+    (p : List ℕ) (n at : ℕ) → at ≤ way.new → AreGood programs p n at
     → Alike programs.new.now programs.old.now p n way.new way.old way.both facts
     programs.notes.pieces.now learnt
 
 -- they do after a test of the new program that holds, or doesn't
 abbrev pub Branches : Programs → Note → Both → Insn → Condition → Bool → ℕ → Type 0
 Branches programs m b i condition holds at_old =
-    (p : List ℕ) (n : ℕ) (s t : State) (answer : ℕ) → AreGood programs p n m.new
+    (p : List ℕ) (n : ℕ) (s t : State) (answer : ℕ) → AreGood programs p n (m.new + 1)
     → Agree p n b s t
     → AllHold p n programs.notes.pieces.now (part programs.notes.facts.now m.facts)
     → test_holds condition.test s.accumulator (operand_value condition.operand i.k s.index) ≡ holds
@@ -105,7 +105,7 @@ Branches programs m b i condition holds at_old =
 -- from a test of the new program on both return the same, where the old run is at one of two places
 abbrev pub Tests : Programs → Note → Both → Insn → Condition → ℕ → ℕ → Type 0
 Tests programs m b i condition at_yes at_no =
-    (p : List ℕ) (n : ℕ) (s t : State) (answer : ℕ) → AreGood programs p n m.new
+    (p : List ℕ) (n : ℕ) (s t : State) (answer : ℕ) → AreGood programs p n (m.new + 1)
     → Agree p n b s t
     → AllHold p n programs.notes.pieces.now (part programs.notes.facts.now m.facts)
     → answer_of programs.old.now p n
@@ -127,14 +127,12 @@ abbrev pub AreSound : Programs → Type 0
 AreSound programs =
     (j : ℕ) (m : Note) → slice_get programs.notes.notes.now j ≡ Some m → IsSound programs m
 
--- the first note is for the beginning of both programs, of which nothing is known
-pub record Begins (programs : Programs) : Type 0 where
-  pub first : Note
-  pub there : slice_get programs.notes.notes.now 0 ≡ Some first
-  pub new : first.new ≡ 0
-  pub old : first.old ≡ 0
-  pub agree : (p : List ℕ) (n : ℕ) → Agree p n first.registers start start
-  pub no_facts : part programs.notes.facts.now first.facts ≡ []
+-- both programs return the same on each packet, if they do from each note on
+abbrev pub Begins : Programs → Type 0
+Begins programs =
+    (p : List ℕ) (n answer : ℕ) → AreGood programs p n 0
+    → answer_of programs.old.now p n 0 start ≡ Some answer
+    → answer_of programs.new.now p n 0 start ≡ Some answer
 
 -- a test of bits means a mask, and a test of whether what is left is 0
 pub record IsBits (new mask test : Insn) : Type 0 where

@@ -333,17 +333,16 @@ fn known_at_start() -> Both
     }
 }
 
-/// The first note is for the beginning of both programs.
+/// The beginning of both programs leads to the first note.
 fn begins(programs: &Programs) -> bool
     ensures { IsTrue result → Begins programs.now }
 {
-    let Some(first) = programs.notes.notes.get(0) else {
-        return false;
+    let way = Way {
+        new: 0,
+        old: 0,
+        both: known_at_start(),
     };
-    if first.new != 0 || first.old != 0 || first.facts.start != first.facts.end {
-        return false;
-    }
-    fits(&known_at_start(), &first.registers)
+    leads(programs, &[], &[], &way, 0)
 }
 
 /// There is no jump but those of tests.
