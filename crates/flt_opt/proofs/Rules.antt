@@ -178,33 +178,33 @@ module _ (programs : Programs) (m : Note) (i : Insn) (new_there : slice_get prog
       pub loads_lead : LeadsTo programs (way_on (m.old + 1) (after_loads t m.registers)) facts_here [] → IsSound programs m
       loads_lead leads p n good = record {
         returns = λ s u answer agree k e.
-        (let rn = λ (far : ℕ) (w : State). answer_of programs.new.now p n (m.new + 1 + far) w in
-        let ro = λ (far : ℕ) (w : State). answer_of programs.old.now p n (m.old + 1 + far) w in
-        at_step programs.new.now p n m.new i s new_there
-        ∙ ap (answer_after rn) (loads p n i op m.registers.new s new_is new_loads new_term agree.new_registers)
-        ∙ into_both p n (value p n t) s u answer rn ro
-        (λ x is r. no_further programs.new.now p n m.new (record s { accumulator = x })
-        ∙ (leads p n (m.new + 1) (omega arith) good).returns (record s { accumulator = x }) (record u { accumulator = x }) answer (agree_loaded p n x s u agree is) k
-        (sym (no_further programs.old.now p n m.old (record u { accumulator = x })) ∙ r))
-        (ap (answer_after ro) (sym (loads p n o other m.registers.old u old_is old_loads old_term agree.old_registers))
-        ∙ sym (at_step programs.old.now p n m.old o u old_there) ∙ e));
+            (let rn = λ (far : ℕ) (w : State). answer_of programs.new.now p n (m.new + 1 + far) w in
+            let ro = λ (far : ℕ) (w : State). answer_of programs.old.now p n (m.old + 1 + far) w in
+            at_step programs.new.now p n m.new i s new_there
+            ∙ ap (answer_after rn) (loads p n i op m.registers.new s new_is new_loads new_term agree.new_registers)
+            ∙ into_both p n (value p n t) s u answer rn ro
+            (λ x is r. no_further programs.new.now p n m.new (record s { accumulator = x })
+            ∙ (leads p n (m.new + 1) (omega arith) good).returns (record s { accumulator = x }) (record u { accumulator = x }) answer (agree_loaded p n x s u agree is) k
+            (sym (no_further programs.old.now p n m.old (record u { accumulator = x })) ∙ r))
+            (ap (answer_after ro) (sym (loads p n o other m.registers.old u old_is old_loads old_term agree.old_registers))
+            ∙ sym (at_step programs.old.now p n m.old o u old_there) ∙ e));
       }
 
     -- a test of bits, for a mask and a test of what is left
     pub bits_lead : (w : Insn) → slice_get programs.old.now (m.old + 1) ≡ Some w → IsBits i o w → ((p : List ℕ) (n : ℕ) (s t : State) → Agree p n m.registers s t → s.accumulator ≡ t.accumulator) → Tests programs m (after_old (Compute And Constant) o.k m.registers) i (record { test = AnyBit; operand = Constant }) (m.old + 2 + w.jf) (m.old + 2 + w.jt) → IsSound programs m
     bits_lead w test_there bits same tests p n good = record {
       returns = λ s t answer agree known e.
-      (let left = record t { accumulator = bit_and t.accumulator o.k } in
-      let old_does : does (Compute And Constant) o p n t ≡ Goes 0 left = refl in
-      let ro = λ (at far : ℕ) (u : State). answer_of programs.old.now p n (at + 1 + far) u in
-      let one = ap (answer_after (ro m.old)) (sym (knows_step p n o (Compute And Constant) t bits.mask_is)) ∙ sym (at_step programs.old.now p n m.old o t old_there) ∙ e in
-      let two = sym (no_further programs.old.now p n m.old left) ∙ one in
-      let truth = bit_and s.accumulator i.k == 0 in
-      let left_is : test_holds Equal left.accumulator w.k ≡ truth = ap (λ z. test_holds Equal left.accumulator z) bits.zero ∙ ap (λ z. bit_and t.accumulator z == 0) bits.same ∙ ap (λ z. bit_and z i.k == 0) (sym (same p n s t agree)) in
-      let goes : step w p n left ≡ Goes (if truth then w.jt else w.jf) left = knows_step p n w (JumpIf Equal Constant) left bits.test_is ∙ ap (λ z. Goes (if z then w.jt else w.jf) left) left_is in
-      let three = ap (answer_after (ro (m.old + 1))) (sym goes) ∙ sym (at_step programs.old.now p n (m.old + 1) w left test_there) ∙ two in
-      tests p n s left answer good (agree_old p n (Compute And Constant) o m.registers s t left agree old_does refl) known.noted
-      (turned truth left ∙ three));
+          (let left = record t { accumulator = bit_and t.accumulator o.k } in
+          let old_does : does (Compute And Constant) o p n t ≡ Goes 0 left = refl in
+          let ro = λ (at far : ℕ) (u : State). answer_of programs.old.now p n (at + 1 + far) u in
+          let one = ap (answer_after (ro m.old)) (sym (knows_step p n o (Compute And Constant) t bits.mask_is)) ∙ sym (at_step programs.old.now p n m.old o t old_there) ∙ e in
+          let two = sym (no_further programs.old.now p n m.old left) ∙ one in
+          let truth = bit_and s.accumulator i.k == 0 in
+          let left_is : test_holds Equal left.accumulator w.k ≡ truth = ap (λ z. test_holds Equal left.accumulator z) bits.zero ∙ ap (λ z. bit_and t.accumulator z == 0) bits.same ∙ ap (λ z. bit_and z i.k == 0) (sym (same p n s t agree)) in
+          let goes : step w p n left ≡ Goes (if truth then w.jt else w.jf) left = knows_step p n w (JumpIf Equal Constant) left bits.test_is ∙ ap (λ z. Goes (if z then w.jt else w.jf) left) left_is in
+          let three = ap (answer_after (ro (m.old + 1))) (sym goes) ∙ sym (at_step programs.old.now p n (m.old + 1) w left test_there) ∙ two in
+          tests p n s left answer good (agree_old p n (Compute And Constant) o m.registers s t left agree old_does refl) known.noted
+          (turned truth left ∙ three));
     }
       where
         turned : (z : Bool) (u : State) → answer_of programs.old.now p n (if not z then m.old + 2 + w.jf else m.old + 2 + w.jt) u ≡ answer_of programs.old.now p n (m.old + 1 + 1 + (if z then w.jt else w.jf)) u

@@ -255,5 +255,5 @@ after_loads t b = record {
   new = record { accumulator = t; index = b.new.index };
   old = record { accumulator = t; index = b.old.index };
   same_accumulator = true;
-  same_index = b.same_index
+  same_index = b.same_index;
 }

@@ -5,6 +5,8 @@ mod facts;
 mod follows;
 mod note;
 mod terms;
+#[cfg(test)]
+mod tests;
 mod validator;
 mod walk;
 
