@@ -1,5 +1,5 @@
 -- A run goes on by what is known.
-use Rattle.std.proofs.Common.{◌≡◌, ℕ, zero, suc, ◌+◌, List, [], ◌∷◌, Bool, Some, sym, ap, ◌∙◌, arith}
+use Rattle.std.proofs.Common.{◌≡◌, ℕ, zero, suc, ◌+◌, List, [], ◌∷◌, Bool, true, false, Some, refl, sym, ap, ◌∙◌, arith}
 use Rattle.std.specs.Prelude.{slice_get, if◌then◌else◌}
 use Rattle.flt_bpf.specs.declared.insn.Insn.{Insn}
 use Rattle.flt_bpf.specs.declared.machine.State.{State}
@@ -9,15 +9,16 @@ use Rattle.flt_bpf.specs.declared.operation.Operand.TheVariants.{Constant}
 use Rattle.flt_bpf.specs.declared.operation.Test.{Test}
 use Rattle.flt_bpf.specs.Answer.{answer_of, answer_after}
 use Rattle.flt_bpf.specs.Instructions.{operation_of}
-use Rattle.flt_bpf.specs.Machine.{Goes, step}
+use Rattle.flt_bpf.specs.Machine.{Goes, step, test_holds}
 use Rattle.flt_opt.specs.declared.facts.Learnt.{Learnt}
 use Rattle.flt_opt.specs.declared.note.Both.{Both}
 use Rattle.flt_opt.specs.declared.note.Fact.{Fact}
 use Rattle.flt_opt.specs.declared.note.Piece.{Piece}
-use Rattle.flt_opt.specs.Terms.{after_old, test_of}
-use Rattle.flt_opt.specs.Facts.{IsDecided}
-use Rattle.flt_opt.specs.Alike.{IsSure, Passes, Walks}
+use Rattle.flt_opt.specs.Terms.{Agree, after_old, test_of}
+use Rattle.flt_opt.specs.Facts.{Known, IsDecided, outcome}
+use Rattle.flt_opt.specs.Alike.{IsSure, Passes, Comes, Walks}
 use Rattle.flt_opt.proofs.Steps.{op_sure, agree_old, knows_step}
+use Rattle.flt_opt.proofs.Values.{shown}
 
 -- where an instruction goes on
 pub at_goes : (c : List Insn) (p : List ℕ) (n k : ℕ) (i : Insn) (s u : State) (far : ℕ) → slice_get c k ≡ Some i → step i p n s ≡ Goes far u → answer_of c p n k s ≡ answer_of c p n (k + 1 + far) u
@@ -62,3 +63,27 @@ walk_more old from at far i b known next facts pieces ls walks there passes p n 
       agree = q.agree;
       returns = ap (λ z. answer_of old p n z q.state) place ∙ sym (at_goes old p n at i c.state q.state far there q.goes) ∙ c.returns;
     }
+
+-- one walk after another
+pub walk_then : (old : List Insn) (from at goal : ℕ) (b known last : Both) (facts : List Fact) (pieces : List Piece) (ls : List Learnt) → Walks old from at b known facts pieces ls → Walks old at goal known last facts pieces ls → Walks old from goal b last facts pieces ls
+walk_then old from at goal b known last facts pieces ls one two p n s t answer agree k e =
+    let c = one p n s t answer agree k e in
+    two p n s c.state answer c.agree k c.returns
+
+module _ (old : List Insn) (at goal : ℕ) (i : Insn) (test : Test) (b : Both) (facts : List Fact) (pieces : List Piece) (ls : List Learnt) (there : slice_get old at ≡ Some i) (is : operation_of i.code ≡ Some (JumpIf test Constant)) where
+  abbrev pub known_after : Bool → Learnt
+  known_after holds = outcome test i.k b.old.accumulator holds
+
+  way_of : (holds : Bool) (known result : Both) → Walks old (at + 1 + (if holds then i.jt else i.jf)) goal b known facts pieces (known_after holds ∷ ls) → ((p : List ℕ) (n : ℕ) (s t : State) → Agree p n known s t → Agree p n result s t) → (p : List ℕ) (n : ℕ) (s t : State) (answer : ℕ) → Agree p n b s t → Known p n facts pieces ls → test_holds test t.accumulator i.k ≡ holds → answer_of old p n at t ≡ Some answer → Comes old p n result s answer goal
+  way_of holds known result walks fits p n s t answer agree k truth e =
+      let goes : step i p n t ≡ Goes (if holds then i.jt else i.jf) t = knows_step p n i (JumpIf test Constant) t is ∙ ap (λ z. Goes (if z then i.jt else i.jf) t) truth in
+      let learnt = shown p n t.accumulator test i.k b.old.accumulator holds agree.old_registers.accumulator truth in
+      let c = walks p n s t answer agree (record { noted = k.noted; shown = (learnt, k.shown) }) (sym (at_goes old p n at i t t (if holds then i.jt else i.jf) there goes) ∙ e) in
+      record { state = c.state; agree = fits p n s c.state c.agree; returns = c.returns }
+
+  pub fork_good : (one other result : Both) → Walks old (at + 1 + i.jt) goal b one facts pieces (known_after true ∷ ls) → Walks old (at + 1 + i.jf) goal b other facts pieces (known_after false ∷ ls) → ((p : List ℕ) (n : ℕ) (s t : State) → Agree p n one s t → Agree p n result s t) → ((p : List ℕ) (n : ℕ) (s t : State) → Agree p n other s t → Agree p n result s t) → Walks old at goal b result facts pieces ls
+  fork_good one other result hit miss fits_one fits_other p n s t answer agree k e = by (test_holds test t.accumulator i.k) refl
+    where
+      by : (z : Bool) → test_holds test t.accumulator i.k ≡ z → Comes old p n result s answer goal
+      by true w = way_of true one result hit fits_one p n s t answer agree k w e
+      by false w = way_of false other result miss fits_other p n s t answer agree k w e

@@ -191,3 +191,41 @@ pub(crate) fn fits(known: &Both, wanted: &Both) -> bool
         && (!wanted.same_accumulator || same_accumulator(known))
         && (!wanted.same_index || same_index(known))
 }
+
+/// A term that is known either way.
+fn common_term(one: Term, other: Term) -> Term
+    ensures one { (p : List ℕ) (n number : ℕ) → Holds p n one number → Holds p n result number }
+    ensures other { (p : List ℕ) (n number : ℕ) → Holds p n other number
+        → Holds p n result number }
+{
+    if same_term(one, other) {
+        one
+    } else {
+        Term::Anything
+    }
+}
+
+fn common_registers(one: Registers, other: Registers) -> Registers
+    ensures one { (p : List ℕ) (n : ℕ) (s : State) → Hold p n one s → Hold p n result s }
+    ensures other { (p : List ℕ) (n : ℕ) (s : State) → Hold p n other s → Hold p n result s }
+{
+    Registers {
+        accumulator: common_term(one.accumulator, other.accumulator),
+        index: common_term(one.index, other.index),
+    }
+}
+
+/// What is known of the registers either way.
+pub(crate) fn common(one: &Both, other: &Both) -> Both
+    ensures one { (p : List ℕ) (n : ℕ) (new old : State) → Agree p n one.now new old
+        → Agree p n result new old }
+    ensures other { (p : List ℕ) (n : ℕ) (new old : State) → Agree p n other.now new old
+        → Agree p n result new old }
+{
+    Both {
+        new: common_registers(one.new, other.new),
+        old: common_registers(one.old, other.old),
+        same_accumulator: one.same_accumulator && other.same_accumulator,
+        same_index: one.same_index && other.same_index,
+    }
+}

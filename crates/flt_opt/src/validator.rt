@@ -19,9 +19,12 @@ use crate::terms::{
     after_both, after_loads, after_new, after_old, asked, is_known, is_load, leads_on,
     reads_accumulator, reads_index, returns, same_term,
 };
-use crate::walk::{goes_on, walk};
+use crate::walk::{Route, goes_on, walk};
 use flt_bpf::Wide;
 use flt_bpf::operation::{AluOperation, Operand, Operation, Test, decode};
+
+/// From how many tests, one behind the other, a walk goes both ways at most.
+const MOST_SPLITS: u32 = 3;
 
 /// Two programs and the notes on them.
 #[derive(Clone, Copy)]
@@ -68,7 +71,19 @@ fn leads(programs: &Programs, facts: &[Fact], learnt: &[Learnt], way: &Way, to: 
         pieces: programs.notes.pieces,
         learnt,
     };
-    let Some(both) = walk(programs.old, &knowledge, &way.both, way.old, note.old) else {
+    let route = Route {
+        from: way.old,
+        goal: note.old,
+        splits: MOST_SPLITS,
+    };
+    let Some(both) = walk(
+        programs.old,
+        facts,
+        knowledge.pieces,
+        learnt,
+        &way.both,
+        route,
+    ) else {
         return false;
     };
     fits(&both, &note.registers) && facts_follow(facts_of(programs, note), &knowledge, &way.both)

@@ -1,12 +1,12 @@
 //! How far the old run goes by what is known.
 
-ghost use Rattle.std.specs.Prelude.{◌≡◌, ℕ, List, IfSome, IsTrue};
+ghost use Rattle.std.specs.Prelude.{◌≡◌, ℕ, List, ◌+◌, ◌^◌, ◌<◌, ◌∷◌, Some, IfSome, IsTrue, slice_get};
 ghost use Rattle.flt_bpf.specs.declared.machine.State.{State};
 ghost use Rattle.flt_opt.specs.Alike.{IsSure, Passes, Walks};
 
-use crate::facts::{Knowledge, decided};
-use crate::follows::is_there;
-use crate::note::{Both, Registers};
+use crate::facts::{Knowledge, Learnt, decided, outcome};
+use crate::follows::{common, is_there};
+use crate::note::{Both, Fact, Piece, Registers};
 use crate::terms::{after_old, asked, is_sure, test_of};
 use flt_bpf::Wide;
 use flt_bpf::operation::{Operation, decode};
@@ -46,27 +46,120 @@ fn pass(insn: Wide, knowledge: &Knowledge, both: &Both) -> Option<(u32, Both)>
     }
 }
 
+/// Where a walk is, where it is to end, and how many tests it may still go both ways from.
+#[derive(Clone, Copy)]
+pub(crate) struct Route {
+    pub from: usize,
+    pub goal: usize,
+    pub splits: u32,
+}
+
 /// What is known once the old run is at a place, if it comes there.
+#[cycle(walking)]
 pub(crate) fn walk(
     old: &[Wide],
-    knowledge: &Knowledge,
+    facts: &[Fact],
+    pieces: &[Piece],
+    learnt: &[Learnt],
     both: &Both,
-    from: usize,
-    goal: usize,
+    route: Route,
 ) -> Option<Both>
-    ensures { IfSome result (λ known. Walks old.now from goal both.now known
-        knowledge.now.facts.now knowledge.now.pieces.now knowledge.now.learnt.now) }
+    ensures { IfSome result (λ known. Walks old.now route.from route.goal both.now known
+        facts.now pieces.now learnt.now) }
 {
-    let mut at = from;
+    let knowledge = Knowledge {
+        facts,
+        pieces,
+        learnt,
+    };
+    let mut at = route.from;
     let mut known = *both;
     'steps: for _ in 0..MOST_STEPS {
-        if at == goal {
+        if at == route.goal {
             return Some(known);
         }
         let insn = *old.get(at)?;
-        let (skipped, next) = pass(insn, knowledge, &known)?;
+        let Some((skipped, next)) = pass(insn, &knowledge, &known) else {
+            let here = Route {
+                from: at,
+                goal: route.goal,
+                splits: route.splits,
+            };
+            return fork(old, facts, pieces, learnt, &known, insn, here);
+        };
         at += 1 + skipped as usize;
         known = next;
     }
     None
+}
+
+/// The same from a test on, both ways of which lead there.
+#[cycle(walking)]
+fn fork(
+    old: &[Wide],
+    facts: &[Fact],
+    pieces: &[Piece],
+    learnt: &[Learnt],
+    both: &Both,
+    insn: Wide,
+    route: Route,
+) -> Option<Both>
+    requires bound { route.from < 2 ^ 62 }
+    requires there { slice_get old.now route.from ≡ Some insn }
+    ensures { IfSome result (λ known. Walks old.now route.from route.goal both.now known
+        facts.now pieces.now learnt.now) }
+{
+    if route.splits == 0 {
+        return None;
+    }
+    let test = test_of(decode(insn.code)?)?;
+    let term = both.old.accumulator;
+    let hit = Route {
+        from: route.from + 1 + insn.yes as usize,
+        goal: route.goal,
+        splits: route.splits - 1,
+    };
+    let miss = Route {
+        from: route.from + 1 + insn.no as usize,
+        goal: route.goal,
+        splits: route.splits - 1,
+    };
+    let (yes, no) = (
+        outcome(test, insn.k, term, true),
+        outcome(test, insn.k, term, false),
+    );
+    let one = one_way(old, facts, pieces, learnt, both, yes, hit)?;
+    let other = one_way(old, facts, pieces, learnt, both, no, miss)?;
+    Some(common(&one, &other))
+}
+
+/// The same where a test has shown more.
+#[cycle(walking)]
+fn one_way(
+    old: &[Wide],
+    facts: &[Fact],
+    pieces: &[Piece],
+    learnt: &[Learnt],
+    both: &Both,
+    shown: Learnt,
+    route: Route,
+) -> Option<Both>
+    ensures { IfSome result (λ known. Walks old.now route.from route.goal both.now known
+        facts.now pieces.now (shown ∷ learnt.now)) }
+{
+    match learnt {
+        [] => {
+            let more = [shown];
+            walk(old, facts, pieces, &more, both, route)
+        }
+        [first] => {
+            let more = [shown, *first];
+            walk(old, facts, pieces, &more, both, route)
+        }
+        [first, second] => {
+            let more = [shown, *first, *second];
+            walk(old, facts, pieces, &more, both, route)
+        }
+        _ => None,
+    }
 }
