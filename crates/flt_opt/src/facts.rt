@@ -5,6 +5,7 @@ ghost use Rattle.flt_opt.specs.Facts.{in_piece};
 ghost use Rattle.flt_opt.specs.Facts.{before, only, starting, past, outcome, IsWithin, NeverIs};
 ghost use Rattle.flt_opt.specs.Facts.{IsIn, part, HasNumbers, NeverSo, NeverAmong, CannotBe};
 ghost use Rattle.flt_opt.specs.Facts.{IsDecided};
+ghost use Rattle.flt_opt.specs.Terms.{value};
 ghost use Rattle.flt_opt.specs.declared.note.Piece.{Piece};
 
 use crate::note::{Fact, Piece, Span, Term};
@@ -71,7 +72,7 @@ fn only(k: u32) -> Piece
 }
 
 /// The numbers from one on.
-pub(crate) fn starting(k: u32) -> Piece
+fn starting(k: u32) -> Piece
     ensures { result ≡ starting k }
 {
     Piece {
@@ -186,6 +187,21 @@ pub(crate) fn numbers_of(term: Term, facts: &[Fact]) -> Option<Span>
     None
 }
 
+/// The numbers that a term may be on any packet.
+pub(crate) fn numbers_at_most(term: Term) -> Piece
+    ensures { (p : List ℕ) (n number : ℕ) → value p n term ≡ Some number
+        → in_piece number result ≡ true }
+{
+    match term {
+        Term::Number(k) => only(k),
+        Term::Field(load) => match load.mask {
+            Some(mask) => Piece { low: 0, high: mask },
+            None => starting(0),
+        },
+        _ => starting(0),
+    }
+}
+
 /// The outcome of a test may be, where a term's value is in a piece.
 fn may_be_in(piece: Piece, outcome: &Learnt, learnt: &[Learnt]) -> bool
     ensures { result ≡ false → NeverSo piece outcome.now learnt.now }
@@ -212,7 +228,7 @@ fn is_possible(outcome: &Learnt, knowledge: &Knowledge) -> bool
         knowledge.now.pieces.now knowledge.now.learnt.now }
 {
     match numbers_of(outcome.term, knowledge.facts) {
-        None => may_be_in(starting(0), outcome, knowledge.learnt),
+        None => may_be_in(numbers_at_most(outcome.term), outcome, knowledge.learnt),
         Some(span) => may_be_among(part(knowledge.pieces, span), outcome, knowledge.learnt),
     }
 }

@@ -7,7 +7,7 @@ ghost use Rattle.flt_opt.specs.Facts.{FactFollows, FactsFollow};
 ghost use Rattle.flt_opt.specs.Terms.{There, Hold, Holds, Agree, source, is_constant};
 ghost use Rattle.flt_opt.specs.declared.note.Piece.{Piece};
 
-use crate::facts::{Knowledge, Learnt, covered, numbers_of, part, starting};
+use crate::facts::{Knowledge, Learnt, covered, numbers_at_most, numbers_of, part};
 use crate::note::{Both, Fact, Load, Piece, Registers, Span, Term};
 use crate::terms::{is_known, same_term};
 
@@ -107,7 +107,7 @@ fn numbers_follow(wanted: Fact, knowledge: &Knowledge) -> bool
     let (pieces, learnt) = (knowledge.pieces, knowledge.learnt);
     let numbers = part(pieces, wanted.pieces);
     match numbers_of(wanted.term, knowledge.facts) {
-        None => covered(starting(0), wanted.term, learnt, numbers, 0).is_some(),
+        None => covered(numbers_at_most(wanted.term), wanted.term, learnt, numbers, 0).is_some(),
         Some(span) => {
             same_span(span, wanted.pieces)
                 || are_within(part(pieces, span), wanted.term, learnt, numbers)
