@@ -4,3 +4,4 @@ pub mod Values
 pub mod Walking
 pub mod Standing
 pub mod Rules
+pub mod Drifting

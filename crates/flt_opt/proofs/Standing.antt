@@ -22,6 +22,8 @@ use Rattle.flt_opt.specs.Terms.{Agree, Holds}
 use Rattle.flt_opt.specs.Facts.{AllHold, AllLearnt, LearntHolds, FactsFollow, outcome, part}
 use Rattle.flt_opt.specs.Alike.{Walks, IsGood, LeadsTo, Branches, Tests, IsSound, AreSound, Begins}
 use Rattle.flt_opt.specs.Replaces.{Replaces}
+use Rattle.flt_opt.specs.Alike.{IsRejection, Rejects}
+use Rattle.flt_opt.proofs.Drifting.{rejection_is}
 use Rattle.flt_opt.proofs.Steps.{knows_step}
 use Rattle.flt_opt.proofs.Values.{shown}
 use Rattle.flt_opt.proofs.Walking.{at_goes}
@@ -95,4 +97,11 @@ pub replaced : (programs : Programs) → Begins programs → AreSound programs �
 replaced programs begins sound free = record {
   runs = λ p n answer e. begins p n answer (λ j m w low. good_from programs sound p n (most programs.notes.notes.now) j m w (omega arith)) e;
   no_jump = free;
+}
+
+-- both runs return 0
+pub reject_good : (programs : Programs) (way : Way) (facts : List Fact) (learnt : List Learnt) (i : Insn) → slice_get programs.new.now way.new ≡ Some i → IsRejection i → Rejects programs.old.now way.old way.both.old facts programs.notes.pieces.now learnt → LeadsTo programs way facts learnt
+reject_good programs way facts learnt i there is rejects p n at low good = record {
+  returns = λ s t answer agree known e.
+  (rejection_is programs.new.now p n way.new i s there is ∙ ap Some (sym (rejects p n t answer agree.old_registers known e)));
 }

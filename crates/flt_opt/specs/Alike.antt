@@ -1,13 +1,13 @@
 -- What the rules of `replaces` show.
-use Rattle.std.specs.Prelude.{◌≡◌, ℕ, ◌+◌, ◌≤◌, Bool, true, if◌then◌else◌, List, [], Some, slice_get}
+use Rattle.std.specs.Prelude.{◌≡◌, ℕ, ◌+◌, ◌≤◌, Bool, true, if◌then◌else◌, List, [], Option, Some, slice_get, ◌⊎◌}
 use Rattle.flt_bpf.specs.declared.insn.Insn.{Insn}
 use Rattle.flt_bpf.specs.declared.machine.State.{State}
 use Rattle.flt_bpf.specs.declared.operation.Operation.{Operation}
-use Rattle.flt_bpf.specs.declared.operation.Operation.TheVariants.{Compute, JumpIf}
+use Rattle.flt_bpf.specs.declared.operation.Operation.TheVariants.{Compute, JumpIf, ReturnConstant}
 use Rattle.flt_bpf.specs.declared.operation.AluOperation.TheVariants.{And}
 use Rattle.flt_bpf.specs.declared.operation.Operand.TheVariants.{Constant}
 use Rattle.flt_bpf.specs.declared.operation.Test.TheVariants.{Equal, AnyBit}
-use Rattle.flt_bpf.specs.Answer.{answer_of}
+use Rattle.flt_bpf.specs.Answer.{answer_of, answer_after}
 use Rattle.flt_bpf.specs.Instructions.{operation_of}
 use Rattle.flt_bpf.specs.Machine.{Goes, step, test_holds, operand_value, start}
 use Rattle.flt_opt.specs.declared.facts.Learnt.{Learnt}
@@ -20,7 +20,7 @@ use Rattle.flt_opt.specs.declared.validator.Condition.{Condition}
 use Rattle.flt_opt.specs.declared.validator.Programs.{Programs}
 use Rattle.flt_opt.specs.declared.validator.Way.{Way}
 use Rattle.flt_opt.specs.Facts.{AllHold, Known, part}
-use Rattle.flt_opt.specs.Terms.{Agree, There, Reads, asked, is_sure}
+use Rattle.flt_opt.specs.Terms.{Agree, Hold, There, Reads, asked, is_sure}
 
 -- from a place of each program on both return the same, where so much is known
 pub record Alike (new old : List Insn) (p : List ℕ) (n : ℕ) (at_new at_old : ℕ) (b : Both) (facts : List Fact) (pieces : List Piece) (learnt : List Learnt) : Type 0 where
@@ -141,3 +141,38 @@ pub record IsBits (new mask test : Insn) : Type 0 where
   pub test_is : operation_of test.code ≡ Some (JumpIf Equal Constant)
   pub zero : test.k ≡ 0
   pub same : mask.k ≡ new.k
+
+-- a run goes on behind an instruction, where so much is known, or returns 0
+pub record Drifted (far : ℕ) (after : Registers) (p : List ℕ) (n answer : ℕ) (rest : ℕ → State → Option ℕ) : Type 0 where
+  pub state : State
+  pub hold : Hold p n after state
+  pub returns : rest far state ≡ Some answer
+
+abbrev pub Drifts : Insn → ℕ → Registers → Registers → List Fact → List Piece → List Learnt → Type 0
+Drifts i far r after facts pieces learnt =
+    (p : List ℕ) (n : ℕ) (t : State) (rest : ℕ → State → Option ℕ) (answer : ℕ) → Hold p n r t
+    → Known p n facts pieces learnt → answer_after rest (step i p n t) ≡ Some answer
+    → (answer ≡ 0) ⊎ Drifted far after p n answer rest
+
+-- an instruction returns 0
+pub record IsRejection (i : Insn) : Type 0 where
+  pub operation : operation_of i.code ≡ Some ReturnConstant
+  pub zero : i.k ≡ 0
+
+-- from a place on code returns 0, if it returns
+abbrev pub Rejects : List Insn → ℕ → Registers → List Fact → List Piece → List Learnt → Type 0
+Rejects code from r facts pieces learnt =
+    (p : List ℕ) (n : ℕ) (t : State) (answer : ℕ) → Hold p n r t
+    → Known p n facts pieces learnt → answer_of code p n from t ≡ Some answer → answer ≡ 0
+
+-- a run from a place on returns what one from another place on returns, or 0
+pub record DriftsTo (code : List Insn) (p : List ℕ) (n : ℕ) (after : Registers) (answer at : ℕ) : Type 0 where
+  pub state : State
+  pub hold : Hold p n after state
+  pub returns : answer_of code p n at state ≡ Some answer
+
+abbrev pub DriftsFrom : List Insn → ℕ → ℕ → Registers → Registers → List Fact → List Piece → List Learnt → Type 0
+DriftsFrom code from to r after facts pieces learnt =
+    (p : List ℕ) (n : ℕ) (t : State) (answer : ℕ) → Hold p n r t
+    → Known p n facts pieces learnt → answer_of code p n from t ≡ Some answer
+    → (answer ≡ 0) ⊎ DriftsTo code p n after answer to

@@ -130,7 +130,8 @@ fn index_after(operation: Operation, k: u32, registers: Registers) -> Term
     }
 }
 
-fn after(operation: Operation, k: u32, registers: Registers) -> Registers
+/// What the registers hold after an operation.
+pub(crate) fn after(operation: Operation, k: u32, registers: Registers) -> Registers
     ensures { result ≡ after operation k registers }
 {
     Registers {

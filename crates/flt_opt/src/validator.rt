@@ -19,7 +19,7 @@ use crate::terms::{
     after_both, after_loads, after_new, after_old, asked, is_known, is_load, leads_on,
     reads_accumulator, reads_index, returns, same_term,
 };
-use crate::walk::{Route, goes_on, walk};
+use crate::walk::{Route, goes_on, is_rejection, rejects, walk};
 use flt_bpf::Wide;
 use flt_bpf::operation::{AluOperation, Operand, Operation, Test, decode};
 
@@ -57,7 +57,7 @@ fn facts_of<'a>(programs: &Programs<'a>, note: &Note) -> &'a [Fact]
 }
 
 /// A way leads to a note, once the old run has walked to its place.
-fn leads(programs: &Programs, facts: &[Fact], learnt: &[Learnt], way: &Way, to: usize) -> bool
+fn leads_to(programs: &Programs, facts: &[Fact], learnt: &[Learnt], way: &Way, to: usize) -> bool
     ensures { IsTrue result → LeadsTo programs.now way.now facts.now learnt.now }
 {
     let Some(note) = programs.notes.notes.get(to) else {
@@ -76,17 +76,35 @@ fn leads(programs: &Programs, facts: &[Fact], learnt: &[Learnt], way: &Way, to: 
         goal: note.old,
         splits: MOST_SPLITS,
     };
-    let Some(both) = walk(
-        programs.old,
-        facts,
-        knowledge.pieces,
-        learnt,
-        &way.both,
-        route,
-    ) else {
+    let Some(both) = walk(programs.old, facts, knowledge.pieces, learnt, &way.both, route) else {
         return false;
     };
     fits(&both, &note.registers) && facts_follow(facts_of(programs, note), &knowledge, &way.both)
+}
+
+/// On a way both runs return 0.
+fn both_reject(programs: &Programs, facts: &[Fact], learnt: &[Learnt], way: &Way) -> bool
+    ensures { IsTrue result → LeadsTo programs.now way.now facts.now learnt.now }
+{
+    let Some(insn) = programs.new.get(way.new) else {
+        return false;
+    };
+    if !is_rejection(*insn) {
+        return false;
+    }
+    let knowledge = Knowledge {
+        facts,
+        pieces: programs.notes.pieces,
+        learnt,
+    };
+    rejects(programs.old, &knowledge, way.both.old, way.old)
+}
+
+/// A way leads to a note, or to a rejection in both runs.
+fn leads(programs: &Programs, facts: &[Fact], learnt: &[Learnt], way: &Way, to: usize) -> bool
+    ensures { IsTrue result → LeadsTo programs.now way.now facts.now learnt.now }
+{
+    leads_to(programs, facts, learnt, way, to) || both_reject(programs, facts, learnt, way)
 }
 
 /// The way from a test of the new program at the place of a note, to a place of the old one.

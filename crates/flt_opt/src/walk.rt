@@ -2,12 +2,12 @@
 
 ghost use Rattle.std.specs.Prelude.{◌≡◌, ℕ, List, ◌+◌, ◌^◌, ◌<◌, ◌∷◌, Some, IfSome, IsTrue, slice_get};
 ghost use Rattle.flt_bpf.specs.declared.machine.State.{State};
-ghost use Rattle.flt_opt.specs.Alike.{IsSure, Passes, Walks};
+ghost use Rattle.flt_opt.specs.Alike.{IsSure, Passes, Walks, Drifts, IsRejection, Rejects};
 
 use crate::facts::{Knowledge, Learnt, decided, outcome};
 use crate::follows::{common, is_there};
 use crate::note::{Both, Fact, Piece, Registers};
-use crate::terms::{after_old, asked, is_sure, test_of};
+use crate::terms::{after, after_old, asked, is_sure, leads_on, test_of};
 use flt_bpf::Wide;
 use flt_bpf::operation::{Operation, decode};
 
@@ -162,4 +162,58 @@ fn one_way(
         }
         _ => None,
     }
+}
+
+/// How many instructions a run skips behind one, and what its registers hold then, if it doesn't
+/// return 0.
+fn drift(insn: Wide, knowledge: &Knowledge, registers: Registers) -> Option<(u32, Registers)>
+    ensures { IfSome result (λ r. Drifts insn r.0 registers r.1 knowledge.now.facts.now
+        knowledge.now.pieces.now knowledge.now.learnt.now) }
+{
+    let operation = decode(insn.code)?;
+    if let Some(test) = test_of(operation) {
+        let holds = decided(test, insn.k, registers.accumulator, knowledge)?;
+        return Some((if holds { insn.yes } else { insn.no }, registers));
+    }
+    if leads_on(operation) {
+        Some((0, after(operation, insn.k, registers)))
+    } else {
+        None
+    }
+}
+
+/// It returns 0.
+pub(crate) fn is_rejection(insn: Wide) -> bool
+    ensures { IsTrue result → IsRejection insn }
+{
+    insn.code == Operation::ReturnConstant.code() && insn.k == 0
+}
+
+/// A run returns 0 from a place on, if it returns.
+pub(crate) fn rejects(
+    code: &[Wide],
+    knowledge: &Knowledge,
+    registers: Registers,
+    from: usize,
+) -> bool
+    ensures { IsTrue result → Rejects code.now from registers knowledge.now.facts.now
+        knowledge.now.pieces.now knowledge.now.learnt.now }
+{
+    let mut at = from;
+    let mut known = registers;
+    'steps: for _ in 0..MOST_STEPS {
+        let Some(insn) = code.get(at) else {
+            return false;
+        };
+        let insn = *insn;
+        if is_rejection(insn) {
+            return true;
+        }
+        let Some((skipped, next)) = drift(insn, knowledge, known) else {
+            return false;
+        };
+        at += 1 + skipped as usize;
+        known = next;
+    }
+    false
 }
