@@ -1,6 +1,6 @@
 -- From each note on both programs return the same.
-use Rattle.std.proofs.Common.{◌≡◌, ℕ, zero, suc, ◌+◌, ◌<◌, ◌≤◌, List, [], ◌∷◌, length, get_or, take, drop, Bool, true, false, Some, refl, sym, ap, ◌∙◌, subst, arith}
-use Rattle.std.specs.Prelude.{not, ◌≢◌, ◌-◌, ◌==◌, ◌&&◌, nat_le, slice_get, slice_range, if◌then◌else◌, All}
+use Rattle.std.proofs.Common.{◌≡◌, ℕ, zero, suc, ◌+◌, ◌<◌, ◌≤◌, List, [], ◌∷◌, length, get_or, Bool, true, false, Some, refl, sym, ap, ◌∙◌, subst, arith}
+use Rattle.std.specs.Prelude.{not, ◌≢◌, ◌==◌, slice_get, if◌then◌else◌, All}
 use Rattle.std.proofs.lemmas.Bool.Decides.{nat_tests}
 use Rattle.std.proofs.lemmas.Option.{get_or_from_slice_get}
 use Rattle.flt_bpf.specs.declared.insn.Insn.{Insn}
@@ -9,17 +9,16 @@ use Rattle.flt_bpf.specs.declared.operation.Operation.TheVariants.{Jump, JumpIf}
 use Rattle.flt_bpf.specs.declared.operation.Operand.TheVariants.{Constant}
 use Rattle.flt_bpf.specs.Answer.{answer_of}
 use Rattle.flt_bpf.specs.Instructions.{code_of, operation_of}
-use Rattle.flt_bpf.specs.Machine.{Goes, test_holds, operand_value, start}
+use Rattle.flt_bpf.specs.Machine.{Goes, test_holds, operand_value}
 use Rattle.flt_opt.specs.declared.facts.Learnt.{Learnt}
 use Rattle.flt_opt.specs.declared.note.Both.{Both}
 use Rattle.flt_opt.specs.declared.note.Fact.{Fact}
 use Rattle.flt_opt.specs.declared.note.Note.{Note}
-use Rattle.flt_opt.specs.declared.note.Span.{Span}
 use Rattle.flt_opt.specs.declared.validator.Condition.{Condition}
 use Rattle.flt_opt.specs.declared.validator.Programs.{Programs}
 use Rattle.flt_opt.specs.declared.validator.Way.{Way}
 use Rattle.flt_opt.specs.Terms.{Agree, Holds}
-use Rattle.flt_opt.specs.Facts.{IsDecided, AllHold, AllLearnt, LearntHolds, FactsFollow, outcome, part}
+use Rattle.flt_opt.specs.Facts.{IsDecided, AllLearnt, LearntHolds, FactsFollow, outcome, part}
 use Rattle.flt_opt.specs.Alike.{Walks, IsGood, LeadsTo, Branches, Tests, IsSound, AreSound, Begins}
 use Rattle.flt_opt.specs.Replaces.{Replaces}
 use Rattle.flt_opt.specs.Alike.{IsRejection, Rejects}
