@@ -1,5 +1,5 @@
 -- What the rules of `replaces` show.
-use Rattle.std.specs.Prelude.{◌≡◌, ℕ, ◌+◌, ◌≤◌, Bool, true, if◌then◌else◌, List, [], Option, Some, slice_get, ◌⊎◌}
+use Rattle.std.specs.Prelude.{◌≡◌, ℕ, ◌+◌, ◌≤◌, Bool, true, if◌then◌else◌, List, [], Option, Some, None, slice_get, ◌⊎◌}
 use Rattle.flt_bpf.specs.declared.insn.Insn.{Insn}
 use Rattle.flt_bpf.specs.declared.machine.State.{State}
 use Rattle.flt_bpf.specs.declared.operation.Operation.{Operation}
@@ -19,7 +19,8 @@ use Rattle.flt_opt.specs.declared.note.Registers.{Registers}
 use Rattle.flt_opt.specs.declared.validator.Condition.{Condition}
 use Rattle.flt_opt.specs.declared.validator.Programs.{Programs}
 use Rattle.flt_opt.specs.declared.validator.Way.{Way}
-use Rattle.flt_opt.specs.Facts.{AllHold, Known, part}
+use Rattle.flt_opt.specs.declared.walk.Stage.{Stage}
+use Rattle.flt_opt.specs.Facts.{AllLearnt, AllHold, Known, part}
 use Rattle.flt_opt.specs.Terms.{Agree, Hold, There, Reads, asked, is_sure}
 
 -- from a place of each program on both return the same, where so much is known
@@ -72,12 +73,32 @@ Passes i far b after facts pieces learnt =
     (p : List ℕ) (n : ℕ) (s t : State) → Agree p n b s t → Known p n facts pieces learnt
     → Passed i far after p n s t
 
--- from one place the old run comes to another one
-abbrev pub Walks : List Insn → ℕ → ℕ → Both → Both → List Fact → List Piece → List Learnt → Type 0
-Walks old from to b after facts pieces learnt =
-    (p : List ℕ) (n : ℕ) (s t : State) (answer : ℕ) → Agree p n b s t
-    → Known p n facts pieces learnt → answer_of old p n from t ≡ Some answer
-    → Comes old p n after s answer to
+-- the old run is where a walk is, and returns what it returned
+pub record HereAt (old : List Insn) (p : List ℕ) (n : ℕ) (new_state : State) (answer : ℕ) (stage : Stage) : Type 0 where
+  pub state : State
+  pub agree : Agree p n stage.known new_state state
+  pub shown : AllLearnt p n stage.learnt
+  pub returns : answer_of old p n stage.at state ≡ Some answer
+
+-- it has come to the goal on another way
+abbrev pub HasMet : List Insn → List ℕ → ℕ → State → ℕ → ℕ → Option Both → Type 0
+HasMet old p n new_state answer goal None = ⊥
+HasMet old p n new_state answer goal (Some b) = Comes old p n b new_state answer goal
+
+abbrev pub IsOn : List Insn → ℕ → List ℕ → ℕ → State → ℕ → Stage → Type 0
+IsOn old goal p n new_state answer stage =
+    HasMet old p n new_state answer goal stage.met ⊎ HereAt old p n new_state answer stage
+
+-- a walk goes on, and comes to its goal
+abbrev pub Advances : List Insn → ℕ → List Fact → List Piece → Stage → Stage → Type 0
+Advances old goal facts pieces stage next =
+    (p : List ℕ) (n : ℕ) (s : State) (answer : ℕ) → AllHold p n pieces facts
+    → IsOn old goal p n s answer stage → IsOn old goal p n s answer next
+
+abbrev pub Reaches : List Insn → ℕ → List Fact → List Piece → Stage → Both → Type 0
+Reaches old goal facts pieces stage known =
+    (p : List ℕ) (n : ℕ) (s : State) (answer : ℕ) → AllHold p n pieces facts
+    → IsOn old goal p n s answer stage → Comes old p n known s answer goal
 
 -- the same for two programs with their notes
 abbrev pub AreGood : Programs → List ℕ → ℕ → ℕ → Type 0

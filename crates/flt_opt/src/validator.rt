@@ -12,14 +12,14 @@ ghost use Rattle.flt_opt.specs.Terms.{Agree};
 ghost use Rattle.flt_bpf.specs.Machine.{start};
 ghost use Rattle.flt_opt.specs.Facts.{part, IsDecided};
 
-use crate::facts::{Knowledge, Learnt, decided, facts_in, outcome};
+use crate::facts::{Knowledge, Learnt, decided, facts_in, kept_outcomes, outcome};
 use crate::follows::{facts_follow, fits, same_accumulator, same_index};
 use crate::note::{Both, Fact, Note, Notes, Registers, Term};
 use crate::terms::{
     after_both, after_loads, after_new, after_old, asked, is_known, is_load, leads_on,
     reads_accumulator, reads_index, returns, same_term,
 };
-use crate::walk::{Route, Start, goes_on, is_rejection, rejects, walk};
+use crate::walk::{Stage, Start, goes_on, is_rejection, rejects, walk};
 use flt_bpf::Wide;
 use flt_bpf::operation::{AluOperation, Operand, Operation, Test, decode};
 
@@ -71,19 +71,14 @@ fn leads_to(programs: &Programs, facts: &[Fact], learnt: &[Learnt], way: &Way, t
         pieces: programs.notes.pieces,
         learnt,
     };
-    let route = Route {
-        from: way.old,
-        goal: note.old,
-        splits: MOST_SPLITS,
+    let from = Stage {
+        at: way.old,
+        known: way.both,
+        learnt: kept_outcomes(learnt),
+        met: None,
     };
-    let Some(both) = walk(
-        programs.old,
-        facts,
-        knowledge.pieces,
-        learnt,
-        &way.both,
-        route,
-    ) else {
+    let pieces = knowledge.pieces;
+    let Some(both) = walk(programs.old, facts, pieces, from, note.old, MOST_SPLITS) else {
         return false;
     };
     fits(&both, &note.registers) && facts_follow(facts_of(programs, note), &knowledge, &way.both)
