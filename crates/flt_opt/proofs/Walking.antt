@@ -1,5 +1,5 @@
 -- A run goes on by what is known.
-use Rattle.std.proofs.Common.{◌≡◌, ℕ, zero, suc, ◌+◌, List, [], ◌∷◌, Bool, true, false, Option, Some, None, ◌⊎◌, inl, inr, IfSome, IsSome, refl, sym, ap, ◌∙◌, subst, arith}
+use Rattle.std.proofs.Common.{◌≡◌, ℕ, zero, suc, ◌+◌, List, [], ◌∷◌, Bool, true, false, Option, Some, None, inl, inr, IfSome, IsSome, refl, sym, ap, ◌∙◌, subst, arith}
 use Rattle.std.specs.Prelude.{not, slice_get, if◌then◌else◌}
 use Rattle.flt_bpf.specs.declared.insn.Insn.{Insn}
 use Rattle.flt_bpf.specs.declared.machine.State.{State}
@@ -19,7 +19,6 @@ use Rattle.flt_opt.specs.Facts.{AllLearnt, IsDecided}
 use Rattle.flt_opt.specs.declared.walk.Stage.{Stage}
 use Rattle.flt_opt.specs.Alike.{IsSure, Passes, Comes, HereAt, HasMet, IsOn, Advances, Reaches}
 use Rattle.flt_opt.proofs.Steps.{op_sure, agree_old, knows_step}
-use Rattle.flt_opt.proofs.Values.{shown}
 
 -- where an instruction goes on
 pub at_goes : (c : List Insn) (p : List ℕ) (n k : ℕ) (i : Insn) (s u : State) (far : ℕ) → slice_get c k ≡ Some i → step i p n s ≡ Goes far u → answer_of c p n k s ≡ answer_of c p n (k + 1 + far) u

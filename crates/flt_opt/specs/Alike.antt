@@ -24,7 +24,8 @@ use Rattle.flt_opt.specs.Facts.{AllLearnt, AllHold, Known, part}
 use Rattle.flt_opt.specs.Terms.{Agree, Hold, There, Reads, asked, is_sure}
 
 -- from a place of each program on both return the same, where so much is known
-pub record Alike (new old : List Insn) (p : List ℕ) (n : ℕ) (at_new at_old : ℕ) (b : Both) (facts : List Fact) (pieces : List Piece) (learnt : List Learnt) : Type 0 where
+pub record Alike (new old : List Insn) (p : List ℕ) (n : ℕ) (at_new at_old : ℕ) (b : Both)
+    (facts : List Fact) (pieces : List Piece) (learnt : List Learnt) : Type 0 where
   pub returns : (s t : State) (answer : ℕ) → Agree p n b s t → Known p n facts pieces learnt
       → answer_of old p n at_old t ≡ Some answer → answer_of new p n at_new s ≡ Some answer
 
@@ -34,7 +35,8 @@ IsGood new old facts pieces p n m =
     Alike new old p n m.new m.old m.registers (part facts m.facts) pieces []
 
 -- from each note on that is for a place of the new program from one on
-abbrev pub AreGoodFrom : List Insn → List Insn → List Note → List Fact → List Piece → List ℕ → ℕ → ℕ → Type 0
+abbrev pub AreGoodFrom : List Insn → List Insn → List Note → List Fact → List Piece → List ℕ → ℕ
+    → ℕ → Type 0
 AreGoodFrom new old notes facts pieces p n at =
     (j : ℕ) (m : Note) → slice_get notes j ≡ Some m → at ≤ m.new
     → IsGood new old facts pieces p n m
@@ -46,7 +48,8 @@ Stands new old notes facts pieces m =
     → IsGood new old facts pieces p n m
 
 -- the old run comes to a place, where it is as is known, and returns what it returned
-pub record Comes (old : List Insn) (p : List ℕ) (n : ℕ) (b : Both) (new_state : State) (answer at : ℕ) : Type 0 where
+pub record Comes (old : List Insn) (p : List ℕ) (n : ℕ) (b : Both) (new_state : State)
+    (answer at : ℕ) : Type 0 where
   pub state : State
   pub agree : Agree p n b new_state state
   pub returns : answer_of old p n at state ≡ Some answer
@@ -63,7 +66,8 @@ IsSure op k r b facts pieces learnt =
     → Leads op k r p n
 
 -- the old run goes on behind an instruction, and so much is known then
-pub record Passed (i : Insn) (far : ℕ) (b : Both) (p : List ℕ) (n : ℕ) (new old : State) : Type 0 where
+pub record Passed (i : Insn) (far : ℕ) (b : Both) (p : List ℕ) (n : ℕ) (new old : State)
+    : Type 0 where
   pub state : State
   pub goes : step i p n old ≡ Goes far state
   pub agree : Agree p n b new state
@@ -74,7 +78,8 @@ Passes i far b after facts pieces learnt =
     → Passed i far after p n s t
 
 -- the old run is where a walk is, and returns what it returned
-pub record HereAt (old : List Insn) (p : List ℕ) (n : ℕ) (new_state : State) (answer : ℕ) (stage : Stage) : Type 0 where
+pub record HereAt (old : List Insn) (p : List ℕ) (n : ℕ) (new_state : State) (answer : ℕ)
+    (stage : Stage) : Type 0 where
   pub state : State
   pub agree : Agree p n stage.known new_state state
   pub shown : AllLearnt p n stage.learnt
@@ -164,7 +169,8 @@ pub record IsBits (new mask test : Insn) : Type 0 where
   pub same : mask.k ≡ new.k
 
 -- a run goes on behind an instruction, where so much is known, or returns 0
-pub record Drifted (far : ℕ) (after : Registers) (p : List ℕ) (n answer : ℕ) (rest : ℕ → State → Option ℕ) : Type 0 where
+pub record Drifted (far : ℕ) (after : Registers) (p : List ℕ) (n answer : ℕ)
+    (rest : ℕ → State → Option ℕ) : Type 0 where
   pub state : State
   pub hold : Hold p n after state
   pub returns : rest far state ≡ Some answer
@@ -187,12 +193,14 @@ Rejects code from r facts pieces learnt =
     → Known p n facts pieces learnt → answer_of code p n from t ≡ Some answer → answer ≡ 0
 
 -- a run from a place on returns what one from another place on returns, or 0
-pub record DriftsTo (code : List Insn) (p : List ℕ) (n : ℕ) (after : Registers) (answer at : ℕ) : Type 0 where
+pub record DriftsTo (code : List Insn) (p : List ℕ) (n : ℕ) (after : Registers) (answer at : ℕ)
+    : Type 0 where
   pub state : State
   pub hold : Hold p n after state
   pub returns : answer_of code p n at state ≡ Some answer
 
-abbrev pub DriftsFrom : List Insn → ℕ → ℕ → Registers → Registers → List Fact → List Piece → List Learnt → Type 0
+abbrev pub DriftsFrom : List Insn → ℕ → ℕ → Registers → Registers → List Fact → List Piece
+    → List Learnt → Type 0
 DriftsFrom code from to r after facts pieces learnt =
     (p : List ℕ) (n : ℕ) (t : State) (answer : ℕ) → Hold p n r t
     → Known p n facts pieces learnt → answer_of code p n from t ≡ Some answer

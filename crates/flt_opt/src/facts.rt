@@ -203,7 +203,8 @@ pub(crate) fn covered(
 
 /// Where the pieces of the first fact on a term are.
 pub(crate) fn numbers_of(term: Term, facts: &[Fact]) -> Option<Span>
-    ensures { IfSome result (λ span. (pieces : List Piece) → HasNumbers term span facts.now pieces) }
+    ensures { IfSome result (λ span. (pieces : List Piece)
+        → HasNumbers term span facts.now pieces) }
 {
     for fact in facts {
         if same_term(fact.term, term) {

@@ -1,6 +1,7 @@
 //! Whether a program may replace another one: note by note, by four rules.
 
-ghost use Rattle.std.specs.Prelude.{◌≡◌, ◌≢◌, ◌↔◌, ℕ, ◌+◌, ◌^◌, ◌<◌, List, [], not, Some, All, IsTrue, slice_get};
+ghost use Rattle.std.specs.Prelude.{◌≡◌, ◌≢◌, ◌↔◌, ℕ, ◌+◌, ◌^◌, ◌<◌, List, [], not, Some, All};
+ghost use Rattle.std.specs.Prelude.{IsTrue, slice_get};
 ghost use Rattle.std.specs.Prelude.{if◌then◌else◌};
 ghost use Rattle.flt_bpf.specs.declared.operation.Operation.TheVariants.{Jump, JumpIf};
 ghost use Rattle.flt_bpf.specs.Instructions.{code_of, operation_of};
@@ -305,7 +306,7 @@ fn loads_same(programs: &Programs, note: &Note, new: Wide, old: Wide) -> bool
     step_leads(programs, note, both, note.old + 1)
 }
 
-/// The codes and numbers are those of a test of bits, and of a mask and a test of what is left for 0.
+/// Three instructions are a test of bits, and a mask and a test of what is left for 0.
 fn is_bits(new: Wide, mask: Wide, test: Wide) -> bool
     ensures { IsTrue result → IsBits new mask test }
 {

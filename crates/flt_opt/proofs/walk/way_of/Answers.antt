@@ -1,4 +1,4 @@
-use Rattle.std.proofs.Common.{◌≡◌, sym, ap, ◌∙◌, subst}
+use Rattle.std.proofs.Common.{sym, ap, ◌∙◌, subst}
 use Rattle.flt_bpf.specs.Machine.{test_holds}
 use Rattle.flt_opt.specs.Facts.{LearntHolds}
 use Rattle.flt_opt.proofs.Values.{shown}
