@@ -1,0 +1,348 @@
+//! How far the old run goes by what is known.
+
+ghost use Rattle.std.specs.Prelude.{◌≡◌, ℕ, List, ◌+◌, ◌^◌, ◌<◌, ◌∷◌, Some, None, IfSome, IsSome};
+ghost use Rattle.std.specs.Prelude.{IsTrue, slice_get};
+ghost use Rattle.std.specs.Prelude.{if◌then◌else◌};
+ghost use Rattle.flt_bpf.specs.Machine.{test_holds};
+ghost use Rattle.flt_opt.specs.Facts.{AllLearnt};
+ghost use Rattle.flt_opt.specs.Terms.{Agree, Holds};
+ghost use Rattle.flt_bpf.specs.declared.machine.State.{State};
+ghost use Rattle.flt_opt.specs.Alike.{IsSure, Passes, Reaches, Advances, Drifts, IsRejection};
+ghost use Rattle.flt_opt.specs.Alike.{Rejects};
+
+use crate::facts::{Knowledge, Learnt, OUTCOMES, decided, outcome, with_newest};
+use crate::follows::{common, is_there};
+use crate::note::{Both, Fact, Piece, Registers};
+use crate::terms::{after, after_old, asked, is_sure, leads_on, test_of};
+use flt_bpf::Wide;
+use flt_bpf::operation::{Operation, Test, decode};
+
+/// How many instructions a walk passes at most.
+const MOST_STEPS: usize = 8192;
+
+/// A run that has these registers goes on behind an operation, which changes no word.
+pub(crate) fn goes_on(
+    operation: Operation,
+    k: u32,
+    registers: Registers,
+    knowledge: &Knowledge,
+    both: &Both,
+) -> bool
+    ensures { IsTrue result → IsSure operation k registers both.now knowledge.now.facts.now
+        knowledge.now.pieces.now knowledge.now.learnt.now }
+{
+    let there = is_there(asked(operation, k, registers), knowledge.facts, both);
+    is_sure(operation, k, there)
+}
+
+/// How many instructions the old run skips behind one, and what is known then.
+fn pass(insn: Wide, knowledge: &Knowledge, both: &Both) -> Option<(u32, Both)>
+    ensures { IfSome result (λ r. Passes insn r.0 both.now r.1 knowledge.now.facts.now
+        knowledge.now.pieces.now knowledge.now.learnt.now) }
+{
+    let operation = decode(insn.code)?;
+    if let Some(test) = test_of(operation) {
+        let holds = decided(test, insn.k, both.old.accumulator, knowledge)?;
+        return Some((if holds { insn.yes } else { insn.no }, *both));
+    }
+    if goes_on(operation, insn.k, both.old, knowledge, both) {
+        Some((0, after_old(operation, insn.k, *both)))
+    } else {
+        None
+    }
+}
+
+/// Where a walk is.
+#[derive(Clone, Copy)]
+pub(crate) struct Stage {
+    /// The place in the old program.
+    pub at: usize,
+    /// What is known of the registers there.
+    pub known: Both,
+    /// What the last tests on this way have shown.
+    pub learnt: [Learnt; OUTCOMES],
+    /// What is known at the goal on the other ways, if there are any.
+    pub met: Option<Both>,
+}
+
+/// What is known of the registers on this way and on those that met.
+fn joined(met: &Option<Both>, known: &Both) -> Both
+    ensures known { (p : List ℕ) (n : ℕ) (new old : State) → Agree p n known.now new old
+        → Agree p n result new old }
+    ensures met { IfSome met.now (λ other. (p : List ℕ) (n : ℕ) (new old : State)
+        → Agree p n other new old → Agree p n result new old) }
+{
+    match met {
+        None => *known,
+        Some(other) => common(other, known),
+    }
+}
+
+/// What is known once the old run is at a place, if it comes there.
+#[cycle(walking)]
+pub(crate) fn walk(
+    old: &[Wide],
+    facts: &[Fact],
+    pieces: &[Piece],
+    from: Stage,
+    goal: usize,
+    splits: u32,
+) -> Option<Both>
+    ensures { IfSome result (λ known. Reaches old.now goal facts.now pieces.now from known) }
+{
+    let mut stage = from;
+    'steps: for _ in 0..MOST_STEPS {
+        if stage.at == goal {
+            return Some(joined(&stage.met, &stage.known));
+        }
+        stage = advance(old, facts, pieces, stage, goal, splits)?;
+    }
+    None
+}
+
+/// The same behind one instruction.
+#[cycle(walking)]
+fn advance(
+    old: &[Wide],
+    facts: &[Fact],
+    pieces: &[Piece],
+    stage: Stage,
+    goal: usize,
+    splits: u32,
+) -> Option<Stage>
+    ensures { IfSome result (λ next. Advances old.now goal facts.now pieces.now stage next) }
+{
+    let insn = *old.get(stage.at)?;
+    let knowledge = Knowledge {
+        facts,
+        pieces,
+        learnt: &stage.learnt,
+    };
+    if let Some((skipped, known)) = pass(insn, &knowledge, &stage.known) {
+        return Some(Stage {
+            at: stage.at + 1 + skipped as usize,
+            known,
+            learnt: stage.learnt,
+            met: stage.met,
+        });
+    }
+    fork(old, facts, pieces, stage, insn, goal, splits)
+}
+
+/// From a test that isn't decided one way leads to the goal; the walk goes on along the other one.
+#[cycle(walking)]
+fn fork(
+    old: &[Wide],
+    facts: &[Fact],
+    pieces: &[Piece],
+    stage: Stage,
+    insn: Wide,
+    goal: usize,
+    splits: u32,
+) -> Option<Stage>
+    requires bound { stage.at < 2 ^ 62 }
+    requires there { slice_get old.now stage.at ≡ Some insn }
+    ensures { IfSome result (λ next. Advances old.now goal facts.now pieces.now stage next) }
+{
+    if splits == 0 {
+        return None;
+    }
+    let test = test_of(decode(insn.code)?)?;
+    let hit = way_of(&stage, insn, test, true);
+    let miss = way_of(&stage, insn, test, false);
+    if let Some(one) = walk(old, facts, pieces, hit, goal, splits - 1) {
+        return Some(met_by(&miss, &stage.met, &one));
+    }
+    let one = walk(old, facts, pieces, miss, goal, splits - 1)?;
+    Some(met_by(&hit, &stage.met, &one))
+}
+
+/// The way that a test takes which holds, or doesn't.
+fn way_of(stage: &Stage, insn: Wide, test: Test, holds: bool) -> Stage
+    requires { stage.now.at < 2 ^ 62 }
+    ensures at { result.at ≡ stage.now.at + 1 + (if holds then insn.jt else insn.jf) }
+    ensures known { result.known ≡ stage.now.known }
+    ensures met { result.met ≡ None }
+    ensures learnt { (p : List ℕ) (n v : ℕ) → Holds p n stage.now.known.old.accumulator v
+        → test_holds test v insn.k ≡ holds → AllLearnt p n stage.now.learnt
+        → AllLearnt p n result.learnt }
+{
+    let shown = outcome(test, insn.k, stage.known.old.accumulator, holds);
+    let skipped = if holds { insn.yes } else { insn.no };
+    Stage {
+        at: stage.at + 1 + skipped as usize,
+        known: stage.known,
+        learnt: with_newest(stage.learnt, shown),
+        met: None,
+    }
+}
+
+/// A walk goes on where another way has met the goal.
+fn met_by(stage: &Stage, met: &Option<Both>, one: &Both) -> Stage
+    ensures at { result.at ≡ stage.now.at }
+    ensures known { result.known ≡ stage.now.known }
+    ensures learnt { result.learnt ≡ stage.now.learnt }
+    ensures one { IfSome result.met (λ b. (p : List ℕ) (n : ℕ) (new old : State)
+        → Agree p n one.now new old → Agree p n b new old) }
+    ensures other { IfSome met.now (λ other. IfSome result.met (λ b. (p : List ℕ) (n : ℕ)
+        (new old : State) → Agree p n other new old → Agree p n b new old)) }
+    ensures some { IsSome result.met }
+{
+    Stage {
+        at: stage.at,
+        known: stage.known,
+        learnt: stage.learnt,
+        met: Some(joined(met, one)),
+    }
+}
+
+/// How many instructions a run skips behind one, and what its registers hold then, if it doesn't
+/// return 0.
+fn drift(insn: Wide, knowledge: &Knowledge, registers: Registers) -> Option<(u32, Registers)>
+    ensures { IfSome result (λ r. Drifts insn r.0 registers r.1 knowledge.now.facts.now
+        knowledge.now.pieces.now knowledge.now.learnt.now) }
+{
+    let operation = decode(insn.code)?;
+    if let Some(test) = test_of(operation) {
+        let holds = decided(test, insn.k, registers.accumulator, knowledge)?;
+        return Some((if holds { insn.yes } else { insn.no }, registers));
+    }
+    if leads_on(operation) {
+        Some((0, after(operation, insn.k, registers)))
+    } else {
+        None
+    }
+}
+
+/// It returns 0.
+pub(crate) fn is_rejection(insn: Wide) -> bool
+    ensures { IsTrue result → IsRejection insn }
+{
+    insn.code == Operation::ReturnConstant.code() && insn.k == 0
+}
+
+/// Where a run is, and how many tests it may still go both ways from.
+#[derive(Clone, Copy)]
+pub(crate) struct Start {
+    pub at: usize,
+    pub splits: u32,
+}
+
+/// A run returns 0 from a place on, if it returns.
+#[cycle(rejecting)]
+pub(crate) fn rejects(
+    code: &[Wide],
+    facts: &[Fact],
+    pieces: &[Piece],
+    learnt: &[Learnt],
+    registers: Registers,
+    start: Start,
+) -> bool
+    ensures { IsTrue result → Rejects code.now start.at registers facts.now pieces.now
+        learnt.now }
+{
+    let knowledge = Knowledge {
+        facts,
+        pieces,
+        learnt,
+    };
+    let mut at = start.at;
+    let mut known = registers;
+    'steps: for _ in 0..MOST_STEPS {
+        let Some(insn) = code.get(at) else {
+            return false;
+        };
+        let insn = *insn;
+        if is_rejection(insn) {
+            return true;
+        }
+        let Some((skipped, next)) = drift(insn, &knowledge, known) else {
+            let here = Start {
+                at,
+                splits: start.splits,
+            };
+            return both_ways_reject(code, facts, pieces, learnt, known, insn, here);
+        };
+        at += 1 + skipped as usize;
+        known = next;
+    }
+    false
+}
+
+/// The same from a test on, both ways.
+#[cycle(rejecting)]
+fn both_ways_reject(
+    code: &[Wide],
+    facts: &[Fact],
+    pieces: &[Piece],
+    learnt: &[Learnt],
+    registers: Registers,
+    insn: Wide,
+    start: Start,
+) -> bool
+    requires bound { start.at < 2 ^ 62 }
+    requires there { slice_get code.now start.at ≡ Some insn }
+    ensures { IsTrue result → Rejects code.now start.at registers facts.now pieces.now
+        learnt.now }
+{
+    if start.splits == 0 {
+        return false;
+    }
+    let Some(operation) = decode(insn.code) else {
+        return false;
+    };
+    let Some(test) = test_of(operation) else {
+        return false;
+    };
+    let hit = Start {
+        at: start.at + 1 + insn.yes as usize,
+        splits: start.splits - 1,
+    };
+    let miss = Start {
+        at: start.at + 1 + insn.no as usize,
+        splits: start.splits - 1,
+    };
+    let (yes, no) = (
+        outcome(test, insn.k, registers.accumulator, true),
+        outcome(test, insn.k, registers.accumulator, false),
+    );
+    if !one_way_rejects(code, facts, pieces, learnt, registers, yes, hit) {
+        return false;
+    }
+    one_way_rejects(code, facts, pieces, learnt, registers, no, miss)
+}
+
+/// The same where a test has shown more.
+#[cycle(rejecting)]
+fn one_way_rejects(
+    code: &[Wide],
+    facts: &[Fact],
+    pieces: &[Piece],
+    learnt: &[Learnt],
+    registers: Registers,
+    shown: Learnt,
+    start: Start,
+) -> bool
+    ensures { IsTrue result → Rejects code.now start.at registers facts.now pieces.now
+        (shown ∷ learnt.now) }
+{
+    match learnt {
+        [] => {
+            let more = [shown];
+            rejects(code, facts, pieces, &more, registers, start)
+        }
+        [first] => {
+            let more = [shown, *first];
+            rejects(code, facts, pieces, &more, registers, start)
+        }
+        [first, second] => {
+            let more = [shown, *first, *second];
+            rejects(code, facts, pieces, &more, registers, start)
+        }
+        [first, second, third] => {
+            let more = [shown, *first, *second, *third];
+            rejects(code, facts, pieces, &more, registers, start)
+        }
+        _ => false,
+    }
+}
