@@ -11,6 +11,8 @@ mod graph;
 mod halves;
 mod held;
 mod known;
+#[cfg(test)]
+mod listings;
 mod live;
 mod optimise;
 mod order;
@@ -20,8 +22,6 @@ mod rules;
 mod search;
 mod sets;
 mod share;
-#[cfg(test)]
-mod tests;
 mod thread;
 mod walk;
 mod write;
