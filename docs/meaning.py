@@ -20,7 +20,8 @@ A text goes from the contract down: what a definition names comes further down, 
 counted without comments and blank lines where tables have them.
 
 Definitions that no public contract rests on, which help proofs and private functions alone, belong into specs/inside/, all
-others not. --names lists those that lie elsewhere; by --strict the status is 1 where there are any.
+others not; by --strict the status is 1 where some lie elsewhere. --names lists those that no promise rests on. Promises are
+the public contracts of the crates that are for users (all but those in BETWEEN), the laws, and those in PROMISED.
 """
 import argparse
 import collections
@@ -44,7 +45,9 @@ CHOICES = {
 PREPARED = ["IsPolicy None", "IsWhyRefused None"]
 COMMANDS = {"edit": [], "print": PREPARED, "merge": [], "infos": [], "compile": PREPARED}
 # Crates whose public functions are for other crates here.
-BETWEEN = {"cap_arguments", "cap_inputs", "cap_memory", "cap_packets", "cap_streams", "flt_code", "flt_reader", "flt_short", "flt_tree"}
+BETWEEN = {"cap_arguments", "cap_inputs", "cap_memory", "cap_packets", "flt_code", "flt_reader", "flt_short", "flt_tree"}
+# What the pages promise of these.
+PROMISED = {"flt_short::shortened"}
 # The headline: what a user of the crates is promised.
 HEADLINE = ["cap_tools::run", "cap_tools::Job", "flt_gen::generate", "capkit::command_of", "cap_io", "cap_pcap", "cap_pcapng"]
 
@@ -130,7 +133,7 @@ class Meaning:
     def public_roots(self, is_promised=False):
         """All public contracts; or those for users, and the laws."""
         return [key for key, paths in self.paths.items() if self.sources.items[key].kind in ("fn", "trait", "ghosts")
-                and not (is_promised and all(path.split("::")[0] in BETWEEN and "::law" not in path for path in paths))]
+                and (not is_promised or any(is_promise(path) for path in paths))]
 
     def chain(self, name):
         """The shortest way from a public contract to an item of this name, or None."""
@@ -145,6 +148,10 @@ class Meaning:
                     way[use] = [*way[key], use]
                     open_keys.append(use)
         return None
+
+
+def is_promise(path):
+    return path.split("::")[0] not in BETWEEN or "::law" in path or path in PROMISED
 
 
 def code_lines(item, pieces):
@@ -263,26 +270,26 @@ def print_row(name, numbers):
 
 def print_folders(meaning, is_strict, has_names):
     """The files of specs/, with how many definitions lie in the wrong folder."""
-    found = [closure(meaning.sources, meaning.public_roots(is_promised)) for is_promised in (True, False)]
+    sources = meaning.sources
+    found = [closure(sources, meaning.public_roots(is_promised)) for is_promised in (True, False)]
     wrong, totals = 0, [0, 0, 0]
     print(f"{'':46}{'promised':>9}{'between':>9}{'inside':>9}")
-    for spec in meaning.sources.specs.values():
+    for spec in sources.specs.values():
         sides = [[], [], []]
         for name in spec.parts:
             sides[0 if spec.key(name) in found[0] else 1 if spec.key(name) in found[1] else 2].append(name)
         totals = [total + len(side) for total, side in zip(totals, sides)]
-        misplaced = sides[0] + sides[1] if "inside" in spec.module.split(".") else sides[2]
-        wrong += len(misplaced)
-        print_folder(spec.path.relative_to(ROOT / "crates"), [len(side) for side in sides], misplaced if has_names else [])
-    print_folder("all", totals, [])
+        wrong += len(sides[0] + sides[1] if "inside" in spec.module.split(".") else sides[2])
+        print_folder(spec.path.relative_to(ROOT / "crates"), map(len, sides))
+        for label, side in zip(("between", "inside"), sides[1:] if has_names else []):
+            print(f"    {label}: {' '.join(side)}" if side else "", end="\n" if side else "")
+    print_folder("all", totals)
     print(f"{wrong} definitions are in the wrong folder")
     return 1 if is_strict and wrong else 0
 
 
-def print_folder(name, numbers, misplaced):
+def print_folder(name, numbers):
     print(f"{str(name):46}" + "".join(f"{number:>9}" for number in numbers))
-    if misplaced:
-        print(f"    {' '.join(misplaced)}")
 
 
 def print_chain(meaning, name):

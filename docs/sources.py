@@ -299,8 +299,8 @@ class Source:
 class Sources:
     """All files of the crates, and the items in them."""
 
-    def __init__(self, root=ROOT):
-        crates = [it for it in sorted((root / "crates").iterdir()) if it.name not in TEST_CRATES and (it / "src").exists()]
+    def __init__(self, left_out=TEST_CRATES):
+        crates = [it for it in sorted((ROOT / "crates").iterdir()) if it.name not in left_out and (it / "src").exists()]
         self.crates = [it.name for it in crates]
         specs = [path for crate in crates for path in sorted((crate / "specs").glob("**/*.antt")) if path.stem != "Lib"]
         self.specs = {(it.crate, it.module): it for it in map(Spec, specs)}
@@ -309,7 +309,7 @@ class Sources:
             for path in sorted((crate / "src").glob("**/*.rt")):
                 parts = path.relative_to(crate / "src").with_suffix("").parts
                 module = ".".join(part for part in parts if part not in ("lib", "main", "mod"))
-                if "tests" not in parts:
+                if "tests" not in parts or not left_out:
                     self.files[crate.name, module] = Source(path, crate.name, module)
         self.unknown, self.items = [], {}
         self.public_functions, self.exports = set(), set()
