@@ -40,7 +40,8 @@ def missing_definitions(sources, crates):
         if item.kind == "fn" and (not crates or key[0] in crates):
             for use in sorted(use[:3] for use in item.uses() if sources.items[use[:3]].path.suffix == ".antt"):
                 if use[2] not in named:
-                    missing.setdefault(use, f"{item.path.relative_to(ROOT)}:{item.line}: {key[2]} cites {use[2]}, which MODEL.md leaves out")
+                    where = f"{item.path.relative_to(ROOT)}:{item.line}"
+                    missing.setdefault(use, f"{where}: {key[2]} cites {use[2]}, which MODEL.md leaves out")
     yield from missing.values()
 
 
@@ -49,13 +50,15 @@ def misplaced_files(sources):
     meaning = Meaning(sources)
     believed = {(key[0], key[1]) for key in closure(sources, meaning.public_roots(is_promised=True))}
     table, crate = {}, None
-    for name, *cells in re.findall(r"^\| (\w*) *\| ([\w, ]*)\|(?: ([\w, ]*)\|)$", (INSIDE / "MODEL.md").read_text(), re.MULTILINE):
+    rows = re.findall(r"^\| (\w*) *\| ([\w, ]*)\| ([\w, ]*)\|$", (INSIDE / "MODEL.md").read_text(), re.MULTILINE)
+    for name, *cells in rows:
         crate = name or crate
         for is_believed, cell in zip((True, False), cells):
             table.update({(crate, f"specs.{file}"): is_believed for file in re.findall(r"\w+", cell)})
     for key, spec in sources.specs.items():
-        if table.get(key) != (key in believed):
-            yield f"docs/inside/MODEL.md: {spec.path.relative_to(ROOT)} {'must be believed' if key in believed else 'only helps proofs'}"
+        if "inside" not in key[1].split(".") and table.get(key) != (key in believed):
+            what = "must be believed" if key in believed else "only helps proofs"
+            yield f"docs/inside/MODEL.md: {spec.path.relative_to(ROOT)} {what}"
 
 
 def plain(text):
@@ -69,7 +72,8 @@ def shown_contracts(sources):
         text = page.read_text()
         blocks = [(it.start(), it[1]) for it in re.finditer(r"^```rust\n(.*?)^```", text, re.MULTILINE | re.DOTALL)]
         blocks = [block for block in blocks if CLAUSE.search(block[1])]
-        blocks += [(it.start(), it[1]) for it in re.finditer(r"`((?:requires|ensures) (?!name )[^`]*\{[^`]*|ghost use [^`]*)`", text)]
+        quoted = re.finditer(r"`((?:requires|ensures) (?!name )[^`]*\{[^`]*|ghost use [^`]*)`", text)
+        blocks += [(it.start(), it[1]) for it in quoted]
         for place, shown in blocks:
             wanted = re.compile(".*?".join(re.escape(part) for part in plain(shown).split("..")))
             if not any(wanted.search(it) for it in code):
@@ -102,7 +106,8 @@ class Names:
     @functools.cached_property
     def words(self):
         """The words of all sources, scripts and headers, but the pages."""
-        files = [name for name in self.files if not re.match(r"docs/.*md|[^/]*\.md", name) and os.path.getsize(ROOT / name) < 1 << 20]
+        files = [name for name in self.files if not re.match(r"docs/.*md|[^/]*\.md", name)]
+        files = [name for name in files if os.path.getsize(ROOT / name) < 1 << 20]
         texts = [*files, *((ROOT / name).read_text(errors="replace") for name in files)]
         return {word for text in texts for word in re.findall(r"[A-Za-z_]\w*", text)}
 

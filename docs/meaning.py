@@ -26,6 +26,7 @@ the public contracts of the crates that are for users (all but those in BETWEEN)
 import argparse
 import collections
 import re
+import signal
 import sys
 
 from sources import ROOT, WORD, Sources, blanked
@@ -122,8 +123,7 @@ class Meaning:
         """The contracts of a path: of a function, of a type's methods and ghost members, or of a crate's."""
         keys = [key for key, paths in self.paths.items() if key in self.sources.items
                 and any(path == name or re.match(rf"{re.escape(name)}(::| as )", path) for path in paths)]
-        kinds = {key: self.sources.items[key].kind for key in keys}
-        return [key for key in keys if kinds[key] in ("fn", "trait", "ghosts") or len(keys) == 1]
+        return [key for key in keys if is_contract(self.sources.items[key]) or len(keys) == 1]
 
     def of(self, name):
         """The roots and the closure of a path or a promise."""
@@ -132,7 +132,7 @@ class Meaning:
 
     def public_roots(self, is_promised=False):
         """All public contracts; or those for users, and the laws."""
-        return [key for key, paths in self.paths.items() if self.sources.items[key].kind in ("fn", "trait", "ghosts")
+        return [key for key, paths in self.paths.items() if is_contract(self.sources.items[key])
                 and (not is_promised or any(is_promise(path) for path in paths))]
 
     def chain(self, name):
@@ -148,6 +148,11 @@ class Meaning:
                     way[use] = [*way[key], use]
                     open_keys.append(use)
         return None
+
+
+def is_contract(item):
+    """Whether an item states something of its own: a function with clauses, a trait, or ghost members."""
+    return item.kind in ("trait", "ghosts") or item.kind == "fn" and re.search(r"\b(requires|ensures)\b", item.text())
 
 
 def is_promise(path):
@@ -214,10 +219,11 @@ def heading(sources, path):
     return f"==== {name}\n{about}".rstrip()
 
 
-def text_of(sources, name, roots, found):
+def text_of(meaning, name, roots, found):
     """A promise's meaning as one text."""
+    sources = meaning.sources
     parts = ["==== the contract" + "s" * (len(roots) > 1)]
-    parts += [item_text(sources.items[key], found[key]) for key in sorted(roots)]
+    parts += [f"// {meaning.paths[key][0]}\n{item_text(sources.items[key], found[key])}" for key in sorted(roots)]
     for path in in_reading_order(sources, found, roots):
         here = [sources.items[key] for key in found if sources.items[key].path == path and key not in roots]
         if here:
@@ -321,11 +327,12 @@ def main():
         roots, found = meaning.of(given.name)
         if not roots:
             parser.error(f"no public function, type or promise {given.name}")
-        print(text_of(meaning.sources, given.name, roots, found))
+        print(text_of(meaning, given.name, roots, found))
     else:
         parser.error("a name, --closure, --folders or --why")
     return 1 if meaning.sources.unknown else 0
 
 
 if __name__ == "__main__":
+    signal.signal(signal.SIGPIPE, signal.SIG_DFL)
     sys.exit(main())

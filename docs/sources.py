@@ -445,6 +445,16 @@ class Sources:
             pieces_of = self.equation if kind == "definition" else self.member_pieces
             pieces = [piece for comment, text in parts for piece in pieces_of(spec, name, comment, text)]
             self.items[spec.key(name)] = Item(spec.key(name), kind, spec.path, number, pieces)
+        self.unknown += [f"{spec.path}: nothing uses {name}" for name in self.idle_imports(spec)]
+
+    def idle_imports(self, spec):
+        """The imports of a file that no definition was found to use: `rt tidy` leaves none, so a use was overlooked."""
+        pieces = [piece for name in spec.parts for piece in self.items[spec.key(name)].pieces]
+        used = {use for piece in pieces for use in piece.uses | piece.patterns}
+        used |= {use[:3] for use in used}
+        for name, target in self.imported(spec.imports, spec.path).items():
+            if not used & (set(target.values()) if isinstance(target, dict) else {target}):
+                yield name
 
     def equation(self, spec, name, comment, text):
         """Yields a signature, or an equation with what its patterns ask for."""
@@ -485,8 +495,9 @@ class Sources:
             pieces = []
             for number, (start, end) in enumerate(zip(places, [*places[1:], block.end])):
                 code = file.code[start:end]
-                used = used_names(code, scope, set(re.findall(r"\b([a-z]\w*)\s*:(?!:)", code)) | bound_names(code))
                 variant = re.search(r"^ *([A-Z]\w*)", code, re.MULTILINE) if number else None
+                code = code[variant.end() :] if variant else code
+                used = used_names(code, scope, set(re.findall(r"\b([a-z]\w*)\s*:(?!:)", code)) | bound_names(code))
                 text = outer_attributes(file.text[start:end]).rstrip("\n")
                 patterns = {(*file.key(name), variant[1])} if variant else set()
                 pieces.append(Piece(text, {it for it in used if it[:3] != file.key(name)}, patterns, "rule" if variant else "head"))
