@@ -6,11 +6,11 @@ usage: check_model.py [CRATE..]
 1. MODEL.md names each definition that a public function's contract cites: in backquotes, outside of fenced blocks. With
    crates, those of these crates alone. A function is public where other crates can name it, or C.
    Its table of what must be believed is what meaning.py finds.
-2. A contract in a fenced block of a page, and a clause in backquotes, stands in src/ as it is shown; `..` stands for what
-   is left out.
-3. The definition of `Name.field` has this field; `path::name` is an item, in PROVED's tables a public one; the clauses that
-   PROVED's rows name are those of the row's functions; files exist; and any other name in backquotes is a word of some
-   source, edit or script. Words in capitals, as NAME, stand for others.
+2. A contract in a fenced block of a page, and a clause in backquotes, stands in src/ as it is shown; `..` stands for
+   what is left out.
+3. The definition of `Name.field` has this field; `path::name` is an item, in PROVED's tables a public one; the clauses
+   that PROVED's rows name are those of the row's functions; files exist; and any other name in backquotes is a word of
+   some source, edit or script. Words in capitals, as NAME, stand for others.
 
 The status is 1 where something is listed.
 """
@@ -46,7 +46,7 @@ def missing_definitions(sources, crates):
 
 
 def misplaced_files(sources):
-    """Yields the files of specs/ that MODEL.md's table of what must be believed has in the wrong column, or not at all."""
+    """Yields the files of specs/ that MODEL.md's table of what must be believed has in the wrong column, or lacks."""
     meaning = Meaning(sources)
     believed = {(key[0], key[1]) for key in closure(sources, meaning.public_roots(is_promised=True))}
     table, crate = {}, None
@@ -191,7 +191,8 @@ def main():
     """Prints each fault."""
     sources = Sources()
     names = Names(Sources(left_out=()))
-    faults = [*sources.unknown, *missing_definitions(sources, sys.argv[1:]), *misplaced_files(sources), *shown_contracts(sources)]
+    faults = [*sources.unknown, *missing_definitions(sources, sys.argv[1:]), *misplaced_files(sources)]
+    faults += shown_contracts(sources)
     faults += [fault for page in sorted(INSIDE.glob("*.md")) for fault in stale_names(names, page.name)]
     print(*faults, sep="\n", end="\n" if faults else "")
     print(f"{len(faults)} faults")

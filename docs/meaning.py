@@ -5,23 +5,25 @@ usage: meaning.py NAME              the text of a function or type by its path, 
                                     edit, print, merge, infos, compile, library
        meaning.py --closure         how many definitions of how many lines each promise rests on
        meaning.py --folders [--strict] [--names]
-                                    how many definitions of each file of specs/ a promise rests on, only a public function
-                                    for other crates here, and no public function
+                                    how many definitions of each file of specs/ a promise rests on, only a contract
+                                    between crates, and no public contract
        meaning.py --why NAME        how a public contract comes to a definition or type
 
-A contract rests on the definitions, types and constants that its clauses and its signature name, on what these name, and so
-on: its closure. A type brings along how contracts see it (its `view`), a bound its trait, with the contracts there. What
-invariants of types and proofs/ cite is left out. Names are followed to the module that they come from.
+A contract rests on the definitions, types and constants that its clauses and its signature name, on what these name,
+and so on: its closure. A type brings along how contracts see it (its `view`), a bound its trait, with the contracts
+there. What invariants of types and proofs/ cite is left out. Names are followed to the module that they come from.
 
-A command is the contract of `cap_tools::run` without the cases that the command never comes to: an edit compiles nothing.
-Which these are follows from `assignment`; each text says what it leaves out.
+A command is the contract of `cap_tools::run` without the cases that the command never comes to: an edit compiles
+nothing. Which these are follows from `assignment`; each text names what it leaves out.
 
-A text goes from the contract down: what a definition names comes further down, or in front of it in its own file. Lines are
-counted without comments and blank lines where tables have them.
+A text goes from the contract down: what a definition names comes further down, or before it in its own file. The tables
+count lines without comments and blank lines.
 
-Definitions that no public contract rests on, which help proofs and private functions alone, belong into specs/inside/, all
-others not; by --strict the status is 1 where some lie elsewhere. --names lists those that no promise rests on. Promises are
-the public contracts of the crates that are for users (all but those in BETWEEN), the laws, and those in PROMISED.
+Definitions that no public contract rests on, which help proofs and private functions alone, belong into specs/inside/,
+all others not; by --strict the status is 1 where some lie elsewhere. --names lists those that no promise rests on.
+Promises are the public contracts of the crates that are for users (all but those in BETWEEN), the laws, and those in
+PROMISED. The status is also 1 where a name wasn't found, or an import seems to have no use: then this script overlooked
+a form of the language.
 """
 import argparse
 import collections
@@ -46,11 +48,15 @@ CHOICES = {
 PREPARED = ["IsPolicy None", "IsWhyRefused None"]
 COMMANDS = {"edit": [], "print": PREPARED, "merge": [], "infos": [], "compile": PREPARED}
 # Crates whose public functions are for other crates here.
-BETWEEN = {"cap_arguments", "cap_inputs", "cap_memory", "cap_packets", "flt_code", "flt_reader", "flt_short", "flt_tree"}
+BETWEEN = {
+    "cap_arguments", "cap_inputs", "cap_memory", "cap_packets", "flt_code", "flt_reader", "flt_short", "flt_tree",
+}
 # What the pages promise of these.
 PROMISED = {"flt_short::shortened"}
 # The headline: what a user of the crates is promised.
-HEADLINE = ["cap_tools::run", "cap_tools::Job", "flt_gen::generate", "capkit::command_of", "cap_io", "cap_pcap", "cap_pcapng"]
+HEADLINE = [
+    "cap_tools::run", "cap_tools::Job", "flt_gen::generate", "capkit::command_of", "cap_io", "cap_pcap", "cap_pcapng",
+]
 
 
 class Cases:
@@ -205,10 +211,11 @@ def item_text(item, pieces):
 
 
 def case_names(piece):
-    """How a case that is left out is named: by its constructors of what a command chooses, else by its own or its words."""
+    """How a case that is left out is named: by its constructors of what a command chooses, else by its patterns."""
     if piece.kind == "rule":
         return [use[3] for use in piece.patterns]
-    return sorted(use[3] for use in piece.patterns if use[:3] in CHOICES) or [" ".join(piece.text.split("=")[0].split()[1:])]
+    chosen = sorted(use[3] for use in piece.patterns if use[:3] in CHOICES)
+    return chosen or [" ".join(piece.text.split("=")[0].split()[1:])]
 
 
 def heading(sources, path):

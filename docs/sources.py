@@ -1,20 +1,26 @@
-"""Reads the crates: the definitions of specs/, and the types and contracts of src/, each with the names that it uses.
+"""What the crates define and promise: the definitions of specs/, and the types and contracts of src/, each with the names
+that it uses.
 
-A name is an item's key, as "cap_io specs.Text text" or "cap_octet src.fault Fault", so two definitions of one name are two.
-A use of a variant or constructor has it behind its item's key. Definitions of std and of other crates have no item: names
-of them are left out.
+An item has a key: its crate, its module and its name, as ("cap_io", "specs.Text", "text"), so that two definitions of
+one name are two. A use is the key of an item; that of a variant or constructor has its name behind it. Definitions of
+std and of other crates are no items.
 """
 import collections
 import dataclasses
 import pathlib
 import re
 
-ROOT = pathlib.Path(__file__).resolve().parent.parent
+from source_files import (
+    ROOT, WORD, Source, Spec, blanked, dedent, doc_start, end_of_group, imports_of, without_attributes)
+
 TEST_CRATES = {"cap_cases", "cap_tests", "cap_trial", "capkit_damaged"}
 
-WORD = r"[^\W\d](?:[\w']|-(?=[^\W\d]))*"
 WORDS = re.compile(rf"\.?(?:«\w+»|{WORD})(?:\.{WORD})*")
-BINDERS = re.compile(rf"[({{]((?:{WORD}\s+)+):(?![:=])|λ\s+((?:{WORD}\s*)+)\.|λ\s+\(((?:{WORD}[,\s]*)+)\)\s*\.|let\s+({WORD})")
+# (x y : T), λ x y., λ (x, y)., let x
+BINDERS = re.compile(
+    rf"[({{]((?:{WORD}\s+)+):(?![:=])|λ\s+((?:{WORD}\s*)+)\.|λ\s+\(((?:{WORD}[,\s]*)+)\)\s*\.|let\s+({WORD})")
+# a parameter in front of its type
+PARAMETER = re.compile(r"(?:[(,]|\bmut|\bghost)\s*(\w+)\s*:(?!:)")
 FIELD_VALUE = re.compile(rf"(?<=[{{;])(\s*){WORD}(\s*=(?!=))")
 
 
@@ -43,24 +49,6 @@ class Item:
 
     def uses(self):
         return {use for piece in self.pieces for use in piece.uses}
-
-
-def blanked(text, comment):
-    """The text with its comments and the texts between quotes as blanks, each as long as before."""
-    def blank(found):
-        return re.sub(r"[^\n]", " ", found[0])
-
-    return re.sub(rf'{comment}[^\n]*|"(?:\\.|[^"\\])*"|b?\'(?:\\.|[^\\\'\n])\'', blank, text)
-
-
-def end_of_group(code, at):
-    """The place behind the bracket that closes the one at this place."""
-    depth = 0
-    for place in range(at, len(code)):
-        depth += (code[place] in "({[") - (code[place] in ")}]")
-        if depth == 0:
-            return place + 1
-    return len(code)
 
 
 def bound_names(code):
@@ -102,205 +90,12 @@ class Variants:
         return (*self.key, name) if name in self.names else None
 
 
-def chunks(text):
-    """The top-level parts of a file of specs/: the line, the comment in front of it, and its lines."""
-    comment, current = [], None
-    for number, line in enumerate(text.splitlines(), 1):
-        if not line.strip():
-            comment = []
-        elif line.startswith("--"):
-            comment.append(line)
-        elif line[0] in " })]":
-            current[2].append(line)
-        else:
-            current = (number, comment, [line])
-            comment = []
-            yield current
-
-
-DECLARATION = re.compile(rf"(?:abbrev |unfoldable )*(pub )?(?:abbrev )?((record|data) )?(◌\S+◌|«\w+»|{WORD}) *[:({{]")
-
-
-class Spec:
-    """A file of specs/: its imports and its definitions."""
-
-    def __init__(self, path):
-        self.path, (self.crate, *inner) = path, path.relative_to(ROOT / "crates").with_suffix("").parts
-        self.module = ".".join(inner)
-        self.imports, self.parts, self.constructors = [], collections.OrderedDict(), {}
-        text = path.read_text()
-        self.head = re.match(r"(?:--[^\n]*\n)*", text)[0].strip()
-        for number, comment, lines in list(chunks(text)):
-            self.add(number, comment, lines)
-
-    def add(self, number, comment, lines):
-        joined = "\n".join(lines)
-        if joined.startswith("use "):
-            self.imports.append(joined)
-            return
-        found = DECLARATION.match(joined)
-        first = re.match(WORD, joined)
-        if first and first[0] in self.parts:
-            self.parts[first[0]][2].append((comment, joined))
-        elif found and not joined.startswith(("infix", "unfolding", "pub mod")):
-            name = found[4].strip("«»")
-            self.parts[name] = (number, found[3] or "definition", [(comment, joined)])
-            if found[3] == "data":
-                for ctor in re.findall(rf"^  ({WORD}) :", joined, re.MULTILINE):
-                    self.constructors[ctor] = name
-        elif not joined.startswith("infix"):
-            # an `unfolding` line, or the equation of an operator
-            next(reversed(self.parts.values()))[2].append((comment, joined))
-
-    def key(self, name):
-        return (self.crate, self.module, name)
-
-    def names(self):
-        """The names that other files can import, with what they are a use of."""
-        found = {name: self.key(name) for name in self.parts}
-        found.update({ctor: (*self.key(name), ctor) for ctor, name in self.constructors.items()})
-        return found
-
-
-def imports_of(line, module_of):
-    """Yields the names that a `use` line brings in, by what they stand for."""
-    found = re.match(r"\s*(?:ghost )?use ([\w.]+?)(?:\.\{(.*)\}|( as (\w+))?);?$", line.replace("\n", " "))
-    path, names, alias = found[1], found[2], found[4]
-    names_there = module_of(path)
-    if names_there is None:
-        return
-    if names is None:
-        yield alias or path.split(".")[-1], names_there
-        return
-    for name in filter(None, (name.strip() for name in names.split(","))):
-        name, _, other = name.partition(" as ")
-        target = names_there.get(name.strip("«»"), names_there.get(""))
-        if target is None:
-            raise LookupError(f"{path} has no {name}")
-        yield (other or name).strip("◌«»"), target
-
-
-def outer_attributes(text):
-    """Without lines of attributes."""
-    return "\n".join(line for line in text.split("\n") if not re.match(r"\s*#\[", line))
-
-
-def use_tree(text):
-    """Yields the paths of a Rust `use`, each with the name that it brings in."""
-    text = re.sub(r"\s+", " ", text).strip()
-    found = re.match(r"(.*?)\{(.*)\}$", text)
-    if not found:
-        path, _, alias = text.partition(" as ")
-        yield path.split("::"), alias or path.split("::")[-1]
-        return
-    depth, part = 0, ""
-    for sign in found[2] + ",":
-        depth += (sign == "{") - (sign == "}")
-        if sign == "," and depth == 0:
-            if part.strip():
-                yield from use_tree(found[1] + part.strip())
-            part = ""
-        else:
-            part += sign
-
-
-ITEM = re.compile(
-    r"^(?P<indent> *)(?P<pub>pub(?:\([^)]*\))? )?(?:const (?=fn|unsafe)|unsafe |extern +)*"
-    r"(?P<kind>fn|struct|enum|trait|const|static|impl|mod)\b *(?P<name>\w*)", re.MULTILINE)
-CLAUSE = re.compile(r"(requires|ensures)\*?( +\w+)? *$|ghost \w+: *$")
-
-
-def header_end(code, at):
-    """The place of the brace or semicolon behind a function's signature and clauses."""
-    start = at
-    while at < len(code):
-        if code[at] in "([" or code[at] == "{" and CLAUSE.search(code[start:at]):
-            at = start = end_of_group(code, at)
-        elif code[at] in "{;":
-            return at
-        else:
-            at += 1
-    return at
-
-
-def doc_start(text, at):
-    """Where the comment and the attributes in front of a place begin."""
-    while at > 0:
-        before = text.rfind("\n", 0, at - 1) + 1
-        line = text[before:at].strip()
-        if not line.startswith(("///", "#[")) and not (line.startswith("//") and not line.startswith("//!")):
-            break
-        at = before
-    return at
-
-
-def dedent(text):
-    lines = text.strip("\n").split("\n")
-    width = min((len(line) - len(line.lstrip()) for line in lines if line.strip()), default=0)
-    return "\n".join(line[width:] for line in lines)
-
-
-@dataclasses.dataclass
-class Block:
-    """An item of a file of src/ at its place: what is in front of its body, and its body."""
-
-    kind: str
-    name: str
-    is_public: bool
-    start: int
-    head: int
-    end_of_head: int
-    end: int
-
-
-class Source:
-    """A file of src/: its modules, uses, types and contracts."""
-
-    def __init__(self, path, crate, module):
-        self.path, self.crate, self.module = path, crate, module
-        self.text = path.read_text()
-        self.code = blanked(self.text, "//")
-        self.blocks = list(self.blocks_in(0, len(self.code), ""))
-        self.types = {it.name: it for it in self.blocks if it.kind in ("struct", "enum", "trait", "const", "static")}
-        self.uses = {}
-        for found in re.finditer(r"^ *(pub(?:\([^)]*\))? )?use ([^;]+);", self.code, re.MULTILINE):
-            for path, name in use_tree(found[2]):
-                self.uses[name] = (path, bool(found[1]))
-
-    def blocks_in(self, start, end, indent):
-        """Yields the items that stand between two places at this indentation."""
-        at = start
-        while found := ITEM.search(self.code, at, end):
-            at = found.end()
-            if found["indent"] != indent or found["kind"] == "const" and found["name"] == "_":
-                continue
-            stop = header_end(self.code, found.end())
-            last = end_of_group(self.code, stop) if self.code[stop : stop + 1] == "{" else stop + 1
-            head = found.start() + len(indent)
-            yield Block(found["kind"], found["name"], found["pub"] == "pub ", doc_start(self.text, found.start()), head, stop, last)
-            at = last
-
-    def key(self, name):
-        return (self.crate, f"src.{self.module}" if self.module else "src", name)
-
-    def line(self, place):
-        return self.text.count("\n", 0, place) + 1
-
-    def cut(self, start, end):
-        return dedent(outer_attributes(self.text[start:end]))
-
-    def variants(self, block):
-        """The variants of an enum, each with its place, to the next one."""
-        inside = self.code[block.end_of_head + 1 : block.end - 1]
-        places = [it.start(1) + block.end_of_head + 1 for it in re.finditer(r"^    ([A-Z]\w*)", inside, re.MULTILINE)]
-        return [(re.match(r"\w+", self.code[place:])[0], place) for place in places]
-
-
 class Sources:
     """All files of the crates, and the items in them."""
 
     def __init__(self, left_out=TEST_CRATES):
-        crates = [it for it in sorted((ROOT / "crates").iterdir()) if it.name not in left_out and (it / "src").exists()]
+        folders = sorted((ROOT / "crates").iterdir())
+        crates = [it for it in folders if it.name not in left_out and (it / "src").exists()]
         self.crates = [it.name for it in crates]
         specs = [path for crate in crates for path in sorted((crate / "specs").glob("**/*.antt")) if path.stem != "Lib"]
         self.specs = {(it.crate, it.module): it for it in map(Spec, specs)}
@@ -342,7 +137,7 @@ class Sources:
         if rest[-1] == "TheConstants":
             file = self.files[crate, ".".join(rest[:-1])] if len(rest) > 1 else None
             files = [file] if file else [it for it in self.files.values() if it.crate == crate]
-            return {name: it.key(name) for it in files for name, block in it.types.items() if block.kind in ("const", "static")}
+            return {name: it.key(name) for it in files for name in it.types if it.types[name].kind in ("const", "static")}
         variants = rest[-1] in ("TheVariants", "TheViews")
         *module, name = rest[:-1] if variants else rest
         file = self.files.get((crate, ".".join(module)))
@@ -379,32 +174,31 @@ class Sources:
         for name, (path, _) in file.uses.items():
             if path[0] in ("crate", "super") or path[0] in self.crates:
                 key = self.resolved(file, path)
-                if key and self.block_of(key).kind != "fn":
+                if key and self.block_of(key)[1].kind != "fn":
                     found[name] = key
         return {name: Variants(key, self.variant_names(key)) for name, key in found.items()}
 
     def block_of(self, key):
-        """The block of a type or function that a path found."""
-        return next(it for it in self.files[key[0], key[1][4:]].blocks if it.name == key[2] and it.kind not in ("impl", "mod"))
+        """The file and the block of a type or function that a path found."""
+        file = self.files[key[0], key[1].removeprefix("src").removeprefix(".")]
+        return file, next(it for it in file.blocks if it.name == key[2] and it.kind not in ("impl", "mod"))
 
     def variant_names(self, key):
-        block = self.block_of(key)
-        return {name for name, _ in self.files[key[0], key[1][4:]].variants(block)} if block.kind == "enum" else set()
+        file, block = self.block_of(key)
+        return {name for name, _ in file.variants(block)} if block.kind == "enum" else set()
 
     # ---- what other crates can name
 
     def public_paths(self):
-        """The items of src/ that other crates can name, each with its paths, the shortest first; exports to C by their names."""
+        """The items of src/ that other crates can name, or C, each with its paths, the shortest first."""
         found = collections.defaultdict(set)
         for crate in self.crates:
             if (crate, "") in self.files:
                 self.show(self.files[crate, ""], crate, found)
-        for key in list(self.items):
-            owner, _, member = key[2].partition("::")
-            if member and key in self.public_functions:
-                found[key] |= {f"{path}::{member}" for path in found.get((*key[:2], owner), ())}
-            elif " as " in key[2]:
-                found[key] |= {f"{path} as {key[2].split(' as ')[1]}" for path in found.get((*key[:2], key[2].split(" as ")[0]), ())}
+        for key, item in self.items.items():
+            owner, sign, member = re.match(r"([^ :]+)(::| as |)(.*)", key[2]).groups()
+            if sign and (item.kind == "ghosts" or key in self.public_functions):
+                found[key] |= {f"{path}{sign}{member}" for path in found.get((*key[:2], owner), ())}
         found.update({key: {f"{key[0]}::{key[2]}"} for key in self.exports})
         return {key: sorted(paths, key=len) for key, paths in found.items() if paths}
 
@@ -415,7 +209,7 @@ class Sources:
                 inner = self.files.get((file.crate, ".".join(filter(None, [file.module, block.name]))))
                 if inner:
                     self.show(inner, f"{path}::{block.name}", found)
-            elif block.is_public and block.kind not in ("impl",):
+            elif block.is_public:
                 found[file.key(block.name)].add(f"{path}::{block.name}")
         for name, (target, is_public) in file.uses.items():
             key = self.resolved(file, target) if is_public else None
@@ -426,9 +220,9 @@ class Sources:
         """The scope of some `use` lines."""
         scope = {}
         for line in lines:
-            path, names = re.match(r"\s*(?:ghost )?use ([\w.]+?)(?:\.\{(.*)\}| as \w+)?;?$", line, re.DOTALL).groups()
-            if path.split(".")[1] not in self.crates:
-                self.foreign[where] |= {(path, name) for name in re.split(r"[\s,]+", names or "") if re.fullmatch(WORD, name)}
+            if found := re.match(r"(?:ghost )?use (Rattle\.(\w+)\.[\w.]+)\.\{(.*)\}", line, re.DOTALL):
+                names = re.split(r"[\s,]+", found[3]) if found[2] not in self.crates else []
+                self.foreign[where] |= {(found[1], name) for name in names if re.fullmatch(WORD, name)}
             try:
                 scope.update(imports_of(line, self.module_names))
             except LookupError as error:
@@ -487,27 +281,24 @@ class Sources:
 
     def add_types(self, file):
         lines = re.findall(r"^ghost use [^;]+;", file.code, re.MULTILINE)
-        scope = file.scope = {**self.rust_scope(file), **self.imported(lines, file.path)}
+        file.scope = {**self.rust_scope(file), **self.imported(lines, file.path)}
         for name, block in file.types.items():
-            if block.kind == "trait":
-                continue
-            places = self.enum_places(file, block)
-            pieces = []
-            for number, (start, end) in enumerate(zip(places, [*places[1:], block.end])):
-                code = file.code[start:end]
-                variant = re.search(r"^ *([A-Z]\w*)", code, re.MULTILINE) if number else None
-                code = code[variant.end() :] if variant else code
-                used = used_names(code, scope, set(re.findall(r"\b([a-z]\w*)\s*:(?!:)", code)) | bound_names(code))
-                text = outer_attributes(file.text[start:end]).rstrip("\n")
-                patterns = {(*file.key(name), variant[1])} if variant else set()
-                pieces.append(Piece(text, {it for it in used if it[:3] != file.key(name)}, patterns, "rule" if variant else "head"))
-            self.items[file.key(name)] = Item(file.key(name), block.kind, file.path, file.line(block.head), pieces)
+            if block.kind != "trait":
+                pieces = list(self.type_pieces(file, block, file.key(name)))
+                self.items[file.key(name)] = Item(file.key(name), block.kind, file.path, file.line(block.head), pieces)
 
-    def enum_places(self, file, block):
-        """Where an enum's head, its variants and its end begin."""
-        if block.kind != "enum":
-            return [block.start]
-        return [block.start, *(doc_start(file.text, file.text.rfind("\n", 0, place) + 1) for _, place in file.variants(block))]
+    def type_pieces(self, file, block, key):
+        """Yields a type or constant; an enum's head and each of its variants."""
+        places = [file.text.rfind("\n", 0, place) + 1 for _, place in file.variants(block)] if block.kind == "enum" else []
+        places = [block.start, *(doc_start(file.text, place) for place in places)]
+        for number, (start, end) in enumerate(zip(places, [*places[1:], block.end])):
+            code = file.code[start:end]
+            variant = re.search(r"^ *([A-Z]\w*)", code, re.MULTILINE) if number else None
+            code = code[variant.end() :] if variant else code
+            fields = set(re.findall(r"\b([a-z]\w*)\s*:(?!:)", code))
+            uses = {use for use in used_names(code, file.scope, fields | bound_names(code)) if use[:3] != key}
+            text = without_attributes(file.text[start:end]).rstrip("\n")
+            yield Piece(text, uses, {(*key, variant[1])} if variant else set(), "rule" if variant else "head")
 
     def add_contracts(self, file):
         for block in file.blocks:
@@ -536,8 +327,7 @@ class Sources:
 
     def add_function(self, file, block, key, scope, own_uses):
         head = file.code[block.head : block.end_of_head].partition(block.name)[2]
-        params = set(re.findall(r"(?:[(,]|\bmut|\bghost)\s*(\w+)\s*:(?!:)", head))
-        uses = used_names(head, scope, params | bound_names(head)) | own_uses
+        uses = used_names(head, scope, set(PARAMETER.findall(head)) | bound_names(head)) | own_uses
         text = file.cut(block.start, block.end_of_head).rstrip()
         self.items[key] = Item(key, "fn", file.path, file.line(block.head), [Piece(text, uses)])
         if block.is_public:
@@ -547,21 +337,20 @@ class Sources:
 
     def add_trait(self, file, block, key, scope):
         """A trait: its ghost members and its contracts, without bodies."""
-        text, uses, at = file.text[block.start : block.end_of_head + 1], set(), block.end_of_head + 1
+        text, at = file.text[block.start : block.end_of_head + 1], block.end_of_head + 1
         for member in file.blocks_in(block.end_of_head + 1, block.end, "    "):
             if member.kind == "fn":
                 text += file.text[at : member.end_of_head].rstrip() + ";"
                 at = member.end
         text += file.text[at : block.end]
         code = blanked(text, "//")
-        members = set(re.findall(r"ghost (\w+):|fn (\w+)", code))
-        names = {name for pair in members for name in pair}
-        uses = used_names(code, scope, names | bound_names(code) | set(re.findall(r"[(,]\s*(\w+)\s*:(?!:)", code)))
-        text = re.sub(r"^ *ghost use [^;]+;\n", "", outer_attributes(text), flags=re.MULTILINE)
+        members = set(re.findall(r"(?:ghost|fn) (\w+)", code))
+        uses = used_names(code, scope, members | bound_names(code) | set(PARAMETER.findall(code)))
+        text = re.sub(r"^ *ghost use [^;]+;\n", "", without_attributes(text), flags=re.MULTILINE)
         self.items[key] = Item(key, "trait", file.path, file.line(block.head), [Piece(dedent(text), uses - {key})])
 
     def add_ghosts(self, file, block, key, trait, scope):
-        """What contracts see of a type: the ghost members that an impl gives, but invariants and how values are coded."""
+        """What contracts see of a type: the ghost members of an impl, but invariants and how values are coded."""
         inside = file.code[block.end_of_head + 1 : block.end - 1]
         texts, uses = [], set()
         for found in re.finditer(r"^    ghost (\w+)\s*=\s*\{", inside, re.MULTILINE):
@@ -576,8 +365,7 @@ class Sources:
             head = re.sub(r"\s+", " ", file.text[block.head : block.end_of_head]).strip()
             text = "\n".join([f"{head} {{", *texts, "}"])
             ghosts = (key[0], key[1], f"{key[2]} as {trait}")
-            item = Item(ghosts, "ghosts", file.path, file.line(block.head), [Piece(text, uses | {key})])
-            self.items[ghosts] = item
+            self.items[ghosts] = Item(ghosts, "ghosts", file.path, file.line(block.head), [Piece(text, uses | {key})])
             if trait == "Model" and key in self.items:
                 self.items[key].pieces[0].uses.add(ghosts)
 
