@@ -215,7 +215,7 @@ def case_names(piece):
     if piece.kind == "rule":
         return [use[3] for use in piece.patterns]
     chosen = sorted(use[3] for use in piece.patterns if use[:3] in CHOICES)
-    return chosen or [" ".join(piece.text.split("=")[0].split()[1:])]
+    return chosen or [blanked(piece.text, "--").split()[1]]
 
 
 def heading(sources, path):

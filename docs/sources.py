@@ -137,7 +137,8 @@ class Sources:
         if rest[-1] == "TheConstants":
             file = self.files[crate, ".".join(rest[:-1])] if len(rest) > 1 else None
             files = [file] if file else [it for it in self.files.values() if it.crate == crate]
-            return {name: it.key(name) for it in files for name in it.types if it.types[name].kind in ("const", "static")}
+            kinds = ("const", "static")
+            return {name: it.key(name) for it in files for name in it.types if it.types[name].kind in kinds}
         variants = rest[-1] in ("TheVariants", "TheViews")
         *module, name = rest[:-1] if variants else rest
         file = self.files.get((crate, ".".join(module)))
