@@ -1,5 +1,5 @@
-"""What the crates define and promise: the definitions of specs/, and the types and contracts of src/, each with the names
-that it uses.
+"""What the crates define and promise: the definitions of specs/, and the types and contracts of src/, each with the
+names that it uses.
 
 An item has a key: its crate, its module and its name, as ("cap_io", "specs.Text", "text"), so that two definitions of
 one name are two. A use is the key of an item; that of a variant or constructor has its name behind it. Definitions of
@@ -290,8 +290,9 @@ class Sources:
 
     def type_pieces(self, file, block, key):
         """Yields a type or constant; an enum's head and each of its variants."""
-        places = [file.text.rfind("\n", 0, place) + 1 for _, place in file.variants(block)] if block.kind == "enum" else []
-        places = [block.start, *(doc_start(file.text, place) for place in places)]
+        variants = file.variants(block) if block.kind == "enum" else []
+        lines = [file.text.rfind("\n", 0, place) + 1 for _, place in variants]
+        places = [block.start, *(doc_start(file.text, line) for line in lines)]
         for number, (start, end) in enumerate(zip(places, [*places[1:], block.end])):
             code = file.code[start:end]
             variant = re.search(r"^ *([A-Z]\w*)", code, re.MULTILINE) if number else None
