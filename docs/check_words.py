@@ -14,7 +14,7 @@ import re
 import sys
 
 ROOT = pathlib.Path(__file__).resolve().parent.parent
-PATTERNS = ["README.md", "CONTRIBUTING.md", "CHANGELOG.md", "docs/**/*.md", "crates/*/src/**/*.rt", "crates/*/specs/*.antt"]
+PATTERNS = ["README.md", "CONTRIBUTING.md", "CHANGELOG.md", "docs/**/*.md", "crates/*/src/**/*.rt", "crates/*/specs/**/*.antt"]
 COMMENTS = {".rt": re.compile(r"(?:^|\s)//[/!]?\s(.*)"), ".antt": re.compile(r"(?:^|\s)--\s(.*)")}
 WORDS = [
     (r"\banswers? other than 0\b|\bsays yes\b", "accepts the packet, returns non-zero"),
@@ -55,7 +55,7 @@ PARTICIPLES = {"captured", "checked"}
 def definitions():
     """Yields what is wrong with the names of the definitions in specs/."""
     homes = collections.defaultdict(list)
-    for path in sorted(ROOT.glob("crates/*/specs/*.antt")):
+    for path in sorted(ROOT.glob("crates/*/specs/**/*.antt")):
         for name in DEFINITION.findall(path.read_text()):
             homes[name].append(path.relative_to(ROOT))
     for name, paths in homes.items():
