@@ -38,10 +38,7 @@ fn is_header_length(node: Node) -> bool {
 fn is_sum(node: Node) -> bool {
     matches!(
         node.operation(),
-        Some(Operation::Compute(
-            AluOperation::Add,
-            Operand::IndexRegister
-        ))
+        Some(Operation::Compute(AluOperation::Add, Operand::IndexRegister))
     )
 }
 

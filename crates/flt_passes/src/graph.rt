@@ -1,7 +1,8 @@
 //! Code as a graph: its instructions, each with those where a run goes on.
 
 use flt_bpf::Wide;
-use flt_bpf::operation::{Operation, decode};
+use flt_bpf::operation::{Operation, Test, decode};
+use flt_opt::test_of;
 use std::alloc::{AllocError, Allocator};
 
 /// No node.
@@ -61,6 +62,11 @@ impl Node {
 
     pub(crate) fn operation(&self) -> Option<Operation> {
         decode(self.code)
+    }
+
+    /// What it asks of A and a number, if it is a test of that kind.
+    pub(crate) fn test(&self) -> Option<Test> {
+        test_of(self.operation()?)
     }
 
     pub(crate) fn flow(&self) -> Flow {

@@ -2,11 +2,15 @@
 #![tactic(auto)]
 
 mod bits;
+mod follow;
 mod graph;
+mod known;
 mod live;
 mod order;
 mod pass;
+mod sets;
 mod share;
+mod thread;
 mod write;
 
 pub use pass::{Pass, passed};

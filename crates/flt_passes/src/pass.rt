@@ -3,6 +3,7 @@
 use crate::bits::with_bits;
 use crate::graph::nodes_of;
 use crate::share::shared;
+use crate::thread::threaded;
 use crate::write::written;
 use flt_bpf::Wide;
 use std::alloc::{AllocError, Allocator};
@@ -10,6 +11,8 @@ use std::alloc::{AllocError, Allocator};
 /// What is done to code.
 #[derive(Clone, Copy)]
 pub enum Pass {
+    /// Each test goes on as far as what is known decides.
+    Thread,
     /// One instruction for several that do the same, one after the other.
     Bits,
     /// One instruction for those that do the same in several places.
@@ -24,6 +27,7 @@ pub fn passed<A: Allocator + Clone>(
 ) -> Result<Option<Vec<Wide, A>>, AllocError> {
     let nodes = nodes_of(alloc.clone()?, code)?;
     let nodes = match pass {
+        Pass::Thread => threaded(alloc.clone()?, nodes)?,
         Pass::Bits => with_bits(alloc.clone()?, nodes)?,
         Pass::Share => shared(alloc.clone()?, nodes)?,
     };

@@ -61,7 +61,9 @@ impl<A: Allocator + Clone> Writer<'_, A> {
     fn put(&mut self, at: usize) -> Result<(), AllocError> {
         let insn = self.node(at).and_then(|node| self.insn(node));
         let mut place = 0;
-        if let Some(insn) = insn && self.backwards.len() < self.most {
+        if let Some(insn) = insn
+            && self.backwards.len() < self.most
+        {
             self.backwards.push(insn)?;
             place = self.backwards.len();
         }
@@ -118,7 +120,12 @@ fn last_before<A: Allocator>(alloc: A, nodes: &[Node]) -> Result<Vec<usize, A>, 
 
 impl<A: Allocator + Clone> Writer<'_, A> {
     /// Puts the instructions that just go on to a node in front of it, one before the other.
-    fn put_those_before(&mut self, at: usize, before: &[usize], alloc: A) -> Result<(), AllocError> {
+    fn put_those_before(
+        &mut self,
+        at: usize,
+        before: &[usize],
+        alloc: A,
+    ) -> Result<(), AllocError> {
         let mut last = entry_at(before, at);
         for _ in 0..self.nodes.len() {
             if last == NOWHERE || self.place(last) != 0 {
