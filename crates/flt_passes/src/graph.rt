@@ -40,7 +40,7 @@ pub(crate) struct Node {
 }
 
 /// The index so many instructions behind the next one.
-fn behind(at: usize, skipped: u32) -> usize {
+pub(crate) fn behind(at: usize, skipped: u32) -> usize {
     at.saturating_add(1).saturating_add(skipped as usize)
 }
 
