@@ -1,4 +1,5 @@
-//! Shorter and quicker code for code: passes over a graph of its instructions.
+//! Shorter and quicker code for code: passes over a graph of its instructions. No pass is trusted:
+//! what it makes is taken only where `flt_opt` sees that it returns the same.
 #![tactic(auto)]
 
 mod bits;
@@ -7,6 +8,7 @@ mod follow;
 mod graph;
 mod known;
 mod live;
+mod optimise;
 mod order;
 mod pass;
 mod rules;
@@ -16,4 +18,5 @@ mod thread;
 mod walk;
 mod write;
 
+pub use optimise::{Improved, optimised, optimised_counted};
 pub use pass::{Pass, passed};
