@@ -3,9 +3,12 @@
 #![tactic(auto)]
 
 mod bits;
+mod edges;
 mod finder;
 mod follow;
+mod gather;
 mod graph;
+mod held;
 mod known;
 mod live;
 mod optimise;

@@ -1,6 +1,7 @@
 //! A pass over code.
 
 use crate::bits::with_bits;
+use crate::gather::gathered;
 use crate::graph::nodes_of;
 use crate::share::shared;
 use crate::thread::threaded;
@@ -13,6 +14,8 @@ use std::alloc::{AllocError, Allocator};
 pub enum Pass {
     /// Each test goes on as far as what is known decides.
     Thread,
+    /// Chains of tests go field by field.
+    Gather,
     /// One instruction for several that do the same, one after the other.
     Bits,
     /// One instruction for those that do the same in several places.
@@ -28,6 +31,7 @@ pub fn passed<A: Allocator + Clone>(
     let nodes = nodes_of(alloc.clone()?, code)?;
     let nodes = match pass {
         Pass::Thread => threaded(alloc.clone()?, nodes)?,
+        Pass::Gather => gathered(alloc.clone()?, nodes)?,
         Pass::Bits => with_bits(alloc.clone()?, nodes)?,
         Pass::Share => shared(alloc.clone()?, nodes)?,
     };
