@@ -3,6 +3,7 @@
 use crate::bits::with_bits;
 use crate::gather::gathered;
 use crate::graph::nodes_of;
+use crate::search::with_searches;
 use crate::share::shared;
 use crate::thread::threaded;
 use crate::write::written;
@@ -18,6 +19,8 @@ pub enum Pass {
     Gather,
     /// One instruction for several that do the same, one after the other.
     Bits,
+    /// Tests of one register become a search by halves.
+    Search,
     /// One instruction for those that do the same in several places.
     Share,
 }
@@ -33,6 +36,7 @@ pub fn passed<A: Allocator + Clone>(
         Pass::Thread => threaded(alloc.clone()?, nodes)?,
         Pass::Gather => gathered(alloc.clone()?, nodes)?,
         Pass::Bits => with_bits(alloc.clone()?, nodes)?,
+        Pass::Search => with_searches(alloc.clone()?, nodes)?,
         Pass::Share => shared(alloc.clone()?, nodes)?,
     };
     let most = code.len().saturating_mul(2);
