@@ -14,7 +14,7 @@ use flt_bpf::operation::Test;
 
 /// What a test has shown: a term's value, if it has one, is in one of two pieces.
 #[derive(Clone, Copy)]
-pub(crate) struct Learnt {
+pub struct Learnt {
     pub term: Term,
     pub below: Piece,
     pub above: Piece,
@@ -22,7 +22,7 @@ pub(crate) struct Learnt {
 
 /// What is known of a packet.
 #[derive(Clone, Copy)]
-pub(crate) struct Knowledge<'a> {
+pub struct Knowledge<'a> {
     pub facts: &'a [Fact],
     pub pieces: &'a [Piece],
     pub learnt: &'a [Learnt],
@@ -89,7 +89,7 @@ fn past(k: u32) -> Piece
 }
 
 /// What the outcome of a test of a register with a number shows, where the register holds a term.
-pub(crate) fn outcome(test: Test, k: u32, term: Term, holds: bool) -> Learnt
+pub fn outcome(test: Test, k: u32, term: Term, holds: bool) -> Learnt
     ensures { result ≡ outcome test k term holds }
 {
     let (term, below, above) = match (test, holds) {
@@ -234,7 +234,7 @@ fn is_possible(outcome: &Learnt, knowledge: &Knowledge) -> bool
 }
 
 /// Whether a test of a register with a number holds, where that is known.
-pub(crate) fn decided(test: Test, k: u32, term: Term, knowledge: &Knowledge) -> Option<bool>
+pub fn decided(test: Test, k: u32, term: Term, knowledge: &Knowledge) -> Option<bool>
     ensures { IfSome result (IsDecided test k term knowledge.now.facts.now
         knowledge.now.pieces.now knowledge.now.learnt.now) }
 {

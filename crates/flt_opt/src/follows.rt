@@ -72,7 +72,7 @@ fn is_constant(term: Term) -> bool
 }
 
 /// A term has a value, by what is known.
-pub(crate) fn is_there(term: Term, facts: &[Fact], both: &Both) -> bool
+pub fn is_there(term: Term, facts: &[Fact], both: &Both) -> bool
     ensures { IsTrue result → IsThere term facts.now both.now }
 {
     if is_constant(term) {
@@ -166,7 +166,7 @@ fn same_number(new: Term, old: Term) -> bool
 }
 
 /// A is the same in both runs.
-pub(crate) fn same_accumulator(both: &Both) -> bool
+pub fn same_accumulator(both: &Both) -> bool
     ensures { IsTrue result → (p : List ℕ) (n : ℕ) (new old : State) → Agree p n both.now new old
         → new.accumulator ≡ old.accumulator }
 {
@@ -174,7 +174,7 @@ pub(crate) fn same_accumulator(both: &Both) -> bool
 }
 
 /// X is the same in both runs.
-pub(crate) fn same_index(both: &Both) -> bool
+pub fn same_index(both: &Both) -> bool
     ensures { IsTrue result → (p : List ℕ) (n : ℕ) (new old : State) → Agree p n both.now new old
         → new.index ≡ old.index }
 {

@@ -11,14 +11,14 @@ use crate::note::{Both, Load, Registers, Term};
 use flt_bpf::operation::{AluOperation, Operand, Operation, Register, Source, Test, Width};
 
 /// Something is known of it.
-pub(crate) fn is_known(term: Term) -> bool
+pub fn is_known(term: Term) -> bool
     ensures { result ≡ is_known term }
 {
     !matches!(term, Term::Anything)
 }
 
 /// Two terms are the same.
-pub(crate) fn same_term(one: Term, other: Term) -> bool
+pub fn same_term(one: Term, other: Term) -> bool
     ensures { IsTrue result → one ≡ other }
 {
     one == other
@@ -55,7 +55,7 @@ fn mask_of(mask: Option<u32>, k: u32) -> u32
 }
 
 /// A term under a mask.
-pub(crate) fn masked(term: Term, k: u32) -> Term
+pub fn masked(term: Term, k: u32) -> Term
     ensures { result ≡ masked term k }
 {
     match term {
@@ -131,7 +131,7 @@ fn index_after(operation: Operation, k: u32, registers: Registers) -> Term
 }
 
 /// What the registers hold after an operation.
-pub(crate) fn after(operation: Operation, k: u32, registers: Registers) -> Registers
+pub fn after(operation: Operation, k: u32, registers: Registers) -> Registers
     ensures { result ≡ after operation k registers }
 {
     Registers {
@@ -141,7 +141,7 @@ pub(crate) fn after(operation: Operation, k: u32, registers: Registers) -> Regis
 }
 
 /// The test of a register with a number that an operation is.
-pub(crate) fn test_of(operation: Operation) -> Option<Test>
+pub fn test_of(operation: Operation) -> Option<Test>
     ensures { result ≡ test_of operation }
 {
     match operation {
@@ -151,7 +151,7 @@ pub(crate) fn test_of(operation: Operation) -> Option<Test>
 }
 
 /// An operation reads A.
-pub(crate) fn reads_accumulator(operation: Operation) -> bool
+pub fn reads_accumulator(operation: Operation) -> bool
     ensures { result ≡ reads_accumulator operation }
 {
     matches!(
@@ -166,7 +166,7 @@ pub(crate) fn reads_accumulator(operation: Operation) -> bool
 }
 
 /// It reads X.
-pub(crate) fn reads_index(operation: Operation) -> bool
+pub fn reads_index(operation: Operation) -> bool
     ensures { result ≡ reads_index operation }
 {
     matches!(
@@ -180,7 +180,7 @@ pub(crate) fn reads_index(operation: Operation) -> bool
 }
 
 /// It puts something into A.
-fn sets_accumulator(operation: Operation) -> bool
+pub fn sets_accumulator(operation: Operation) -> bool
     ensures { result ≡ sets_accumulator operation }
 {
     matches!(
@@ -195,7 +195,7 @@ fn sets_accumulator(operation: Operation) -> bool
 }
 
 /// It puts something into X.
-fn sets_index(operation: Operation) -> bool
+pub fn sets_index(operation: Operation) -> bool
     ensures { result ≡ sets_index operation }
 {
     matches!(
@@ -205,7 +205,7 @@ fn sets_index(operation: Operation) -> bool
 }
 
 /// What is known after both runs did an operation with the same operands.
-pub(crate) fn after_both(operation: Operation, k: u32, both: Both) -> Both
+pub fn after_both(operation: Operation, k: u32, both: Both) -> Both
     ensures { result ≡ after_both operation k both }
 {
     Both {
@@ -217,7 +217,7 @@ pub(crate) fn after_both(operation: Operation, k: u32, both: Both) -> Both
 }
 
 /// What is known after the old run alone did it.
-pub(crate) fn after_old(operation: Operation, k: u32, both: Both) -> Both
+pub fn after_old(operation: Operation, k: u32, both: Both) -> Both
     ensures { result ≡ after_old operation k both }
 {
     Both {
@@ -229,7 +229,7 @@ pub(crate) fn after_old(operation: Operation, k: u32, both: Both) -> Both
 }
 
 /// What is known after the new run alone did it.
-pub(crate) fn after_new(operation: Operation, k: u32, both: Both) -> Both
+pub fn after_new(operation: Operation, k: u32, both: Both) -> Both
     ensures { result ≡ after_new operation k both }
 {
     Both {
@@ -241,7 +241,7 @@ pub(crate) fn after_new(operation: Operation, k: u32, both: Both) -> Both
 }
 
 /// The term that an operation makes.
-pub(crate) fn asked(operation: Operation, k: u32, registers: Registers) -> Term
+pub fn asked(operation: Operation, k: u32, registers: Registers) -> Term
     ensures { result ≡ asked operation k registers }
 {
     match operation {
@@ -251,7 +251,7 @@ pub(crate) fn asked(operation: Operation, k: u32, registers: Registers) -> Term
 }
 
 /// An operation leads on and changes no word, if what it loads is `there`.
-pub(crate) fn is_sure(operation: Operation, k: u32, there: bool) -> bool
+pub fn is_sure(operation: Operation, k: u32, there: bool) -> bool
     ensures { result ≡ is_sure operation k there }
 {
     match operation {
