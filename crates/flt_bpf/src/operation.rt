@@ -15,7 +15,7 @@ pub enum Register {
 }
 
 /// How many bytes of the packet a load takes: 4, 2 or 1.
-#[derive(Clone, Copy)]
+#[derive(Clone, Copy, PartialEq, Eq)]
 pub enum Width {
     Word,
     HalfWord,

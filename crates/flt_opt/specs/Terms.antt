@@ -1,0 +1,259 @@
+-- What the terms of notes mean, and what the registers hold after an instruction.
+use Rattle.std.specs.Prelude.{◌≡◌, ℕ, ◌+◌, ◌%◌, ◌^◌, Bool, true, false, not, ◌&&◌, ◌||◌, ◌==◌, List, Option, Some, None, bit_and}
+use Rattle.std.specs.Option.{option_map}
+use Rattle.flt_bpf.specs.declared.machine.State.{State}
+use Rattle.flt_bpf.specs.declared.operation.Operation.{Operation}
+use Rattle.flt_bpf.specs.declared.operation.Operation.TheVariants.{LoadAbsolute, LoadIndirect, Load as LoadRegister, LoadHeaderLength, Store, Compute, Negate, Jump, JumpIf, ReturnConstant, ReturnAccumulator, CopyToIndex, CopyToAccumulator}
+use Rattle.flt_bpf.specs.declared.operation.Register.TheVariants.{Accumulator, Index}
+use Rattle.flt_bpf.specs.declared.operation.Source.TheVariants.{Immediate, Memory, Length as OriginalLength}
+use Rattle.flt_bpf.specs.declared.operation.Width.{Width}
+use Rattle.flt_bpf.specs.declared.operation.Width.TheVariants.{Byte}
+use Rattle.flt_bpf.specs.declared.operation.AluOperation.{AluOperation}
+use Rattle.flt_bpf.specs.declared.operation.AluOperation.TheVariants.{Add, And, Divide, Remainder}
+use Rattle.flt_bpf.specs.declared.operation.Operand.{Operand}
+use Rattle.flt_bpf.specs.declared.operation.Operand.TheVariants.{Constant, IndexRegister}
+use Rattle.flt_bpf.specs.declared.operation.Test.{Test}
+use Rattle.flt_bpf.specs.Machine.{field, header_length}
+use Rattle.flt_opt.specs.declared.note.Load.{Load}
+use Rattle.flt_opt.specs.declared.note.Term.{Term}
+use Rattle.flt_opt.specs.declared.note.Term.TheVariants.{Anything, Number, Length, Field, HeaderLength}
+use Rattle.flt_opt.specs.declared.note.Registers.{Registers}
+use Rattle.flt_opt.specs.declared.note.Both.{Both}
+
+-- the length of the header that begins at a place, if its first byte is there
+abbrev pub header_at : List ℕ → ℕ → Option ℕ
+header_at p at = option_map header_length (field p at Byte)
+
+-- the number so far past a header of a length
+abbrev pub past : List ℕ → Width → ℕ → Option ℕ → Option ℕ
+past p width at None = None
+past p width at (Some length) = field p ((length + at) % 2 ^ 32) width
+
+-- the same, or at a fixed place
+abbrev pub bare : List ℕ → Width → ℕ → Option ℕ → Option ℕ
+bare p width at None = field p at width
+bare p width at (Some header) = past p width at (header_at p header)
+
+abbrev pub under : Option ℕ → ℕ → ℕ
+under None v = v
+under (Some mask) v = bit_and v mask
+
+-- the number that a load takes from a packet, if it is there
+abbrev pub loaded : List ℕ → Load → Option ℕ
+loaded p l = option_map (under l.mask) (bare p l.width l.at l.header)
+
+-- the number that a term is on a packet of an original length
+abbrev pub value : List ℕ → ℕ → Term → Option ℕ
+value p n Anything = None
+value p n (Number k) = Some k
+value p n Length = Some n
+value p n (Field l) = loaded p l
+value p n (HeaderLength at more) = option_map (λ l. (l + more) % 2 ^ 32) (header_at p at)
+
+abbrev pub is_known : Term → Bool
+is_known Anything = false
+is_known _ = true
+
+-- a term has a value
+pub record There (p : List ℕ) (n : ℕ) (t : Term) : Type 0 where
+  pub number : ℕ
+  pub is : value p n t ≡ Some number
+
+-- a register holds what a term says
+pub record Holds (p : List ℕ) (n : ℕ) (t : Term) (number : ℕ) : Type 0 where
+  pub is : is_known t ≡ true → value p n t ≡ Some number
+
+pub record Hold (p : List ℕ) (n : ℕ) (r : Registers) (s : State) : Type 0 where
+  pub accumulator : Holds p n r.accumulator s.accumulator
+  pub index : Holds p n r.index s.index
+
+-- the states of a new run and of an old one are as is known of them; their words are the same
+pub record Agree (p : List ℕ) (n : ℕ) (b : Both) (new old : State) : Type 0 where
+  pub new_registers : Hold p n b.new new
+  pub old_registers : Hold p n b.old old
+  pub accumulator : b.same_accumulator ≡ true → new.accumulator ≡ old.accumulator
+  pub index : b.same_index ≡ true → new.index ≡ old.index
+  pub memory : new.memory ≡ old.memory
+
+-- what A holds after a load at X and k, by what X holds
+abbrev pub indirect : Width → ℕ → Term → Term
+indirect width k (Number x) =
+    Field (record { width = width; at = (x + k) % 2 ^ 32; header = None; mask = None })
+indirect width k (HeaderLength at more) =
+    Field (record { width = width; at = (more + k) % 2 ^ 32; header = Some at; mask = None })
+indirect width k _ = Anything
+
+abbrev pub mask_of : Option ℕ → ℕ → ℕ
+mask_of None k = k
+mask_of (Some mask) k = bit_and mask k
+
+abbrev pub masked : Term → ℕ → Term
+masked (Number x) k = Number (bit_and x k)
+masked (Field l) k = Field (record l { mask = Some (mask_of l.mask k) })
+masked _ k = Anything
+
+abbrev pub sum : Term → Term → Term
+sum (Number k) (HeaderLength at more) = HeaderLength at ((more + k) % 2 ^ 32)
+sum _ _ = Anything
+
+abbrev pub computed : AluOperation → Operand → ℕ → Registers → Term
+computed And Constant k r = masked r.accumulator k
+computed Add IndexRegister k r = sum r.accumulator r.index
+computed _ _ k r = Anything
+
+-- what A holds after an operation
+abbrev pub accumulator_after : Operation → ℕ → Registers → Term
+accumulator_after (LoadAbsolute width) k r =
+    Field (record { width = width; at = k; header = None; mask = None })
+accumulator_after (LoadIndirect width) k r = indirect width k r.index
+accumulator_after (LoadRegister Accumulator Immediate) k r = Number k
+accumulator_after (LoadRegister Accumulator OriginalLength) k r = Length
+accumulator_after (LoadRegister Accumulator Memory) k r = Anything
+accumulator_after (Compute operator operand) k r = computed operator operand k r
+accumulator_after Negate k r = Anything
+accumulator_after CopyToAccumulator k r = r.index
+accumulator_after _ k r = r.accumulator
+
+-- what X holds after it
+abbrev pub index_after : Operation → ℕ → Registers → Term
+index_after (LoadRegister Index Immediate) k r = Number k
+index_after (LoadRegister Index OriginalLength) k r = Length
+index_after (LoadRegister Index Memory) k r = Anything
+index_after LoadHeaderLength k r = HeaderLength k 0
+index_after CopyToIndex k r = r.accumulator
+index_after _ k r = r.index
+
+abbrev pub after : Operation → ℕ → Registers → Registers
+after op k r = record { accumulator = accumulator_after op k r; index = index_after op k r }
+
+-- an operation reads A, or X
+abbrev pub reads_accumulator : Operation → Bool
+reads_accumulator (Store Accumulator) = true
+reads_accumulator (Compute operator operand) = true
+reads_accumulator Negate = true
+reads_accumulator (JumpIf test operand) = true
+reads_accumulator ReturnAccumulator = true
+reads_accumulator CopyToIndex = true
+reads_accumulator _ = false
+
+abbrev pub reads_index : Operation → Bool
+reads_index (LoadIndirect width) = true
+reads_index (Store Index) = true
+reads_index (Compute operator IndexRegister) = true
+reads_index (JumpIf test IndexRegister) = true
+reads_index CopyToAccumulator = true
+reads_index _ = false
+
+-- two runs have the same in A and X where an operation reads them
+pub record Reads (op : Operation) (s t : State) : Type 0 where
+  pub accumulator : reads_accumulator op ≡ true → s.accumulator ≡ t.accumulator
+  pub index : reads_index op ≡ true → s.index ≡ t.index
+
+-- it puts something into A, or into X
+abbrev pub sets_accumulator : Operation → Bool
+sets_accumulator (LoadAbsolute width) = true
+sets_accumulator (LoadIndirect width) = true
+sets_accumulator (LoadRegister Accumulator source) = true
+sets_accumulator (Compute operator operand) = true
+sets_accumulator Negate = true
+sets_accumulator CopyToAccumulator = true
+sets_accumulator _ = false
+
+abbrev pub sets_index : Operation → Bool
+sets_index (LoadRegister Index source) = true
+sets_index LoadHeaderLength = true
+sets_index CopyToIndex = true
+sets_index _ = false
+
+-- what is known of both runs after both did an operation with the same operands
+abbrev pub after_both : Operation → ℕ → Both → Both
+after_both op k b = record {
+  new = after op k b.new;
+  old = after op k b.old;
+  same_accumulator = sets_accumulator op || b.same_accumulator;
+  same_index = sets_index op || b.same_index;
+}
+
+-- after the old run alone did it
+abbrev pub after_old : Operation → ℕ → Both → Both
+after_old op k b = record b {
+  old = after op k b.old;
+  same_accumulator = not (sets_accumulator op) && b.same_accumulator;
+  same_index = not (sets_index op) && b.same_index;
+}
+
+-- after the new run alone did it
+abbrev pub after_new : Operation → ℕ → Both → Both
+after_new op k b = record b {
+  new = after op k b.new;
+  same_accumulator = not (sets_accumulator op) && b.same_accumulator;
+  same_index = not (sets_index op) && b.same_index;
+}
+
+-- the term that an operation makes, whose value is there only where the operation doesn't fail
+abbrev pub asked : Operation → ℕ → Registers → Term
+asked LoadHeaderLength k r = HeaderLength k 0
+asked op k r = accumulator_after op k r
+
+-- an operation that leads on doesn't fail, and changes no word; a load doesn't where its term has a
+-- value
+abbrev pub is_sure : Operation → ℕ → Bool → Bool
+is_sure (LoadAbsolute width) k there = there
+is_sure (LoadIndirect width) k there = there
+is_sure LoadHeaderLength k there = there
+is_sure (LoadRegister register Immediate) k there = true
+is_sure (LoadRegister register OriginalLength) k there = true
+is_sure (Compute Divide Constant) k there = not (k == 0)
+is_sure (Compute Divide IndexRegister) k there = false
+is_sure (Compute Remainder Constant) k there = not (k == 0)
+is_sure (Compute Remainder IndexRegister) k there = false
+is_sure (Compute operator operand) k there = true
+is_sure Negate k there = true
+is_sure CopyToIndex k there = true
+is_sure CopyToAccumulator k there = true
+is_sure _ k there = false
+
+-- what has to be there for a term to have a value
+abbrev pub source : Term → Term
+source (Field l) = Field (record l { mask = None })
+source (HeaderLength at more) = HeaderLength at 0
+source t = t
+
+-- a term that has a value on each packet
+abbrev pub is_constant : Term → Bool
+is_constant (Number k) = true
+is_constant Length = true
+is_constant _ = false
+
+-- the test of a register with a number that an operation is
+abbrev pub test_of : Operation → Option Test
+test_of (JumpIf test Constant) = Some test
+test_of _ = None
+
+-- an operation that leads to the next instruction, or fails
+abbrev pub leads_on : Operation → Bool
+leads_on Jump = false
+leads_on (JumpIf test operand) = false
+leads_on ReturnConstant = false
+leads_on ReturnAccumulator = false
+leads_on _ = true
+
+abbrev pub returns : Operation → Bool
+returns ReturnConstant = true
+returns ReturnAccumulator = true
+returns _ = false
+
+-- a load from the packet into A
+abbrev pub is_load : Operation → Bool
+is_load (LoadAbsolute width) = true
+is_load (LoadIndirect width) = true
+is_load _ = false
+
+-- what is known after both runs loaded one field
+abbrev pub after_loads : Term → Both → Both
+after_loads t b = record {
+  new = record { accumulator = t; index = b.new.index };
+  old = record { accumulator = t; index = b.old.index };
+  same_accumulator = true;
+  same_index = b.same_index;
+}

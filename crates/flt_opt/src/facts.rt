@@ -1,0 +1,252 @@
+//! Which numbers a term may be, by what is known of a packet.
+
+ghost use Rattle.std.specs.Prelude.{◌≡◌, ℕ, ◌<◌, true, false, List, length, IfSome, IsTrue};
+ghost use Rattle.flt_opt.specs.Facts.{in_piece};
+ghost use Rattle.flt_opt.specs.Facts.{before, only, starting, past, outcome, IsWithin, NeverIs};
+ghost use Rattle.flt_opt.specs.Facts.{IsIn, part, HasNumbers, NeverSo, NeverAmong, CannotBe};
+ghost use Rattle.flt_opt.specs.Facts.{IsDecided};
+ghost use Rattle.flt_opt.specs.Terms.{value};
+ghost use Rattle.flt_opt.specs.declared.note.Piece.{Piece};
+
+use crate::note::{Fact, Piece, Span, Term};
+use crate::terms::{is_known, masked, same_term};
+use flt_bpf::operation::Test;
+
+/// What a test has shown: a term's value, if it has one, is in one of two pieces.
+#[derive(Clone, Copy)]
+pub struct Learnt {
+    pub term: Term,
+    pub below: Piece,
+    pub above: Piece,
+}
+
+/// What is known of a packet.
+#[derive(Clone, Copy)]
+pub struct Knowledge<'a> {
+    pub facts: &'a [Fact],
+    pub pieces: &'a [Piece],
+    pub learnt: &'a [Learnt],
+}
+
+/// Part of a list of pieces, or nothing where it has no such part.
+pub(crate) fn part(pieces: &[Piece], span: Span) -> &[Piece]
+    ensures { result.now ≡ part pieces.now span }
+{
+    if span.start <= span.end && span.end <= pieces.len() {
+        &pieces[span.start..span.end]
+    } else {
+        &[]
+    }
+}
+
+/// Part of a list of facts, or nothing where it has no such part.
+pub(crate) fn facts_in(facts: &[Fact], span: Span) -> &[Fact]
+    ensures { result.now ≡ part facts.now span }
+{
+    if span.start <= span.end && span.end <= facts.len() {
+        &facts[span.start..span.end]
+    } else {
+        &[]
+    }
+}
+
+/// The numbers below one.
+fn before(k: u32) -> Piece
+    ensures { result ≡ before k }
+{
+    if k == 0 {
+        Piece { low: 1, high: 0 }
+    } else {
+        Piece {
+            low: 0,
+            high: k - 1,
+        }
+    }
+}
+
+/// One number.
+fn only(k: u32) -> Piece
+    ensures { result ≡ only k }
+{
+    Piece { low: k, high: k }
+}
+
+/// The numbers from one on.
+fn starting(k: u32) -> Piece
+    ensures { result ≡ starting k }
+{
+    Piece {
+        low: k,
+        high: u32::MAX,
+    }
+}
+
+/// The numbers past one, and perhaps the greatest.
+fn past(k: u32) -> Piece
+    ensures { result ≡ past k }
+{
+    starting(k.saturating_add(1))
+}
+
+/// What the outcome of a test of a register with a number shows, where the register holds a term.
+pub fn outcome(test: Test, k: u32, term: Term, holds: bool) -> Learnt
+    ensures { result ≡ outcome test k term holds }
+{
+    let (term, below, above) = match (test, holds) {
+        (Test::Equal, true) => (term, only(k), only(k)),
+        (Test::Equal, false) => (term, before(k), past(k)),
+        (Test::Greater, true) => (term, past(k), past(k)),
+        (Test::Greater, false) => (term, before(k), only(k)),
+        (Test::AtLeast, true) => (term, starting(k), starting(k)),
+        (Test::AtLeast, false) => (term, before(k), before(k)),
+        (Test::AnyBit, true) => (masked(term, k), past(0), past(0)),
+        (Test::AnyBit, false) => (masked(term, k), only(0), only(0)),
+    };
+    Learnt { term, below, above }
+}
+
+/// The numbers in both.
+fn overlap(one: Piece, other: Piece) -> Piece
+    ensures { (v : ℕ) → in_piece v one ≡ true → in_piece v other ≡ true
+        → in_piece v result ≡ true }
+{
+    Piece {
+        low: one.low.max(other.low),
+        high: one.high.min(other.high),
+    }
+}
+
+/// A term's value may be in a piece, by what tests have shown.
+fn may_be(piece: Piece, term: Term, learnt: &[Learnt]) -> bool
+    ensures { result ≡ false → NeverIs piece term learnt.now }
+{
+    match learnt {
+        [] => piece.low <= piece.high,
+        [first, rest @ ..] => {
+            if same_term(first.term, term) {
+                may_be(overlap(piece, first.below), term, rest)
+                    || may_be(overlap(piece, first.above), term, rest)
+            } else {
+                may_be(piece, term, rest)
+            }
+        }
+    }
+}
+
+/// The index, from another one on, of the piece in which all numbers of a piece are.
+fn place_of(piece: Piece, numbers: &[Piece], from: usize) -> Option<usize>
+    ensures { IfSome result (λ _. IsIn piece numbers.now) }
+{
+    for at in from..numbers.len() {
+        let other = numbers[at];
+        if piece.low <= other.high {
+            return if other.low <= piece.low && piece.high <= other.high {
+                Some(at)
+            } else {
+                None
+            };
+        }
+    }
+    None
+}
+
+/// A term's value is in the numbers if it is in a piece, by what tests have shown. Each part of the
+/// piece is looked for where the one before it was found.
+pub(crate) fn covered(
+    piece: Piece,
+    term: Term,
+    learnt: &[Learnt],
+    numbers: &[Piece],
+    from: usize,
+) -> Option<usize>
+    ensures { IfSome result (λ _. IsWithin piece term learnt.now numbers.now) }
+{
+    match learnt {
+        [] if piece.low > piece.high => Some(from),
+        [] => place_of(piece, numbers, from),
+        [first, rest @ ..] => {
+            if same_term(first.term, term) {
+                let next = covered(overlap(piece, first.below), term, rest, numbers, from)?;
+                covered(overlap(piece, first.above), term, rest, numbers, next)
+            } else {
+                covered(piece, term, rest, numbers, from)
+            }
+        }
+    }
+}
+
+/// Where the pieces of the first fact on a term are.
+pub(crate) fn numbers_of(term: Term, facts: &[Fact]) -> Option<Span>
+    ensures { IfSome result (λ span. (pieces : List Piece) → HasNumbers term span facts.now pieces) }
+{
+    for fact in facts {
+        if same_term(fact.term, term) {
+            return Some(fact.pieces);
+        }
+    }
+    None
+}
+
+/// The numbers that a term may be on any packet.
+pub(crate) fn numbers_at_most(term: Term) -> Piece
+    ensures { (p : List ℕ) (n number : ℕ) → value p n term ≡ Some number
+        → in_piece number result ≡ true }
+{
+    match term {
+        Term::Number(k) => only(k),
+        Term::Field(load) => match load.mask {
+            Some(mask) => Piece { low: 0, high: mask },
+            None => starting(0),
+        },
+        _ => starting(0),
+    }
+}
+
+/// The outcome of a test may be, where a term's value is in a piece.
+fn may_be_in(piece: Piece, outcome: &Learnt, learnt: &[Learnt]) -> bool
+    ensures { result ≡ false → NeverSo piece outcome.now learnt.now }
+{
+    may_be(overlap(piece, outcome.below), outcome.term, learnt)
+        || may_be(overlap(piece, outcome.above), outcome.term, learnt)
+}
+
+/// The same, where it is in one of the pieces.
+fn may_be_among(pieces: &[Piece], outcome: &Learnt, learnt: &[Learnt]) -> bool
+    ensures { result ≡ false → NeverAmong pieces.now outcome.now learnt.now }
+{
+    for piece in pieces {
+        if may_be_in(*piece, outcome, learnt) {
+            return true;
+        }
+    }
+    false
+}
+
+/// The outcome of a test may be.
+fn is_possible(outcome: &Learnt, knowledge: &Knowledge) -> bool
+    ensures { result ≡ false → CannotBe outcome.now knowledge.now.facts.now
+        knowledge.now.pieces.now knowledge.now.learnt.now }
+{
+    match numbers_of(outcome.term, knowledge.facts) {
+        None => may_be_in(numbers_at_most(outcome.term), outcome, knowledge.learnt),
+        Some(span) => may_be_among(part(knowledge.pieces, span), outcome, knowledge.learnt),
+    }
+}
+
+/// Whether a test of a register with a number holds, where that is known.
+pub fn decided(test: Test, k: u32, term: Term, knowledge: &Knowledge) -> Option<bool>
+    ensures { IfSome result (IsDecided test k term knowledge.now.facts.now
+        knowledge.now.pieces.now knowledge.now.learnt.now) }
+{
+    let holds = outcome(test, k, term, true);
+    let fails = outcome(test, k, term, false);
+    if !is_known(holds.term) {
+        None
+    } else if !is_possible(&fails, knowledge) {
+        Some(true)
+    } else if !is_possible(&holds, knowledge) {
+        Some(false)
+    } else {
+        None
+    }
+}

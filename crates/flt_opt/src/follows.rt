@@ -1,0 +1,231 @@
+//! Whether what is known at one place says all that a note claims of another one.
+
+ghost use Rattle.std.specs.Prelude.{◌≡◌, ℕ, true, List, IsTrue};
+ghost use Rattle.flt_bpf.specs.declared.machine.State.{State};
+ghost use Rattle.flt_opt.specs.Facts.{AllHold, IsThere, AreWithin, NumbersFollow};
+ghost use Rattle.flt_opt.specs.Facts.{FactFollows, FactsFollow};
+ghost use Rattle.flt_opt.specs.Terms.{There, Hold, Holds, Agree, source, is_constant};
+ghost use Rattle.flt_opt.specs.declared.note.Piece.{Piece};
+
+use crate::facts::{Knowledge, Learnt, covered, numbers_at_most, numbers_of, part};
+use crate::note::{Both, Fact, Load, Piece, Registers, Span, Term};
+use crate::terms::{is_known, same_term};
+
+/// What has to be there for a term to have a value.
+fn source(term: Term) -> Term
+    ensures { result ≡ source term }
+{
+    match term {
+        Term::Field(load) => Term::Field(Load {
+            width: load.width,
+            at: load.at,
+            header: load.header,
+            mask: None,
+        }),
+        Term::HeaderLength { at, .. } => Term::HeaderLength { at, more: 0 },
+        _ => term,
+    }
+}
+
+/// A term has a value where another one has.
+fn comes_with(wanted: Term, held: Term) -> bool
+    ensures { IsTrue result → (p : List ℕ) (n : ℕ) → There p n held → There p n wanted }
+{
+    same_term(source(held), source(wanted))
+}
+
+/// It has one where these are the registers of a run.
+fn in_registers(wanted: Term, registers: Registers) -> bool
+    ensures { IsTrue result → (p : List ℕ) (n : ℕ) (s : State) → Hold p n registers s
+        → There p n wanted }
+{
+    (is_known(registers.accumulator) && comes_with(wanted, registers.accumulator))
+        || (is_known(registers.index) && comes_with(wanted, registers.index))
+}
+
+/// It has one where this is known of the registers of both runs.
+fn in_either(wanted: Term, both: &Both) -> bool
+    ensures { IsTrue result → (p : List ℕ) (n : ℕ) (new old : State) → Agree p n both.now new old
+        → There p n wanted }
+{
+    in_registers(wanted, both.new) || in_registers(wanted, both.old)
+}
+
+/// It has one where the facts hold.
+fn in_facts(wanted: Term, facts: &[Fact]) -> bool
+    ensures { IsTrue result → (p : List ℕ) (n : ℕ) (pieces : List Piece)
+        → AllHold p n pieces facts.now → There p n wanted }
+{
+    for fact in facts {
+        if comes_with(wanted, fact.term) {
+            return true;
+        }
+    }
+    false
+}
+
+/// It has one on each packet.
+fn is_constant(term: Term) -> bool
+    ensures { result ≡ is_constant term }
+{
+    matches!(term, Term::Number(_) | Term::Length)
+}
+
+/// A term has a value, by what is known.
+pub fn is_there(term: Term, facts: &[Fact], both: &Both) -> bool
+    ensures { IsTrue result → IsThere term facts.now both.now }
+{
+    if is_constant(term) {
+        return true;
+    }
+    if in_either(term, both) {
+        return true;
+    }
+    in_facts(term, facts)
+}
+
+/// The value of a term is in the numbers, where it is in one of the pieces.
+// A piece is looked for from where the one before it was found: both lists ascend.
+fn are_within(pieces: &[Piece], term: Term, learnt: &[Learnt], numbers: &[Piece]) -> bool
+    ensures { IsTrue result → AreWithin pieces.now term learnt.now numbers.now }
+{
+    let mut from = 0;
+    for piece in pieces {
+        match covered(*piece, term, learnt, numbers, from) {
+            None => return false,
+            Some(at) => from = at,
+        }
+    }
+    true
+}
+
+/// The value of a fact's term is in its pieces, if it has one.
+fn numbers_follow(wanted: Fact, knowledge: &Knowledge) -> bool
+    ensures { IsTrue result → NumbersFollow wanted knowledge.now.facts.now
+        knowledge.now.pieces.now knowledge.now.learnt.now }
+{
+    let (pieces, learnt) = (knowledge.pieces, knowledge.learnt);
+    let numbers = part(pieces, wanted.pieces);
+    match numbers_of(wanted.term, knowledge.facts) {
+        None => covered(numbers_at_most(wanted.term), wanted.term, learnt, numbers, 0).is_some(),
+        Some(span) => {
+            same_span(span, wanted.pieces)
+                || are_within(part(pieces, span), wanted.term, learnt, numbers)
+        }
+    }
+}
+
+fn same_span(one: Span, other: Span) -> bool
+    ensures { IsTrue result → one ≡ other }
+{
+    one == other
+}
+
+/// A fact holds, by what is known.
+fn fact_follows(wanted: Fact, knowledge: &Knowledge, both: &Both) -> bool
+    ensures { IsTrue result → FactFollows wanted both.now knowledge.now.facts.now
+        knowledge.now.pieces.now knowledge.now.learnt.now }
+{
+    is_there(wanted.term, knowledge.facts, both) && numbers_follow(wanted, knowledge)
+}
+
+/// All facts hold, by what is known.
+pub(crate) fn facts_follow(wanted: &[Fact], knowledge: &Knowledge, both: &Both) -> bool
+    ensures { IsTrue result → FactsFollow wanted.now both.now knowledge.now.facts.now
+        knowledge.now.pieces.now knowledge.now.learnt.now }
+{
+    for fact in wanted {
+        if !fact_follows(*fact, knowledge, both) {
+            return false;
+        }
+    }
+    true
+}
+
+/// A register holds what a note says, where it holds a term.
+fn term_fits(known: Term, wanted: Term) -> bool
+    ensures { IsTrue result → (p : List ℕ) (n number : ℕ) → Holds p n known number
+        → Holds p n wanted number }
+{
+    !is_known(wanted) || same_term(known, wanted)
+}
+
+fn registers_fit(known: Registers, wanted: Registers) -> bool
+    ensures { IsTrue result → (p : List ℕ) (n : ℕ) (s : State) → Hold p n known s
+        → Hold p n wanted s }
+{
+    term_fits(known.accumulator, wanted.accumulator) && term_fits(known.index, wanted.index)
+}
+
+/// A register is the same in two runs, in which it holds these terms.
+fn same_number(new: Term, old: Term) -> bool
+    ensures { IsTrue result → (p : List ℕ) (n one other : ℕ) → Holds p n new one
+        → Holds p n old other → one ≡ other }
+{
+    is_known(new) && same_term(new, old)
+}
+
+/// A is the same in both runs.
+pub fn same_accumulator(both: &Both) -> bool
+    ensures { IsTrue result → (p : List ℕ) (n : ℕ) (new old : State) → Agree p n both.now new old
+        → new.accumulator ≡ old.accumulator }
+{
+    both.same_accumulator || same_number(both.new.accumulator, both.old.accumulator)
+}
+
+/// X is the same in both runs.
+pub fn same_index(both: &Both) -> bool
+    ensures { IsTrue result → (p : List ℕ) (n : ℕ) (new old : State) → Agree p n both.now new old
+        → new.index ≡ old.index }
+{
+    both.same_index || same_number(both.new.index, both.old.index)
+}
+
+/// What is known of the registers says all that a note says of them.
+pub(crate) fn fits(known: &Both, wanted: &Both) -> bool
+    ensures { IsTrue result → (p : List ℕ) (n : ℕ) (new old : State) → Agree p n known.now new old
+        → Agree p n wanted.now new old }
+{
+    registers_fit(known.new, wanted.new)
+        && registers_fit(known.old, wanted.old)
+        && (!wanted.same_accumulator || same_accumulator(known))
+        && (!wanted.same_index || same_index(known))
+}
+
+/// A term that is known either way.
+fn common_term(one: Term, other: Term) -> Term
+    ensures one { (p : List ℕ) (n number : ℕ) → Holds p n one number → Holds p n result number }
+    ensures other { (p : List ℕ) (n number : ℕ) → Holds p n other number
+        → Holds p n result number }
+{
+    if same_term(one, other) {
+        one
+    } else {
+        Term::Anything
+    }
+}
+
+fn common_registers(one: Registers, other: Registers) -> Registers
+    ensures one { (p : List ℕ) (n : ℕ) (s : State) → Hold p n one s → Hold p n result s }
+    ensures other { (p : List ℕ) (n : ℕ) (s : State) → Hold p n other s → Hold p n result s }
+{
+    Registers {
+        accumulator: common_term(one.accumulator, other.accumulator),
+        index: common_term(one.index, other.index),
+    }
+}
+
+/// What is known of the registers either way.
+pub(crate) fn common(one: &Both, other: &Both) -> Both
+    ensures one { (p : List ℕ) (n : ℕ) (new old : State) → Agree p n one.now new old
+        → Agree p n result new old }
+    ensures other { (p : List ℕ) (n : ℕ) (new old : State) → Agree p n other.now new old
+        → Agree p n result new old }
+{
+    Both {
+        new: common_registers(one.new, other.new),
+        old: common_registers(one.old, other.old),
+        same_accumulator: one.same_accumulator && other.same_accumulator,
+        same_index: one.same_index && other.same_index,
+    }
+}

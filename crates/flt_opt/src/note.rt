@@ -1,0 +1,98 @@
+//! What is known of two programs where a run of one stands for a run of the other.
+
+use flt_bpf::operation::Width;
+
+/// A number that a load takes from the packet.
+#[derive(Clone, Copy, PartialEq, Eq)]
+pub struct Load {
+    /// How many bytes it takes.
+    pub width: Width,
+    /// Where they begin: at so many bytes of the packet, or so many past the header.
+    pub at: u32,
+    /// Where the IPv4 header begins that they are past, if they are past one.
+    pub header: Option<u32>,
+    /// The bits of the number that are left, if not all of them.
+    pub mask: Option<u32>,
+}
+
+/// What a register holds.
+#[derive(Clone, Copy, PartialEq, Eq)]
+pub enum Term {
+    /// Nothing is known of it.
+    Anything,
+    /// This number.
+    Number(u32),
+    /// The original length of the packet.
+    Length,
+    /// A number from the packet, which is there.
+    Field(Load),
+    /// The length of the IPv4 header that begins at `at`, which is there, and `more`; modulo 2^32.
+    HeaderLength { at: u32, more: u32 },
+}
+
+/// The numbers from one to another. A `high` of `u32::MAX` is no bound.
+#[derive(Clone, Copy, PartialEq, Eq)]
+pub struct Piece {
+    pub low: u32,
+    pub high: u32,
+}
+
+/// Part of a list: from an index to before another one.
+#[derive(Clone, Copy, PartialEq, Eq)]
+pub struct Span {
+    pub start: usize,
+    pub end: usize,
+}
+
+/// A term has a value on the packet, which is in one of the pieces. They ascend.
+#[derive(Clone, Copy)]
+pub struct Fact {
+    pub term: Term,
+    pub pieces: Span,
+}
+
+/// What the registers of a run hold.
+#[derive(Clone, Copy, PartialEq, Eq)]
+pub struct Registers {
+    pub accumulator: Term,
+    pub index: Term,
+}
+
+/// What the registers of two runs hold.
+#[derive(Clone, Copy)]
+pub struct Both {
+    /// In the run of the new program.
+    pub new: Registers,
+    /// In the run of the old one.
+    pub old: Registers,
+    /// A is the same in both.
+    pub same_accumulator: bool,
+    /// X is the same in both.
+    pub same_index: bool,
+}
+
+/// A place of the new program and one of the old program from which both return the same, where so
+/// much is known of a run that comes there.
+#[derive(Clone, Copy)]
+pub struct Note {
+    /// The index of the instruction of the new program.
+    pub new: usize,
+    /// The index of the instruction of the old one.
+    pub old: usize,
+    pub registers: Both,
+    /// Which facts hold of the packet.
+    pub facts: Span,
+    /// The note where the new run goes on; after a test that holds, if it is a test.
+    pub yes: usize,
+    /// The note where it goes on after a test that doesn't hold.
+    pub no: usize,
+}
+
+/// The notes on two programs, with the lists that they share.
+#[derive(Clone, Copy)]
+pub struct Notes<'a> {
+    /// The first is for the beginning of both programs.
+    pub notes: &'a [Note],
+    pub facts: &'a [Fact],
+    pub pieces: &'a [Piece],
+}

@@ -1,0 +1,320 @@
+//! What the registers hold after an instruction.
+
+ghost use Rattle.std.specs.Prelude.{◌≡◌, IsTrue};
+ghost use Rattle.flt_opt.specs.Terms.{indirect, mask_of, masked, sum, computed, accumulator_after};
+ghost use Rattle.flt_opt.specs.Terms.{index_after, after, after_both, after_old, after_new, asked};
+ghost use Rattle.flt_opt.specs.Terms.{reads_accumulator, reads_index, sets_accumulator, sets_index};
+ghost use Rattle.flt_opt.specs.Terms.{is_known, is_sure, leads_on, returns, test_of};
+ghost use Rattle.flt_opt.specs.Terms.{after_loads, is_load};
+
+use crate::note::{Both, Load, Registers, Term};
+use flt_bpf::operation::{AluOperation, Operand, Operation, Register, Source, Test, Width};
+
+/// Something is known of it.
+pub fn is_known(term: Term) -> bool
+    ensures { result ≡ is_known term }
+{
+    !matches!(term, Term::Anything)
+}
+
+/// Two terms are the same.
+pub fn same_term(one: Term, other: Term) -> bool
+    ensures { IsTrue result → one ≡ other }
+{
+    one == other
+}
+
+/// A after a load at X and k.
+fn indirect(width: Width, k: u32, index: Term) -> Term
+    ensures { result ≡ indirect width k index }
+{
+    match index {
+        Term::Number(x) => Term::Field(Load {
+            width,
+            at: x.wrapping_add(k),
+            header: None,
+            mask: None,
+        }),
+        Term::HeaderLength { at, more } => Term::Field(Load {
+            width,
+            at: more.wrapping_add(k),
+            header: Some(at),
+            mask: None,
+        }),
+        _ => Term::Anything,
+    }
+}
+
+fn mask_of(mask: Option<u32>, k: u32) -> u32
+    ensures { result ≡ mask_of mask k }
+{
+    match mask {
+        None => k,
+        Some(mask) => mask & k,
+    }
+}
+
+/// A term under a mask.
+pub fn masked(term: Term, k: u32) -> Term
+    ensures { result ≡ masked term k }
+{
+    match term {
+        Term::Number(x) => Term::Number(x & k),
+        Term::Field(load) => Term::Field(Load {
+            width: load.width,
+            at: load.at,
+            header: load.header,
+            mask: Some(mask_of(load.mask, k)),
+        }),
+        _ => Term::Anything,
+    }
+}
+
+/// A number and a header's length.
+fn sum(accumulator: Term, index: Term) -> Term
+    ensures { result ≡ sum accumulator index }
+{
+    match (accumulator, index) {
+        (Term::Number(k), Term::HeaderLength { at, more }) => Term::HeaderLength {
+            at,
+            more: more.wrapping_add(k),
+        },
+        _ => Term::Anything,
+    }
+}
+
+fn computed(operator: AluOperation, operand: Operand, k: u32, registers: Registers) -> Term
+    ensures { result ≡ computed operator operand k registers }
+{
+    match (operator, operand) {
+        (AluOperation::And, Operand::Constant) => masked(registers.accumulator, k),
+        (AluOperation::Add, Operand::IndexRegister) => sum(registers.accumulator, registers.index),
+        _ => Term::Anything,
+    }
+}
+
+/// A after an operation.
+fn accumulator_after(operation: Operation, k: u32, registers: Registers) -> Term
+    ensures { result ≡ accumulator_after operation k registers }
+{
+    match operation {
+        Operation::LoadAbsolute(width) => Term::Field(Load {
+            width,
+            at: k,
+            header: None,
+            mask: None,
+        }),
+        Operation::LoadIndirect(width) => indirect(width, k, registers.index),
+        Operation::Load(Register::Accumulator, Source::Immediate) => Term::Number(k),
+        Operation::Load(Register::Accumulator, Source::Length) => Term::Length,
+        Operation::Load(Register::Accumulator, Source::Memory) | Operation::Negate => {
+            Term::Anything
+        }
+        Operation::Compute(operator, operand) => computed(operator, operand, k, registers),
+        Operation::CopyToAccumulator => registers.index,
+        _ => registers.accumulator,
+    }
+}
+
+/// X after an operation.
+fn index_after(operation: Operation, k: u32, registers: Registers) -> Term
+    ensures { result ≡ index_after operation k registers }
+{
+    match operation {
+        Operation::Load(Register::Index, Source::Immediate) => Term::Number(k),
+        Operation::Load(Register::Index, Source::Length) => Term::Length,
+        Operation::Load(Register::Index, Source::Memory) => Term::Anything,
+        Operation::LoadHeaderLength => Term::HeaderLength { at: k, more: 0 },
+        Operation::CopyToIndex => registers.accumulator,
+        _ => registers.index,
+    }
+}
+
+/// What the registers hold after an operation.
+pub fn after(operation: Operation, k: u32, registers: Registers) -> Registers
+    ensures { result ≡ after operation k registers }
+{
+    Registers {
+        accumulator: accumulator_after(operation, k, registers),
+        index: index_after(operation, k, registers),
+    }
+}
+
+/// The test of a register with a number that an operation is.
+pub fn test_of(operation: Operation) -> Option<Test>
+    ensures { result ≡ test_of operation }
+{
+    match operation {
+        Operation::JumpIf(test, Operand::Constant) => Some(test),
+        _ => None,
+    }
+}
+
+/// An operation reads A.
+pub fn reads_accumulator(operation: Operation) -> bool
+    ensures { result ≡ reads_accumulator operation }
+{
+    matches!(
+        operation,
+        Operation::Store(Register::Accumulator)
+            | Operation::Compute(_, _)
+            | Operation::Negate
+            | Operation::JumpIf(_, _)
+            | Operation::ReturnAccumulator
+            | Operation::CopyToIndex
+    )
+}
+
+/// It reads X.
+pub fn reads_index(operation: Operation) -> bool
+    ensures { result ≡ reads_index operation }
+{
+    matches!(
+        operation,
+        Operation::LoadIndirect(_)
+            | Operation::Store(Register::Index)
+            | Operation::Compute(_, Operand::IndexRegister)
+            | Operation::JumpIf(_, Operand::IndexRegister)
+            | Operation::CopyToAccumulator
+    )
+}
+
+/// It puts something into A.
+pub fn sets_accumulator(operation: Operation) -> bool
+    ensures { result ≡ sets_accumulator operation }
+{
+    matches!(
+        operation,
+        Operation::LoadAbsolute(_)
+            | Operation::LoadIndirect(_)
+            | Operation::Load(Register::Accumulator, _)
+            | Operation::Compute(_, _)
+            | Operation::Negate
+            | Operation::CopyToAccumulator
+    )
+}
+
+/// It puts something into X.
+pub fn sets_index(operation: Operation) -> bool
+    ensures { result ≡ sets_index operation }
+{
+    matches!(
+        operation,
+        Operation::Load(Register::Index, _) | Operation::LoadHeaderLength | Operation::CopyToIndex
+    )
+}
+
+/// What is known after both runs did an operation with the same operands.
+pub fn after_both(operation: Operation, k: u32, both: Both) -> Both
+    ensures { result ≡ after_both operation k both }
+{
+    Both {
+        new: after(operation, k, both.new),
+        old: after(operation, k, both.old),
+        same_accumulator: sets_accumulator(operation) || both.same_accumulator,
+        same_index: sets_index(operation) || both.same_index,
+    }
+}
+
+/// What is known after the old run alone did it.
+pub fn after_old(operation: Operation, k: u32, both: Both) -> Both
+    ensures { result ≡ after_old operation k both }
+{
+    Both {
+        new: both.new,
+        old: after(operation, k, both.old),
+        same_accumulator: !sets_accumulator(operation) && both.same_accumulator,
+        same_index: !sets_index(operation) && both.same_index,
+    }
+}
+
+/// What is known after the new run alone did it.
+pub fn after_new(operation: Operation, k: u32, both: Both) -> Both
+    ensures { result ≡ after_new operation k both }
+{
+    Both {
+        new: after(operation, k, both.new),
+        old: both.old,
+        same_accumulator: !sets_accumulator(operation) && both.same_accumulator,
+        same_index: !sets_index(operation) && both.same_index,
+    }
+}
+
+/// The term that an operation makes.
+pub fn asked(operation: Operation, k: u32, registers: Registers) -> Term
+    ensures { result ≡ asked operation k registers }
+{
+    match operation {
+        Operation::LoadHeaderLength => Term::HeaderLength { at: k, more: 0 },
+        _ => accumulator_after(operation, k, registers),
+    }
+}
+
+/// An operation leads on and changes no word, if what it loads is `there`.
+pub fn is_sure(operation: Operation, k: u32, there: bool) -> bool
+    ensures { result ≡ is_sure operation k there }
+{
+    match operation {
+        Operation::LoadAbsolute(_) | Operation::LoadIndirect(_) | Operation::LoadHeaderLength => {
+            there
+        }
+        Operation::Load(_, Source::Immediate | Source::Length) => true,
+        Operation::Compute(AluOperation::Divide | AluOperation::Remainder, Operand::Constant) => {
+            k != 0
+        }
+        Operation::Compute(
+            AluOperation::Divide | AluOperation::Remainder,
+            Operand::IndexRegister,
+        ) => false,
+        Operation::Compute(_, _)
+        | Operation::Negate
+        | Operation::CopyToIndex
+        | Operation::CopyToAccumulator => true,
+        _ => false,
+    }
+}
+
+/// An operation leads to the next instruction, or fails.
+pub(crate) fn leads_on(operation: Operation) -> bool
+    ensures { result ≡ leads_on operation }
+{
+    !matches!(operation, Operation::Jump | Operation::JumpIf(_, _)) && !returns(operation)
+}
+
+/// It returns.
+pub(crate) fn returns(operation: Operation) -> bool
+    ensures { result ≡ returns operation }
+{
+    matches!(
+        operation,
+        Operation::ReturnConstant | Operation::ReturnAccumulator
+    )
+}
+
+/// It loads bytes of the packet into A.
+pub(crate) fn is_load(operation: Operation) -> bool
+    ensures { result ≡ is_load operation }
+{
+    matches!(
+        operation,
+        Operation::LoadAbsolute(_) | Operation::LoadIndirect(_)
+    )
+}
+
+/// What is known after both runs loaded the same field.
+pub(crate) fn after_loads(field: Term, both: Both) -> Both
+    ensures { result ≡ after_loads field both }
+{
+    Both {
+        new: Registers {
+            accumulator: field,
+            index: both.new.index,
+        },
+        old: Registers {
+            accumulator: field,
+            index: both.old.index,
+        },
+        same_accumulator: true,
+        same_index: both.same_index,
+    }
+}

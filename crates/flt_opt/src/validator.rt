@@ -1,0 +1,401 @@
+//! Whether a program may replace another one: note by note, by four rules.
+
+ghost use Rattle.std.specs.Prelude.{◌≡◌, ◌≢◌, ◌↔◌, ℕ, ◌+◌, ◌^◌, ◌<◌, List, [], Some, All, IsTrue, slice_get};
+ghost use Rattle.std.specs.Prelude.{if◌then◌else◌};
+ghost use Rattle.flt_bpf.specs.declared.operation.Operation.TheVariants.{Jump, JumpIf};
+ghost use Rattle.flt_bpf.specs.Instructions.{code_of, operation_of};
+ghost use Rattle.flt_bpf.specs.declared.machine.State.{State};
+ghost use Rattle.flt_opt.specs.Alike.{LeadsTo, Branches, Tests, OperandsAgree, IsSound};
+ghost use Rattle.flt_opt.specs.Alike.{AreSound, Begins, IsBits};
+ghost use Rattle.flt_opt.specs.Replaces.{Replaces};
+ghost use Rattle.flt_opt.specs.Terms.{Agree};
+ghost use Rattle.flt_bpf.specs.Machine.{start};
+ghost use Rattle.flt_opt.specs.Facts.{part};
+
+use crate::facts::{Knowledge, Learnt, facts_in, outcome};
+use crate::follows::{facts_follow, fits, same_accumulator, same_index};
+use crate::note::{Both, Fact, Note, Notes, Registers, Term};
+use crate::terms::{
+    after_both, after_loads, after_new, after_old, asked, is_known, is_load, leads_on,
+    reads_accumulator, reads_index, returns, same_term,
+};
+use crate::walk::{Route, goes_on, is_rejection, rejects, walk};
+use flt_bpf::Wide;
+use flt_bpf::operation::{AluOperation, Operand, Operation, Test, decode};
+
+/// From how many tests, one behind the other, a walk goes both ways at most.
+const MOST_SPLITS: u32 = 3;
+
+/// Two programs and the notes on them.
+#[derive(Clone, Copy)]
+pub(crate) struct Programs<'a> {
+    pub new: &'a [Wide],
+    pub old: &'a [Wide],
+    pub notes: Notes<'a>,
+}
+
+/// Where the two runs are after an instruction, and what is known there.
+#[derive(Clone, Copy)]
+pub(crate) struct Way {
+    pub new: usize,
+    pub old: usize,
+    pub both: Both,
+}
+
+/// What a test asks of A.
+#[derive(Clone, Copy)]
+pub(crate) struct Condition {
+    pub test: Test,
+    pub operand: Operand,
+}
+
+/// The facts of a note.
+fn facts_of<'a>(programs: &Programs<'a>, note: &Note) -> &'a [Fact]
+    ensures { result.now ≡ part programs.now.notes.facts.now note.now.facts }
+{
+    facts_in(programs.notes.facts, note.facts)
+}
+
+/// A way leads to a note, once the old run has walked to its place.
+fn leads_to(programs: &Programs, facts: &[Fact], learnt: &[Learnt], way: &Way, to: usize) -> bool
+    ensures { IsTrue result → LeadsTo programs.now way.now facts.now learnt.now }
+{
+    let Some(note) = programs.notes.notes.get(to) else {
+        return false;
+    };
+    if note.new != way.new {
+        return false;
+    }
+    let knowledge = Knowledge {
+        facts,
+        pieces: programs.notes.pieces,
+        learnt,
+    };
+    let route = Route {
+        from: way.old,
+        goal: note.old,
+        splits: MOST_SPLITS,
+    };
+    let Some(both) = walk(programs.old, facts, knowledge.pieces, learnt, &way.both, route) else {
+        return false;
+    };
+    fits(&both, &note.registers) && facts_follow(facts_of(programs, note), &knowledge, &way.both)
+}
+
+/// On a way both runs return 0.
+fn both_reject(programs: &Programs, facts: &[Fact], learnt: &[Learnt], way: &Way) -> bool
+    ensures { IsTrue result → LeadsTo programs.now way.now facts.now learnt.now }
+{
+    let Some(insn) = programs.new.get(way.new) else {
+        return false;
+    };
+    if !is_rejection(*insn) {
+        return false;
+    }
+    let knowledge = Knowledge {
+        facts,
+        pieces: programs.notes.pieces,
+        learnt,
+    };
+    rejects(programs.old, &knowledge, way.both.old, way.old)
+}
+
+/// A way leads to a note, or to a rejection in both runs.
+fn leads(programs: &Programs, facts: &[Fact], learnt: &[Learnt], way: &Way, to: usize) -> bool
+    ensures { IsTrue result → LeadsTo programs.now way.now facts.now learnt.now }
+{
+    leads_to(programs, facts, learnt, way, to) || both_reject(programs, facts, learnt, way)
+}
+
+/// The way from a test of the new program at the place of a note, to a place of the old one.
+fn way_from(note: &Note, both: &Both, new: Wide, holds: bool, old: usize) -> Way
+    requires { note.now.new < 2 ^ 62 }
+    ensures { result ≡ record {
+      new = note.now.new + 1 + (if holds then new.jt else new.jf);
+      old = old;
+      both = both.now;
+    } }
+{
+    let skipped = if holds { new.yes } else { new.no };
+    Way {
+        new: note.new + 1 + skipped as usize,
+        old,
+        both: *both,
+    }
+}
+
+/// A test of the new program that holds, or doesn't, leads to a note.
+fn branch_leads(
+    programs: &Programs,
+    note: &Note,
+    both: &Both,
+    new: Wide,
+    condition: Condition,
+    holds: bool,
+    old: usize,
+) -> bool
+    requires { note.now.new < 2 ^ 62 }
+    ensures { IsTrue result → Branches programs.now note.now both.now new condition holds old }
+{
+    let way = way_from(note, both, new, holds, old);
+    let facts = facts_of(programs, note);
+    let to = if holds { note.yes } else { note.no };
+    match condition.operand {
+        Operand::Constant => {
+            let learnt = [outcome(condition.test, new.k, both.new.accumulator, holds)];
+            leads(programs, facts, &learnt, &way, to)
+        }
+        Operand::IndexRegister => leads(programs, facts, &[], &way, to),
+    }
+}
+
+/// Both ways of a test of the new program lead to notes.
+fn test_leads(
+    programs: &Programs,
+    note: &Note,
+    both: &Both,
+    new: Wide,
+    condition: Condition,
+    yes: usize,
+    no: usize,
+) -> bool
+    requires bound { note.now.new < 2 ^ 62 }
+    requires there { slice_get programs.now.new.now note.now.new ≡ Some new }
+    requires known { operation_of new.code ≡ Some (JumpIf condition.test condition.operand) }
+    ensures { IsTrue result → Tests programs.now note.now both.now new condition yes no }
+{
+    branch_leads(programs, note, both, new, condition, true, yes)
+        && branch_leads(programs, note, both, new, condition, false, no)
+}
+
+/// The next instruction of the new program leads to a note, where the old run is at a place.
+fn step_leads(programs: &Programs, note: &Note, both: Both, old: usize) -> bool
+    requires { note.now.new < 2 ^ 62 }
+    ensures { IsTrue result → LeadsTo programs.now
+        (record { new = note.now.new + 1; old = old; both = both })
+        (part programs.now.notes.facts.now note.now.facts) [] }
+{
+    let way = Way {
+        new: note.new + 1,
+        old,
+        both,
+    };
+    leads(programs, facts_of(programs, note), &[], &way, note.yes)
+}
+
+/// Both runs have the same in A and X where an operation reads them.
+fn operands_agree(operation: Operation, both: &Both) -> bool
+    ensures { IsTrue result → OperandsAgree operation both.now }
+{
+    (!reads_accumulator(operation) || same_accumulator(both))
+        && (!reads_index(operation) || same_index(both))
+}
+
+/// The new run does the instruction of the old one.
+fn does_same(programs: &Programs, note: &Note, new: Wide, old: Wide) -> bool
+    requires new_bound { note.now.new < 2 ^ 62 }
+    requires old_bound { note.now.old < 2 ^ 62 }
+    requires new_there { slice_get programs.now.new.now note.now.new ≡ Some new }
+    requires old_there { slice_get programs.now.old.now note.now.old ≡ Some old }
+    ensures { IsTrue result → IsSound programs.now note.now }
+{
+    if new.code != old.code || new.k != old.k {
+        return false;
+    }
+    let Some(operation) = decode(new.code) else {
+        return false;
+    };
+    if !operands_agree(operation, &note.registers) {
+        return false;
+    }
+    if returns(operation) {
+        return true;
+    }
+    if let Operation::JumpIf(test, operand) = operation {
+        let condition = Condition { test, operand };
+        let yes = note.old + 1 + old.yes as usize;
+        let no = note.old + 1 + old.no as usize;
+        return test_leads(programs, note, &note.registers, new, condition, yes, no);
+    }
+    let both = after_both(operation, new.k, note.registers);
+    leads_on(operation) && step_leads(programs, note, both, note.old + 1)
+}
+
+/// The new run does an instruction of its own, which can't fail, and the old run waits.
+fn does_own(programs: &Programs, note: &Note, new: Wide) -> bool
+    requires bound { note.now.new < 2 ^ 62 }
+    requires there { slice_get programs.now.new.now note.now.new ≡ Some new }
+    ensures { IsTrue result → IsSound programs.now note.now }
+{
+    let Some(operation) = decode(new.code) else {
+        return false;
+    };
+    if let Operation::JumpIf(test, operand) = operation {
+        let condition = Condition { test, operand };
+        let registers = &note.registers;
+        return test_leads(
+            programs, note, registers, new, condition, note.old, note.old,
+        );
+    }
+    let knowledge = Knowledge {
+        facts: facts_of(programs, note),
+        pieces: programs.notes.pieces,
+        learnt: &[],
+    };
+    let both = after_new(operation, new.k, note.registers);
+    goes_on(
+        operation,
+        new.k,
+        note.registers.new,
+        &knowledge,
+        &note.registers,
+    ) && step_leads(programs, note, both, note.old)
+}
+
+/// Both runs load the same field, by what is in X.
+fn loads_same(programs: &Programs, note: &Note, new: Wide, old: Wide) -> bool
+    requires new_bound { note.now.new < 2 ^ 62 }
+    requires old_bound { note.now.old < 2 ^ 62 }
+    requires new_there { slice_get programs.now.new.now note.now.new ≡ Some new }
+    requires old_there { slice_get programs.now.old.now note.now.old ≡ Some old }
+    ensures { IsTrue result → IsSound programs.now note.now }
+{
+    let Some(operation) = decode(new.code) else {
+        return false;
+    };
+    let Some(other) = decode(old.code) else {
+        return false;
+    };
+    if !is_load(operation) || !is_load(other) {
+        return false;
+    }
+    let field = asked(operation, new.k, note.registers.new);
+    if !is_known(field) || !same_term(field, asked(other, old.k, note.registers.old)) {
+        return false;
+    }
+    let both = after_loads(field, note.registers);
+    step_leads(programs, note, both, note.old + 1)
+}
+
+/// The codes and numbers are those of a test of bits, and of a mask and a test of what is left for 0.
+fn is_bits(new: Wide, mask: Wide, test: Wide) -> bool
+    ensures { IsTrue result → IsBits new mask test }
+{
+    (new.code == Operation::JumpIf(Test::AnyBit, Operand::Constant).code()
+        && mask.code == Operation::Compute(AluOperation::And, Operand::Constant).code())
+        && (test.code == Operation::JumpIf(Test::Equal, Operand::Constant).code()
+            && (test.k == 0 && mask.k == new.k))
+}
+
+/// The new run tests bits, where the old one has a mask and tests what is left for 0.
+fn tests_bits(programs: &Programs, note: &Note, new: Wide, old: Wide) -> bool
+    requires new_bound { note.now.new < 2 ^ 62 }
+    requires old_bound { note.now.old < 2 ^ 62 }
+    requires new_there { slice_get programs.now.new.now note.now.new ≡ Some new }
+    requires old_there { slice_get programs.now.old.now note.now.old ≡ Some old }
+    ensures { IsTrue result → IsSound programs.now note.now }
+{
+    let Some(test) = programs.old.get(note.old + 1) else {
+        return false;
+    };
+    let test = *test;
+    if !is_bits(new, old, test) {
+        return false;
+    }
+    if !same_accumulator(&note.registers) {
+        return false;
+    }
+    let mask = Operation::Compute(AluOperation::And, Operand::Constant);
+    let both = after_old(mask, old.k, note.registers);
+    let condition = Condition {
+        test: Test::AnyBit,
+        operand: Operand::Constant,
+    };
+    let yes = note.old + 2 + test.no as usize;
+    let no = note.old + 2 + test.yes as usize;
+    test_leads(programs, note, &both, new, condition, yes, no)
+}
+
+/// A note stands: from it on both programs return the same, if they do from those further on.
+fn stands(programs: &Programs, note: &Note) -> bool
+    ensures { IsTrue result → IsSound programs.now note.now }
+{
+    let Some(new) = programs.new.get(note.new) else {
+        return false;
+    };
+    let Some(old) = programs.old.get(note.old) else {
+        return false;
+    };
+    if does_same(programs, note, *new, *old) {
+        return true;
+    }
+    if loads_same(programs, note, *new, *old) {
+        return true;
+    }
+    if tests_bits(programs, note, *new, *old) {
+        return true;
+    }
+    does_own(programs, note, *new)
+}
+
+/// All notes stand.
+fn all_stand(programs: &Programs) -> bool
+    ensures { IsTrue result → AreSound programs.now }
+{
+    for note in programs.notes.notes {
+        if !stands(programs, note) {
+            return false;
+        }
+    }
+    true
+}
+
+/// What is known of two runs at their beginning.
+fn known_at_start() -> Both
+    ensures { (p : List ℕ) (n : ℕ) → Agree p n result start start }
+{
+    let zero = Registers {
+        accumulator: Term::Number(0),
+        index: Term::Number(0),
+    };
+    Both {
+        new: zero,
+        old: zero,
+        same_accumulator: true,
+        same_index: true,
+    }
+}
+
+/// The beginning of both programs leads to the first note.
+fn begins(programs: &Programs) -> bool
+    ensures { IsTrue result → Begins programs.now }
+{
+    let way = Way {
+        new: 0,
+        old: 0,
+        both: known_at_start(),
+    };
+    leads(programs, &[], &[], &way, 0)
+}
+
+/// There is no jump but those of tests.
+fn has_no_jump(code: &[Wide]) -> bool
+    ensures { IsTrue result ↔ All (λ i. i.code ≢ code_of Jump) code.now }
+{
+    code.iter().all(|insn| insn.code != 5)
+}
+
+/// Whether a program may replace an old one, as the notes show: it returns what the old one
+/// returns. The notes are only a help: wrong ones make the answer no.
+pub fn replaces(new: &[Wide], old: &[Wide], notes: Notes) -> bool
+    ensures { IsTrue result → Replaces new.now old.now }
+{
+    let programs = Programs { new, old, notes };
+    if !begins(&programs) {
+        return false;
+    }
+    if !all_stand(&programs) {
+        return false;
+    }
+    has_no_jump(new)
+}

@@ -1,0 +1,239 @@
+//! How far a run can be taken to have gone already, by what is known of it.
+
+use crate::graph::{Flow, Node};
+use crate::known::{Known, loads};
+use crate::live::{Live, live_at};
+use flt_bpf::operation::{Operation, decode};
+use flt_opt::{
+    Both, Knowledge, Learnt, Piece, Registers, Term, after, asked, decided, is_known, is_sure,
+    is_there, outcome, sets_accumulator, sets_index,
+};
+use std::alloc::{AllocError, Allocator};
+
+/// How many nodes are passed at most.
+const FUEL: usize = 4000;
+
+/// How many tests that aren't decided are passed, one on a side of the other.
+const SPLITS: usize = 2;
+
+/// A run at a node.
+#[derive(Clone, Copy)]
+struct Way {
+    at: usize,
+    registers: Registers,
+    /// A is what it was in the beginning.
+    keeps_accumulator: bool,
+    keeps_index: bool,
+    /// Something was loaded that may not be there, so it may have been rejected.
+    may_fail: bool,
+}
+
+/// How a run goes on.
+#[derive(Clone, Copy)]
+enum Step {
+    Ends,
+    To(Way),
+    Either,
+}
+
+/// A run that is followed through a graph, in which all edges lead on.
+#[derive(Drop)]
+struct Follower<'a, A: Allocator> {
+    nodes: &'a [Node],
+    lives: &'a [Live],
+    pieces: &'a [Piece],
+    known: Known,
+    /// What tests have shown that aren't decided.
+    learnt: Vec<Learnt, A>,
+    /// Where it may be put, the nearest first.
+    trail: Vec<usize, A>,
+    fuel: usize,
+}
+
+/// A register holds the same again.
+fn holds_again(keeps: bool, now: Term, first: Term) -> bool {
+    keeps || is_known(now) && now == first
+}
+
+impl<A: Allocator> Follower<'_, A> {
+    fn knowledge(&self) -> Knowledge<'_> {
+        Knowledge {
+            facts: self.known.facts.as_slice(),
+            pieces: self.pieces,
+            learnt: &self.learnt,
+        }
+    }
+
+    /// A run may be put where this one is: what is read there is the same.
+    fn fits(&self, way: &Way, node: Node) -> bool {
+        let (live, first) = (live_at(self.lives, way.at), self.known.registers);
+        let accumulator = holds_again(
+            way.keeps_accumulator,
+            way.registers.accumulator,
+            first.accumulator,
+        );
+        let index = holds_again(way.keeps_index, way.registers.index, first.index);
+        (!way.may_fail || node.rejects())
+            && (accumulator || !live.accumulator)
+            && (index || !live.index)
+    }
+
+    /// An operation can't fail.
+    fn succeeds(&self, operation: Operation, k: u32, registers: Registers) -> bool {
+        let both = Both {
+            new: self.known.registers,
+            old: registers,
+            same_accumulator: false,
+            same_index: false,
+        };
+        let term = asked(operation, k, registers);
+        let there = is_there(term, self.known.facts.as_slice(), &both);
+        is_sure(operation, k, there)
+    }
+
+    /// Behind a node that isn't a test.
+    fn behind(&self, way: &Way, node: Node) -> Step {
+        let Some(operation) = decode(node.code) else {
+            return Step::Ends;
+        };
+        let succeeds = self.succeeds(operation, node.k, way.registers);
+        if !succeeds && !loads(operation) {
+            return Step::Ends;
+        }
+        Step::To(Way {
+            at: node.yes,
+            registers: after(operation, node.k, way.registers),
+            keeps_accumulator: way.keeps_accumulator && !sets_accumulator(operation),
+            keeps_index: way.keeps_index && !sets_index(operation),
+            may_fail: way.may_fail || !succeeds,
+        })
+    }
+
+    /// Behind a test.
+    fn behind_test(&self, way: &Way, node: Node) -> Step {
+        let term = way.registers.accumulator;
+        let knowledge = self.knowledge();
+        let Some(test) = node.test() else {
+            return Step::Either;
+        };
+        match decided(test, node.k, term, &knowledge) {
+            None => Step::Either,
+            Some(true) => Step::To(Way {
+                at: node.yes,
+                ..*way
+            }),
+            Some(false) => Step::To(Way {
+                at: node.no,
+                ..*way
+            }),
+        }
+    }
+
+    fn step(&self, way: &Way, node: Node) -> Step {
+        match node.flow() {
+            Flow::Ends => Step::Ends,
+            Flow::Goes => self.behind(way, node),
+            Flow::Branches => self.behind_test(way, node),
+        }
+    }
+
+    /// Follows a run as far as it is decided. Returns where it isn't, if it comes to such a test.
+    fn follow(&mut self, from: Way) -> Result<Option<Way>, AllocError> {
+        let mut way = from;
+        for _ in 0..self.fuel {
+            let Some(node) = self.nodes.get(way.at).copied() else {
+                return Ok(None);
+            };
+            self.fuel = self.fuel.saturating_sub(1);
+            if self.fits(&way, node) {
+                self.trail.push(way.at)?;
+            }
+            match self.step(&way, node) {
+                Step::Ends => return Ok(None),
+                Step::To(next) => way = next,
+                Step::Either => return Ok(Some(way)),
+            }
+        }
+        Ok(None)
+    }
+
+    /// Keeps, of the places from one index to another one, those that are among the places behind.
+    fn keep_common(&mut self, first: usize, second: usize) {
+        let mut kept = first;
+        for at in first..second {
+            let Some(place) = self.trail.get(at).copied() else {
+                break;
+            };
+            let others = self.trail.get(second..).unwrap_or(&[]);
+            if others.binary_search(&place).is_ok()
+                && let Some(common) = self.trail.get_mut(kept)
+            {
+                *common = place;
+                kept = kept.saturating_add(1);
+            }
+        }
+        self.trail.truncate(kept);
+    }
+
+    /// Follows a run on a side of a test that isn't decided, past so many more of them.
+    #[cycle(splits)]
+    fn follow_side(&mut self, way: &Way, holds: bool, splits: usize) -> Result<(), AllocError> {
+        let Some(node) = self.nodes.get(way.at).copied() else {
+            return Ok(());
+        };
+        let len = self.learnt.len();
+        if let Some(test) = node.test() {
+            self.learnt
+                .push(outcome(test, node.k, way.registers.accumulator, holds))?;
+        }
+        let at = if holds { node.yes } else { node.no };
+        self.follow_all(Way { at, ..*way }, splits)?;
+        self.learnt.truncate(len);
+        Ok(())
+    }
+
+    /// Follows a run past so many tests that aren't decided, where both sides come together.
+    #[cycle(splits)]
+    fn follow_all(&mut self, from: Way, splits: usize) -> Result<(), AllocError> {
+        let split = self.follow(from)?;
+        if let Some(way) = split
+            && splits > 0
+        {
+            let first = self.trail.len();
+            self.follow_side(&way, true, splits - 1)?;
+            let second = self.trail.len();
+            self.follow_side(&way, false, splits - 1)?;
+            self.keep_common(first, second);
+        }
+        Ok(())
+    }
+}
+
+/// The farthest node where a run may go on in place of one, by what is known of it.
+pub(crate) fn followed<A: Allocator + Clone>(
+    alloc: A,
+    nodes: &[Node],
+    lives: &[Live],
+    pieces: &[Piece],
+    known: &Known,
+    from: usize,
+) -> Result<usize, AllocError> {
+    let mut follower = Follower {
+        nodes,
+        lives,
+        pieces,
+        known: *known,
+        learnt: Vec::new(alloc.clone()?),
+        trail: Vec::new(alloc),
+        fuel: FUEL,
+    };
+    let way = Way {
+        at: from,
+        registers: known.registers,
+        keeps_accumulator: true,
+        keeps_index: true,
+        may_fail: false,
+    };
+    follower.follow_all(way, SPLITS)?;
+    Ok(follower.trail.last().copied().unwrap_or(from))
+}

@@ -1,0 +1,262 @@
+//! Chains of tests whether fields are numbers, field by field.
+
+use crate::edges::{edges, has_one_edge};
+use crate::graph::Node;
+use crate::held::{Field, Held, field_of, held_at};
+use crate::live::{Live, live_at, lives};
+use crate::order::ordered;
+use flt_bpf::operation::{Operand, Operation, Test};
+use std::alloc::{AllocError, Allocator};
+
+/// A test of a chain: whether a field is a number.
+#[derive(Clone, Copy)]
+struct Link {
+    /// The index of the test.
+    test: usize,
+    field: Field,
+    number: u32,
+    /// How many fields were met in the chain before this one was.
+    rank: usize,
+}
+
+/// Tests one behind the other, all with one target where they hold.
+#[derive(Drop)]
+struct Chain<A: Allocator> {
+    target: usize,
+    links: Vec<Link, A>,
+    /// Where the chain goes on.
+    exit: usize,
+    /// How many fields there are.
+    fields: usize,
+}
+
+/// The last test in front of those that are put in order, and these in their new order.
+#[derive(Drop)]
+struct Sorted<A: Allocator> {
+    last: Link,
+    links: Vec<Link, A>,
+}
+
+fn is_equality(node: Node) -> bool {
+    matches!(
+        node.operation(),
+        Some(Operation::JumpIf(Test::Equal, Operand::Constant))
+    )
+}
+
+/// A graph whose chains are put in order.
+#[derive(Drop)]
+struct Gathering<A: Allocator> {
+    alloc: A,
+    nodes: Vec<Node, A>,
+    lives: Vec<Live, A>,
+    edges: Vec<usize, A>,
+    held: Vec<Held, A>,
+    /// The tests that are in a chain.
+    done: Vec<bool, A>,
+}
+
+impl<A: Allocator + Clone> Gathering<A> {
+    /// The test of a number with an index, if it goes to a target where it holds.
+    fn test_to(&self, at: usize, target: usize) -> Option<Node> {
+        let node = self.nodes.get(at).copied()?;
+        (is_equality(node) && node.yes == target).then_some(node)
+    }
+
+    /// The field and the index of the next test of a chain, from where it goes on.
+    fn next_of(&self, at: usize, target: usize, field: Field) -> Option<(Field, usize)> {
+        if !has_one_edge(&self.edges, at) {
+            return None;
+        }
+        if self.test_to(at, target).is_some() {
+            return Some((field, at));
+        }
+        let load = self.nodes.get(at).copied()?;
+        let loaded = field_of(load)?;
+        self.test_to(load.yes, target)?;
+        has_one_edge(&self.edges, load.yes).then_some((loaded, load.yes))
+    }
+
+    /// Puts a test behind a chain.
+    fn add(&mut self, chain: &mut Chain<A>, test: usize, field: Field) -> Result<(), AllocError> {
+        let Some(node) = self.nodes.get(test).copied() else {
+            return Ok(());
+        };
+        if let Some(done) = self.done.get_mut(test) {
+            *done = true;
+        }
+        let met = chain.links.iter().rev().find(|link| link.field == field);
+        let rank = met.map_or(chain.fields, |link| link.rank);
+        if rank == chain.fields {
+            chain.fields = chain.fields.saturating_add(1);
+        }
+        chain.links.push(Link {
+            test,
+            field,
+            number: node.k,
+            rank,
+        })?;
+        chain.exit = node.no;
+        Ok(())
+    }
+
+    /// The chain that begins at a test of a field.
+    fn chain_from(
+        &mut self,
+        head: usize,
+        target: usize,
+        field: Field,
+    ) -> Result<Chain<A>, AllocError> {
+        let mut chain = Chain {
+            target,
+            links: Vec::new(self.alloc.clone()?),
+            exit: head,
+            fields: 0,
+        };
+        self.add(&mut chain, head, field)?;
+        let mut field = field;
+        for _ in 0..self.nodes.len() {
+            let Some((loaded, test)) = self.next_of(chain.exit, target, field) else {
+                break;
+            };
+            self.add(&mut chain, test, loaded)?;
+            field = loaded;
+        }
+        Ok(chain)
+    }
+}
+
+/// How often the field changes from one test to the next.
+fn switches(links: &[Link]) -> usize {
+    links
+        .iter()
+        .zip(links.iter().skip(1))
+        .filter(|(link, next)| link.field != next.field)
+        .count()
+}
+
+/// The tests of a chain in order, from the first one of the field that is met last on: this field
+/// comes first.
+fn in_order<A: Allocator + Clone>(
+    alloc: A,
+    chain: &Chain<A>,
+) -> Result<Option<Sorted<A>>, AllocError> {
+    let newest = chain.fields.saturating_sub(1);
+    let first = chain.links.iter().position(|link| link.rank == newest);
+    let Some(before) = first.and_then(|first| first.checked_sub(1)) else {
+        return Ok(None);
+    };
+    let Some(last) = chain.links.get(before).copied() else {
+        return Ok(None);
+    };
+    let rest = chain.links.get(before.saturating_add(1)..).unwrap_or(&[]);
+    let mut links = Vec::from_slice(alloc, rest)?;
+    links.sort_by_key(|link| if link.rank == newest {
+        0
+    } else {
+        link.rank.saturating_add(1)
+    })?;
+    if switches(&links) >= switches(rest) {
+        return Ok(None);
+    }
+    Ok(Some(Sorted { last, links }))
+}
+
+impl<A: Allocator + Clone> Gathering<A> {
+    /// A node more. Returns its index.
+    fn push(&mut self, node: Node) -> Result<usize, AllocError> {
+        let at = self.nodes.len();
+        self.nodes.push(node)?;
+        Ok(at)
+    }
+
+    /// A test of a field that is loaded first unless A holds it. Returns where that begins.
+    fn put(
+        &mut self,
+        chain: &Chain<A>,
+        link: &Link,
+        held: Field,
+        no: usize,
+    ) -> Result<usize, AllocError> {
+        let code = Operation::JumpIf(Test::Equal, Operand::Constant).code();
+        let yes = chain.target;
+        let test = self.push(Node {
+            code,
+            k: link.number,
+            yes,
+            no,
+        })?;
+        if link.field == held {
+            return Ok(test);
+        }
+        self.push(Node {
+            code: link.field.code,
+            k: link.field.k,
+            yes: test,
+            no: test,
+        })
+    }
+
+    /// Puts the tests in order behind the last one in front of them.
+    fn replace(&mut self, chain: &Chain<A>, sorted: &Sorted<A>) -> Result<(), AllocError> {
+        let mut next = chain.exit;
+        for (at, link) in sorted.links.iter().enumerate().rev() {
+            let before = at.checked_sub(1).and_then(|at| sorted.links.get(at));
+            let held = before.map_or(sorted.last.field, |link| link.field);
+            next = self.put(chain, link, held, next)?;
+        }
+        if let Some(test) = self.nodes.get_mut(sorted.last.test) {
+            test.no = next;
+        }
+        Ok(())
+    }
+
+    /// A holds at the end of a chain what it held, or isn't read there.
+    fn ends_alike(&self, chain: &Chain<A>, sorted: &Sorted<A>) -> bool {
+        let field = chain.links.last().map(|link| link.field);
+        let new_field = sorted.links.last().map(|link| link.field);
+        field == new_field || !live_at(&self.lives, chain.exit).accumulator
+    }
+
+    /// Puts the chain in order that begins at a node, if one does.
+    fn gather(&mut self, head: usize) -> Result<(), AllocError> {
+        let Some(node) = self.nodes.get(head).copied() else {
+            return Ok(());
+        };
+        let is_done = self.done.get(head).copied().unwrap_or(true);
+        let Some(Held::Field(field)) = self.held.get(head).copied() else {
+            return Ok(());
+        };
+        if is_done || !is_equality(node) || live_at(&self.lives, node.yes).accumulator {
+            return Ok(());
+        }
+        let chain = self.chain_from(head, node.yes, field)?;
+        if let Some(sorted) = in_order(self.alloc.clone()?, &chain)?
+            && self.ends_alike(&chain, &sorted)
+        {
+            self.replace(&chain, &sorted)?;
+        }
+        Ok(())
+    }
+}
+
+/// The graph with its chains of tests field by field, as far as no load comes before another one
+/// that was in front of it. Its edges lead on.
+pub(crate) fn gathered<A: Allocator + Clone>(
+    alloc: A,
+    nodes: Vec<Node, A>,
+) -> Result<Vec<Node, A>, AllocError> {
+    let count = nodes.len();
+    let mut gathering = Gathering {
+        alloc: alloc.clone()?,
+        lives: lives(alloc.clone()?, &nodes)?,
+        edges: edges(alloc.clone()?, &nodes)?,
+        held: held_at(alloc.clone()?, &nodes)?,
+        done: vec![in alloc.clone()?; false; count]?,
+        nodes,
+    };
+    for head in 0..count {
+        gathering.gather(head)?;
+    }
+    ordered(alloc, &gathering.nodes, 0)
+}

@@ -1,0 +1,178 @@
+//! What is known of a run where it comes to a node.
+
+use crate::graph::Node;
+use crate::sets::{ALL, narrowed, united};
+use flt_bpf::operation::Operation;
+use flt_opt::{Fact, Learnt, Piece, Registers, Span, Term, after, asked, is_known};
+use std::alloc::{AllocError, Allocator};
+
+/// The most facts that are known at once. The oldest one goes.
+const MOST_FACTS: usize = 8;
+
+const NO_FACT: Fact = Fact {
+    term: Term::Anything,
+    pieces: ALL,
+};
+
+/// Some facts, each on another term.
+#[derive(Clone, Copy)]
+pub(crate) struct Facts {
+    list: [Fact; MOST_FACTS],
+    len: usize,
+}
+
+pub(crate) const NO_FACTS: Facts = Facts {
+    list: [NO_FACT; MOST_FACTS],
+    len: 0,
+};
+
+impl Facts {
+    pub(crate) fn as_slice(&self) -> &[Fact] {
+        match self.list.get(..self.len) {
+            Some(facts) => facts,
+            None => &[],
+        }
+    }
+
+    /// The numbers that a term may be, if a fact says that it is there.
+    pub(crate) fn numbers(&self, term: Term) -> Option<Span> {
+        let fact = self.as_slice().iter().find(|fact| fact.term == term)?;
+        Some(fact.pieces)
+    }
+
+    /// One more fact, on a term that no other one is on.
+    fn push(&mut self, fact: Fact) {
+        if let Some(place) = self.list.get_mut(self.len) {
+            *place = fact;
+            self.len = self.len.saturating_add(1);
+        }
+    }
+
+    /// The facts with this one, in place of another one on its term, or of the oldest one.
+    fn with(&self, fact: Fact) -> Facts {
+        let is_full = self.len >= MOST_FACTS && self.numbers(fact.term).is_none();
+        let mut facts = NO_FACTS;
+        for (at, other) in self.as_slice().iter().enumerate() {
+            if other.term != fact.term && !(is_full && at == 0) {
+                facts.push(*other);
+            }
+        }
+        facts.push(fact);
+        facts
+    }
+}
+
+/// What both say of a term.
+fn in_both(one: Term, other: Term) -> Term {
+    if one == other { one } else { Term::Anything }
+}
+
+/// What both say of a run's registers.
+pub(crate) fn registers_in_both(one: Registers, other: Registers) -> Registers {
+    Registers {
+        accumulator: in_both(one.accumulator, other.accumulator),
+        index: in_both(one.index, other.index),
+    }
+}
+
+/// The facts that hold on both of two ways.
+pub(crate) fn facts_in_both<A: Allocator>(
+    pieces: &mut Vec<Piece, A>,
+    one: &Facts,
+    other: &Facts,
+) -> Result<Facts, AllocError> {
+    let mut facts = NO_FACTS;
+    for fact in one.as_slice() {
+        if let Some(numbers) = other.numbers(fact.term) {
+            let pieces = united(pieces, fact.pieces, numbers)?;
+            facts.push(Fact { pieces, ..*fact });
+        }
+    }
+    Ok(facts)
+}
+
+/// The facts behind a test with this outcome.
+pub(crate) fn facts_behind<A: Allocator>(
+    pieces: &mut Vec<Piece, A>,
+    facts: &Facts,
+    learnt: &Learnt,
+) -> Result<Facts, AllocError> {
+    let term = learnt.term;
+    if matches!(term, Term::Anything | Term::Number(_)) {
+        return Ok(*facts);
+    }
+    let numbers = facts.numbers(term).unwrap_or(ALL);
+    let pieces = narrowed(pieces, numbers, learnt)?;
+    Ok(facts.with(Fact { term, pieces }))
+}
+
+/// An operation loads from the packet.
+pub(crate) fn loads(operation: Operation) -> bool {
+    matches!(
+        operation,
+        Operation::LoadAbsolute(_) | Operation::LoadIndirect(_) | Operation::LoadHeaderLength
+    )
+}
+
+/// The facts behind an operation: what it loads is there.
+pub(crate) fn facts_after(facts: &Facts, operation: Operation, k: u32, before: Registers) -> Facts {
+    let term = asked(operation, k, before);
+    if !loads(operation) || !is_known(term) {
+        return *facts;
+    }
+    let pieces = facts.numbers(term).unwrap_or(ALL);
+    facts.with(Fact { term, pieces })
+}
+
+/// What is known of a run: what its registers hold, and facts of the packet.
+#[derive(Clone, Copy)]
+pub(crate) struct Known {
+    pub registers: Registers,
+    pub facts: Facts,
+}
+
+/// What is known where a run begins.
+pub(crate) const AT_START: Known = Known {
+    registers: Registers {
+        accumulator: Term::Number(0),
+        index: Term::Number(0),
+    },
+    facts: NO_FACTS,
+};
+
+impl Known {
+    /// What is known on both of two ways.
+    pub(crate) fn in_both<A: Allocator>(
+        &self,
+        other: &Known,
+        pieces: &mut Vec<Piece, A>,
+    ) -> Result<Known, AllocError> {
+        Ok(Known {
+            registers: registers_in_both(self.registers, other.registers),
+            facts: facts_in_both(pieces, &self.facts, &other.facts)?,
+        })
+    }
+
+    /// What is known behind a node that is no test.
+    pub(crate) fn behind(&self, node: Node) -> Known {
+        match node.operation() {
+            None => *self,
+            Some(operation) => Known {
+                registers: after(operation, node.k, self.registers),
+                facts: facts_after(&self.facts, operation, node.k, self.registers),
+            },
+        }
+    }
+
+    /// What is known behind a test with this outcome.
+    pub(crate) fn with<A: Allocator>(
+        &self,
+        learnt: &Learnt,
+        pieces: &mut Vec<Piece, A>,
+    ) -> Result<Known, AllocError> {
+        Ok(Known {
+            registers: self.registers,
+            facts: facts_behind(pieces, &self.facts, learnt)?,
+        })
+    }
+}

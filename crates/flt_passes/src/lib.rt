@@ -1,0 +1,28 @@
+//! Shorter and quicker code for code: passes over a graph of its instructions. No pass is trusted:
+//! what it makes is taken only where `flt_opt` sees that it returns the same.
+#![tactic(auto)]
+
+mod bits;
+mod edges;
+mod finder;
+mod follow;
+mod gather;
+mod graph;
+mod halves;
+mod held;
+mod known;
+mod live;
+mod optimise;
+mod order;
+mod pass;
+mod ranges;
+mod rules;
+mod search;
+mod sets;
+mod share;
+mod thread;
+mod walk;
+mod write;
+
+pub use optimise::{Improved, optimised, optimised_counted};
+pub use pass::{Pass, passed};

@@ -1,0 +1,91 @@
+//! The rules by which an instruction of new code stands for some of the old code.
+
+use crate::known::loads;
+use flt_bpf::Wide;
+use flt_bpf::operation::{AluOperation, Operand, Operation, Test, decode};
+use flt_opt::{
+    Both, Fact, asked, is_known, is_sure, is_there, reads_accumulator, reads_index,
+    same_accumulator, same_index,
+};
+
+/// What the new run does where it comes to an instruction.
+#[derive(Clone, Copy)]
+pub(crate) enum Rule {
+    /// What the old one does.
+    Same,
+    /// A test of bits, where the old one has a mask and a test for 0.
+    Bits,
+    /// Something of its own; the old run waits.
+    Own,
+}
+
+/// Both runs have the same in A and X where an operation reads them.
+fn operands_agree(operation: Operation, both: &Both) -> bool {
+    (!reads_accumulator(operation) || same_accumulator(both))
+        && (!reads_index(operation) || same_index(both))
+}
+
+/// Both load the same, as what is in their registers says.
+fn loads_same(new: Operation, new_k: u32, old: Operation, old_k: u32, both: &Both) -> bool {
+    let term = asked(new, new_k, both.new);
+    let is_length = matches!(new, Operation::LoadHeaderLength);
+    let is_other_length = matches!(old, Operation::LoadHeaderLength);
+    loads(new)
+        && loads(old)
+        && is_length == is_other_length
+        && is_known(term)
+        && term == asked(old, old_k, both.old)
+}
+
+fn does_same(new: Wide, old: Wide, both: &Both) -> bool {
+    let (Some(operation), Some(old_operation)) = (decode(new.code), decode(old.code)) else {
+        return false;
+    };
+    new.code == old.code && new.k == old.k && operands_agree(operation, both)
+        || loads_same(operation, new.k, old_operation, old.k, both)
+}
+
+/// The old code has a mask and a test for 0 in place of a test of bits.
+fn does_bits(new: Wide, old: Wide, behind: Option<Wide>, both: &Both) -> bool {
+    let is_bits = matches!(
+        decode(new.code),
+        Some(Operation::JumpIf(Test::AnyBit, Operand::Constant))
+    );
+    let is_mask = matches!(
+        decode(old.code),
+        Some(Operation::Compute(AluOperation::And, Operand::Constant))
+    );
+    let is_test = behind.is_some_and(|test| {
+        test.k == 0
+            && matches!(
+                decode(test.code),
+                Some(Operation::JumpIf(Test::Equal, Operand::Constant))
+            )
+    });
+    is_bits && is_mask && is_test && new.k == old.k && same_accumulator(both)
+}
+
+/// The rule by which an instruction stands for the one of the old code at a place.
+pub(crate) fn rule_at(new: Wide, old: &[Wide], at: usize, both: &Both) -> Option<Rule> {
+    let insn = *old.get(at)?;
+    if does_same(new, insn, both) {
+        return Some(Rule::Same);
+    }
+    let behind = old.get(at.saturating_add(1)).copied();
+    if does_bits(new, insn, behind, both) {
+        return Some(Rule::Bits);
+    }
+    None
+}
+
+/// An instruction may be the new code's own: it can't fail, and changes no word.
+pub(crate) fn may_be_own(new: Wide, both: &Both, facts: &[Fact]) -> bool {
+    match decode(new.code) {
+        None => false,
+        Some(Operation::JumpIf(_, _)) => true,
+        Some(operation) => {
+            let there = is_there(asked(operation, new.k, both.new), facts, both);
+            is_sure(operation, new.k, there)
+        }
+    }
+}

@@ -1,0 +1,173 @@
+//! The code of a graph.
+
+use crate::graph::{Flow, NOWHERE, Node};
+use crate::order::entry_at;
+use flt_bpf::Wide;
+use std::alloc::{AllocError, Allocator};
+
+/// Code that grows from its end to its beginning.
+#[derive(Drop)]
+struct Writer<'a, A: Allocator> {
+    nodes: &'a [Node],
+    /// The number of instructions from each node's to the end, or 0 where it has none yet.
+    places: Vec<usize, A>,
+    backwards: Vec<Wide, A>,
+    /// How many instructions there may be.
+    most: usize,
+}
+
+/// How many instructions stand between two places.
+fn distance(from: usize, to: usize) -> Option<u32> {
+    if to == 0 || from < to {
+        return None;
+    }
+    u32::try_from(from - to).ok()
+}
+
+impl<A: Allocator + Clone> Writer<'_, A> {
+    fn node(&self, at: usize) -> Option<Node> {
+        self.nodes.get(at).copied()
+    }
+
+    fn place(&self, at: usize) -> usize {
+        self.places.get(at).copied().unwrap_or(0)
+    }
+
+    fn is_next(&self, at: usize) -> bool {
+        self.place(at) == self.backwards.len() && self.place(at) != 0
+    }
+
+    /// A node's instruction, where the code that is there can go on behind it.
+    fn insn(&self, node: Node) -> Option<Wide> {
+        let top = self.backwards.len();
+        let (yes, no) = match node.flow() {
+            Flow::Ends => (0, 0),
+            Flow::Goes if self.is_next(node.yes) => (0, 0),
+            Flow::Goes => return None,
+            Flow::Branches => (
+                distance(top, self.place(node.yes))?,
+                distance(top, self.place(node.no))?,
+            ),
+        };
+        Some(Wide {
+            code: node.code,
+            yes,
+            no,
+            k: node.k,
+        })
+    }
+
+    /// Puts a node's instruction in front, where it can stand there.
+    fn put(&mut self, at: usize) -> Result<(), AllocError> {
+        let insn = self.node(at).and_then(|node| self.insn(node));
+        let mut place = 0;
+        if let Some(insn) = insn
+            && self.backwards.len() < self.most
+        {
+            self.backwards.push(insn)?;
+            place = self.backwards.len();
+        }
+        if let Some(placed) = self.places.get_mut(at) {
+            *placed = place;
+        }
+        Ok(())
+    }
+
+    /// The nodes from one on to the first that doesn't just go on.
+    fn tail(&self, from: usize, alloc: A) -> Result<Vec<usize, A>, AllocError> {
+        let mut tail = Vec::new(alloc);
+        let mut at = from;
+        for _ in 0..self.nodes.len() {
+            let Some(node) = self.node(at) else {
+                break;
+            };
+            tail.push(at)?;
+            if node.flow() != Flow::Goes {
+                break;
+            }
+            at = node.yes;
+        }
+        Ok(tail)
+    }
+
+    /// Puts a node's instruction in front, and in between once more those that have to be next.
+    fn put_before(&mut self, at: usize, alloc: A) -> Result<(), AllocError> {
+        if let Some(node) = self.node(at)
+            && node.flow() == Flow::Goes
+            && !self.is_next(node.yes)
+        {
+            let tail = self.tail(node.yes, alloc)?;
+            for again in tail.iter().rev() {
+                self.put(*again)?;
+            }
+        }
+        self.put(at)
+    }
+}
+
+/// For each node the last one that just goes on there.
+fn last_before<A: Allocator>(alloc: A, nodes: &[Node]) -> Result<Vec<usize, A>, AllocError> {
+    let mut before = vec![in alloc; NOWHERE; nodes.len()]?;
+    for (at, node) in nodes.iter().enumerate() {
+        if node.flow() == Flow::Goes
+            && let Some(last) = before.get_mut(node.yes)
+        {
+            *last = at;
+        }
+    }
+    Ok(before)
+}
+
+impl<A: Allocator + Clone> Writer<'_, A> {
+    /// Puts the instructions that just go on to a node in front of it, one before the other.
+    fn put_those_before(
+        &mut self,
+        at: usize,
+        before: &[usize],
+        alloc: A,
+    ) -> Result<(), AllocError> {
+        let mut last = entry_at(before, at);
+        for _ in 0..self.nodes.len() {
+            if last == NOWHERE || self.place(last) != 0 {
+                break;
+            }
+            self.put_before(last, alloc.clone()?)?;
+            if self.place(last) == 0 {
+                break;
+            }
+            last = entry_at(before, last);
+        }
+        Ok(())
+    }
+
+    fn put_all(&mut self, before: &[usize], alloc: A) -> Result<(), AllocError> {
+        for at in (0..self.nodes.len()).rev() {
+            if self.place(at) == 0 {
+                self.put_before(at, alloc.clone()?)?;
+                self.put_those_before(at, before, alloc.clone()?)?;
+            }
+        }
+        Ok(())
+    }
+}
+
+/// The code of a graph, whose edges lead on, if it has at most so many instructions.
+pub(crate) fn written<A: Allocator + Clone>(
+    alloc: A,
+    nodes: &[Node],
+    most: usize,
+) -> Result<Option<Vec<Wide, A>>, AllocError> {
+    let before = last_before(alloc.clone()?, nodes)?;
+    let mut writer = Writer {
+        nodes,
+        places: vec![in alloc.clone()?; 0; nodes.len()]?,
+        backwards: Vec::new(alloc.clone()?),
+        most,
+    };
+    writer.put_all(&before, alloc)?;
+    let len = writer.place(0);
+    let mut code = writer.backwards;
+    code.truncate(len);
+    code.reverse();
+    Ok((len > 0).then_some(code))
+}
