@@ -20,9 +20,11 @@ use Rattle.flt_opt.specs.declared.note.Fact.{Fact}
 use Rattle.flt_opt.specs.declared.note.Piece.{Piece}
 use Rattle.flt_opt.specs.declared.note.Registers.{Registers}
 use Rattle.flt_opt.specs.Terms.{Hold, after, leads_on}
-use Rattle.flt_opt.specs.Facts.{Known, IsDecided}
+use Rattle.flt_opt.specs.Facts.{Known, IsDecided, outcome}
 use Rattle.flt_opt.specs.Alike.{Drifted, Drifts, DriftsTo, DriftsFrom, IsRejection, Rejects}
 use Rattle.flt_opt.proofs.Steps.{effect, knows_step}
+use Rattle.flt_opt.proofs.Values.{shown}
+use Rattle.flt_opt.proofs.Walking.{at_goes}
 use Rattle.flt_opt.proofs.Rules.{at_step}
 
 -- an operation that leads on goes to the next instruction, or the run returns 0
@@ -99,3 +101,26 @@ rejected code from at i r known facts pieces ls before there is p n t answer hol
     by : (answer ≡ 0) ⊎ DriftsTo code p n known answer at → answer ≡ 0
     by (inl z) = z
     by (inr d) = let both : Some 0 ≡ Some answer = sym (rejection_is code p n at i d.state there is) ∙ d.returns in let same : 0 ≡ answer = cc in sym same
+
+-- what was left of the way rejects
+pub rejects_then : (code : List Insn) (from at : ℕ) (r known : Registers) (facts : List Fact) (pieces : List Piece) (ls : List Learnt) → DriftsFrom code from at r known facts pieces ls → Rejects code at known facts pieces ls → Rejects code from r facts pieces ls
+rejects_then code from at r known facts pieces ls before rest p n t answer hold k e = by (before p n t answer hold k e)
+  where
+    by : (answer ≡ 0) ⊎ DriftsTo code p n known answer at → answer ≡ 0
+    by (inl z) = z
+    by (inr d) = rest p n d.state answer d.hold k d.returns
+
+-- both ways of a test reject
+module _ (code : List Insn) (at : ℕ) (i : Insn) (test : Test) (r : Registers) (facts : List Fact) (pieces : List Piece) (ls : List Learnt) (there : slice_get code at ≡ Some i) (is : operation_of i.code ≡ Some (JumpIf test Constant)) where
+  way_rejects : (holds : Bool) → Rejects code (at + 1 + (if holds then i.jt else i.jf)) r facts pieces (outcome test i.k r.accumulator holds ∷ ls) → (p : List ℕ) (n : ℕ) (t : State) (answer : ℕ) → Hold p n r t → Known p n facts pieces ls → test_holds test t.accumulator i.k ≡ holds → answer_of code p n at t ≡ Some answer → answer ≡ 0
+  way_rejects holds rejects p n t answer hold k truth e =
+      let goes : step i p n t ≡ Goes (if holds then i.jt else i.jf) t = knows_step p n i (JumpIf test Constant) t is ∙ ap (λ z. Goes (if z then i.jt else i.jf) t) truth in
+      let learnt = shown p n t.accumulator test i.k r.accumulator holds hold.accumulator truth in
+      rejects p n t answer hold (record { noted = k.noted; shown = (learnt, k.shown) }) (sym (at_goes code p n at i t t (if holds then i.jt else i.jf) there goes) ∙ e)
+
+  pub both_reject : Rejects code (at + 1 + i.jt) r facts pieces (outcome test i.k r.accumulator true ∷ ls) → Rejects code (at + 1 + i.jf) r facts pieces (outcome test i.k r.accumulator false ∷ ls) → Rejects code at r facts pieces ls
+  both_reject hit miss p n t answer hold k e = by (test_holds test t.accumulator i.k) refl
+    where
+      by : (z : Bool) → test_holds test t.accumulator i.k ≡ z → answer ≡ 0
+      by true w = way_rejects true hit p n t answer hold k w e
+      by false w = way_rejects false miss p n t answer hold k w e

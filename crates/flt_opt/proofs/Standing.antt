@@ -1,6 +1,6 @@
 -- From each note on both programs return the same.
 use Rattle.std.proofs.Common.{◌≡◌, ℕ, zero, suc, ◌+◌, ◌<◌, ◌≤◌, List, [], ◌∷◌, length, get_or, take, drop, Bool, true, false, Some, refl, sym, ap, ◌∙◌, subst, arith}
-use Rattle.std.specs.Prelude.{◌≢◌, ◌-◌, ◌==◌, ◌&&◌, nat_le, slice_get, slice_range, if◌then◌else◌, All}
+use Rattle.std.specs.Prelude.{not, ◌≢◌, ◌-◌, ◌==◌, ◌&&◌, nat_le, slice_get, slice_range, if◌then◌else◌, All}
 use Rattle.std.proofs.lemmas.Bool.Decides.{nat_tests}
 use Rattle.std.proofs.lemmas.Option.{get_or_from_slice_get}
 use Rattle.flt_bpf.specs.declared.insn.Insn.{Insn}
@@ -19,7 +19,7 @@ use Rattle.flt_opt.specs.declared.validator.Condition.{Condition}
 use Rattle.flt_opt.specs.declared.validator.Programs.{Programs}
 use Rattle.flt_opt.specs.declared.validator.Way.{Way}
 use Rattle.flt_opt.specs.Terms.{Agree, Holds}
-use Rattle.flt_opt.specs.Facts.{AllHold, AllLearnt, LearntHolds, FactsFollow, outcome, part}
+use Rattle.flt_opt.specs.Facts.{IsDecided, AllHold, AllLearnt, LearntHolds, FactsFollow, outcome, part}
 use Rattle.flt_opt.specs.Alike.{Walks, IsGood, LeadsTo, Branches, Tests, IsSound, AreSound, Begins}
 use Rattle.flt_opt.specs.Replaces.{Replaces}
 use Rattle.flt_opt.specs.Alike.{IsRejection, Rejects}
@@ -103,5 +103,16 @@ replaced programs begins sound free = record {
 pub reject_good : (programs : Programs) (way : Way) (facts : List Fact) (learnt : List Learnt) (i : Insn) → slice_get programs.new.now way.new ≡ Some i → IsRejection i → Rejects programs.old.now way.old way.both.old facts programs.notes.pieces.now learnt → LeadsTo programs way facts learnt
 reject_good programs way facts learnt i there is rejects p n at low good = record {
   returns = λ s t answer agree known e.
-  (rejection_is programs.new.now p n way.new i s there is ∙ ap Some (sym (rejects p n t answer agree.old_registers known e)));
+      (rejection_is programs.new.now p n way.new i s there is ∙ ap Some (sym (rejects p n t answer agree.old_registers known e)));
 }
+
+-- a test doesn't come out so
+pub never_good : (programs : Programs) (m : Note) (b : Both) (i : Insn) (k : ℕ) (condition : Condition) (holds : Bool) (at_old : ℕ) → condition.operand ≡ Constant → k ≡ i.k → IsDecided condition.test k b.new.accumulator (part programs.notes.facts.now m.facts) programs.notes.pieces.now [] (not holds) → Branches programs m b i condition holds at_old
+never_good programs m b i k condition holds at_old constant same decided p n s t answer good agree hold h e =
+    let truth : test_holds condition.test s.accumulator k ≡ holds = ap (λ z. test_holds condition.test s.accumulator z) same ∙ ap (λ o. test_holds condition.test s.accumulator (operand_value o i.k s.index)) (sym constant) ∙ h in
+    let other = decided p n s.accumulator (record { noted = hold; shown = tt }) agree.new_registers.accumulator in
+    differ holds (sym truth ∙ other)
+  where
+    differ : (z : Bool) {A : Type 0} → z ≡ not z → A
+    differ true w = cc
+    differ false w = cc

@@ -107,7 +107,14 @@ fn numbers_follow(wanted: Fact, knowledge: &Knowledge) -> bool
     let (pieces, learnt) = (knowledge.pieces, knowledge.learnt);
     let numbers = part(pieces, wanted.pieces);
     match numbers_of(wanted.term, knowledge.facts) {
-        None => covered(numbers_at_most(wanted.term), wanted.term, learnt, numbers, 0).is_some(),
+        None => covered(
+            numbers_at_most(wanted.term),
+            wanted.term,
+            learnt,
+            numbers,
+            0,
+        )
+        .is_some(),
         Some(span) => {
             same_span(span, wanted.pieces)
                 || are_within(part(pieces, span), wanted.term, learnt, numbers)

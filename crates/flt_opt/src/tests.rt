@@ -248,10 +248,33 @@ fn what_a_walk_passes(rt: HostRuntime) {
         note(0, 0, same(Term::Anything), none(), 1, 0),
         note(1, 2, apart(), none(), 0, 0),
     ];
+    let forks = [line(LOAD_HALF, 12), test(EQUAL, 7, 0, 0), line(RETURN, 1)];
     assert!(rt; replaces(&new, &again, no_facts(&notes)));
+    assert!(rt; replaces(&new, &forks, no_facts(&notes)));
     assert!(rt; !replaces(&new, &stores, no_facts(&notes)), "a store");
     assert!(rt;
         !replaces(&new, &fails, no_facts(&notes)),
         "a load that may fail"
     );
+}
+
+/// On its way to a rejection it passes all but tests that aren't decided.
+#[test]
+fn what_a_rejected_run_passes(rt: HostRuntime) {
+    let new = [line(LOAD_HALF, 12), line(RETURN, 0)];
+    let rejects = [
+        line(LOAD_HALF, 12),
+        line(STORE, 0),
+        line(LOAD_HALF, 14),
+        line(RETURN, 0),
+    ];
+    let accepts = [
+        line(LOAD_HALF, 12),
+        line(STORE, 0),
+        line(LOAD_HALF, 14),
+        line(RETURN, 1),
+    ];
+    let notes = [note(0, 0, same(Term::Anything), none(), 0, 0)];
+    assert!(rt; replaces(&new, &rejects, no_facts(&notes)));
+    assert!(rt; !replaces(&new, &accepts, no_facts(&notes)));
 }

@@ -1,6 +1,6 @@
 //! Whether a program may replace another one: note by note, by four rules.
 
-ghost use Rattle.std.specs.Prelude.{◌≡◌, ◌≢◌, ◌↔◌, ℕ, ◌+◌, ◌^◌, ◌<◌, List, [], Some, All, IsTrue, slice_get};
+ghost use Rattle.std.specs.Prelude.{◌≡◌, ◌≢◌, ◌↔◌, ℕ, ◌+◌, ◌^◌, ◌<◌, List, [], not, Some, All, IsTrue, slice_get};
 ghost use Rattle.std.specs.Prelude.{if◌then◌else◌};
 ghost use Rattle.flt_bpf.specs.declared.operation.Operation.TheVariants.{Jump, JumpIf};
 ghost use Rattle.flt_bpf.specs.Instructions.{code_of, operation_of};
@@ -10,16 +10,16 @@ ghost use Rattle.flt_opt.specs.Alike.{AreSound, Begins, IsBits};
 ghost use Rattle.flt_opt.specs.Replaces.{Replaces};
 ghost use Rattle.flt_opt.specs.Terms.{Agree};
 ghost use Rattle.flt_bpf.specs.Machine.{start};
-ghost use Rattle.flt_opt.specs.Facts.{part};
+ghost use Rattle.flt_opt.specs.Facts.{part, IsDecided};
 
-use crate::facts::{Knowledge, Learnt, facts_in, outcome};
+use crate::facts::{Knowledge, Learnt, decided, facts_in, outcome};
 use crate::follows::{facts_follow, fits, same_accumulator, same_index};
 use crate::note::{Both, Fact, Note, Notes, Registers, Term};
 use crate::terms::{
     after_both, after_loads, after_new, after_old, asked, is_known, is_load, leads_on,
     reads_accumulator, reads_index, returns, same_term,
 };
-use crate::walk::{Route, goes_on, is_rejection, rejects, walk};
+use crate::walk::{Route, Start, goes_on, is_rejection, rejects, walk};
 use flt_bpf::Wide;
 use flt_bpf::operation::{AluOperation, Operand, Operation, Test, decode};
 
@@ -76,7 +76,14 @@ fn leads_to(programs: &Programs, facts: &[Fact], learnt: &[Learnt], way: &Way, t
         goal: note.old,
         splits: MOST_SPLITS,
     };
-    let Some(both) = walk(programs.old, facts, knowledge.pieces, learnt, &way.both, route) else {
+    let Some(both) = walk(
+        programs.old,
+        facts,
+        knowledge.pieces,
+        learnt,
+        &way.both,
+        route,
+    ) else {
         return false;
     };
     fits(&both, &note.registers) && facts_follow(facts_of(programs, note), &knowledge, &way.both)
@@ -92,12 +99,12 @@ fn both_reject(programs: &Programs, facts: &[Fact], learnt: &[Learnt], way: &Way
     if !is_rejection(*insn) {
         return false;
     }
-    let knowledge = Knowledge {
-        facts,
-        pieces: programs.notes.pieces,
-        learnt,
+    let start = Start {
+        at: way.old,
+        splits: MOST_SPLITS,
     };
-    rejects(programs.old, &knowledge, way.both.old, way.old)
+    let pieces = programs.notes.pieces;
+    rejects(programs.old, facts, pieces, learnt, way.both.old, start)
 }
 
 /// A way leads to a note, or to a rejection in both runs.
@@ -124,6 +131,29 @@ fn way_from(note: &Note, both: &Both, new: Wide, holds: bool, old: usize) -> Way
     }
 }
 
+/// A test of the new program has another outcome, by what is known.
+fn never_comes(
+    programs: &Programs,
+    facts: &[Fact],
+    both: &Both,
+    new: Wide,
+    test: Test,
+    holds: bool,
+) -> bool
+    ensures { IsTrue result → IsDecided test new.k both.now.new.accumulator facts.now
+        programs.now.notes.pieces.now [] (not holds) }
+{
+    let knowledge = Knowledge {
+        facts,
+        pieces: programs.notes.pieces,
+        learnt: &[],
+    };
+    match decided(test, new.k, both.new.accumulator, &knowledge) {
+        None => false,
+        Some(outcome) => outcome != holds,
+    }
+}
+
 /// A test of the new program that holds, or doesn't, leads to a note.
 fn branch_leads(
     programs: &Programs,
@@ -142,6 +172,9 @@ fn branch_leads(
     let to = if holds { note.yes } else { note.no };
     match condition.operand {
         Operand::Constant => {
+            if never_comes(programs, facts, both, new, condition.test, holds) {
+                return true;
+            }
             let learnt = [outcome(condition.test, new.k, both.new.accumulator, holds)];
             leads(programs, facts, &learnt, &way, to)
         }

@@ -160,6 +160,10 @@ fn one_way(
             let more = [shown, *first, *second];
             walk(old, facts, pieces, &more, both, route)
         }
+        [first, second, third] => {
+            let more = [shown, *first, *second, *third];
+            walk(old, facts, pieces, &more, both, route)
+        }
         _ => None,
     }
 }
@@ -189,17 +193,32 @@ pub(crate) fn is_rejection(insn: Wide) -> bool
     insn.code == Operation::ReturnConstant.code() && insn.k == 0
 }
 
+/// Where a run is, and how many tests it may still go both ways from.
+#[derive(Clone, Copy)]
+pub(crate) struct Start {
+    pub at: usize,
+    pub splits: u32,
+}
+
 /// A run returns 0 from a place on, if it returns.
+#[cycle(rejecting)]
 pub(crate) fn rejects(
     code: &[Wide],
-    knowledge: &Knowledge,
+    facts: &[Fact],
+    pieces: &[Piece],
+    learnt: &[Learnt],
     registers: Registers,
-    from: usize,
+    start: Start,
 ) -> bool
-    ensures { IsTrue result → Rejects code.now from registers knowledge.now.facts.now
-        knowledge.now.pieces.now knowledge.now.learnt.now }
+    ensures { IsTrue result → Rejects code.now start.at registers facts.now pieces.now
+        learnt.now }
 {
-    let mut at = from;
+    let knowledge = Knowledge {
+        facts,
+        pieces,
+        learnt,
+    };
+    let mut at = start.at;
     let mut known = registers;
     'steps: for _ in 0..MOST_STEPS {
         let Some(insn) = code.get(at) else {
@@ -209,11 +228,93 @@ pub(crate) fn rejects(
         if is_rejection(insn) {
             return true;
         }
-        let Some((skipped, next)) = drift(insn, knowledge, known) else {
-            return false;
+        let Some((skipped, next)) = drift(insn, &knowledge, known) else {
+            let here = Start {
+                at,
+                splits: start.splits,
+            };
+            return both_ways_reject(code, facts, pieces, learnt, known, insn, here);
         };
         at += 1 + skipped as usize;
         known = next;
     }
     false
+}
+
+/// The same from a test on, both ways.
+#[cycle(rejecting)]
+fn both_ways_reject(
+    code: &[Wide],
+    facts: &[Fact],
+    pieces: &[Piece],
+    learnt: &[Learnt],
+    registers: Registers,
+    insn: Wide,
+    start: Start,
+) -> bool
+    requires bound { start.at < 2 ^ 62 }
+    requires there { slice_get code.now start.at ≡ Some insn }
+    ensures { IsTrue result → Rejects code.now start.at registers facts.now pieces.now
+        learnt.now }
+{
+    if start.splits == 0 {
+        return false;
+    }
+    let Some(operation) = decode(insn.code) else {
+        return false;
+    };
+    let Some(test) = test_of(operation) else {
+        return false;
+    };
+    let hit = Start {
+        at: start.at + 1 + insn.yes as usize,
+        splits: start.splits - 1,
+    };
+    let miss = Start {
+        at: start.at + 1 + insn.no as usize,
+        splits: start.splits - 1,
+    };
+    let (yes, no) = (
+        outcome(test, insn.k, registers.accumulator, true),
+        outcome(test, insn.k, registers.accumulator, false),
+    );
+    if !one_way_rejects(code, facts, pieces, learnt, registers, yes, hit) {
+        return false;
+    }
+    one_way_rejects(code, facts, pieces, learnt, registers, no, miss)
+}
+
+/// The same where a test has shown more.
+#[cycle(rejecting)]
+fn one_way_rejects(
+    code: &[Wide],
+    facts: &[Fact],
+    pieces: &[Piece],
+    learnt: &[Learnt],
+    registers: Registers,
+    shown: Learnt,
+    start: Start,
+) -> bool
+    ensures { IsTrue result → Rejects code.now start.at registers facts.now pieces.now
+        (shown ∷ learnt.now) }
+{
+    match learnt {
+        [] => {
+            let more = [shown];
+            rejects(code, facts, pieces, &more, registers, start)
+        }
+        [first] => {
+            let more = [shown, *first];
+            rejects(code, facts, pieces, &more, registers, start)
+        }
+        [first, second] => {
+            let more = [shown, *first, *second];
+            rejects(code, facts, pieces, &more, registers, start)
+        }
+        [first, second, third] => {
+            let more = [shown, *first, *second, *third];
+            rejects(code, facts, pieces, &more, registers, start)
+        }
+        _ => false,
+    }
 }

@@ -1,9 +1,18 @@
-use Rattle.std.proofs.Common.{[], ◌∷◌, ap}
-use Rattle.flt_opt.proofs.Standing.{shown_constant, branch_good}
+use Rattle.std.proofs.Common.{[], ◌∷◌, refl, ap, subst}
+use Rattle.std.specs.Prelude.{not}
+use Rattle.flt_opt.specs.Facts.{IsDecided}
+use Rattle.flt_opt.proofs.Standing.{shown_constant, branch_good, never_good}
 use Rattle.flt_opt.proofs.validator.branch_leads.Goals as goal
 
-pub returns-in-Constant : goal.returns-in-Constant
-returns-in-Constant c = λ e.
+pub returns-then-never_comes : goal.returns-then-never_comes
+returns-then-never_comes c = λ e.
+    let a = c.args in
+    let programs = a.programs.now in
+    never_good programs a.note.now a.both.now a.new a.new.k a.condition a.holds a.old c.in-Constant.is refl
+    (subst (λ z. IsDecided a.condition.test a.new.k a.both.now.new.accumulator z programs.notes.pieces.now [] (not a.holds)) c.facts_of-facts.ensures (c.never_comes.ensures c.if-never_comes.true))
+
+pub returns-else-never_comes : goal.returns-else-never_comes
+returns-else-never_comes c = λ e.
     let a = c.args in
     branch_good a.programs.now a.note.now a.both.now a.new a.condition a.holds a.old (c.outcome.result ∷ []) c.way_from-way.result c.facts_of-facts.result.now
     (shown_constant a.condition a.new c.new.inside.k a.both.now a.holds c.outcome.result c.in-Constant.is (ap (λ i. i.k) c.new.view_is) c.outcome.ensures)
