@@ -1,6 +1,6 @@
 -- From each note on both programs return the same.
-use Rattle.std.proofs.Common.{◌≡◌, ℕ, zero, suc, ◌+◌, ◌<◌, ◌≤◌, List, [], ◌∷◌, length, get_or, take, drop, Bool, true, false, Some, refl, sym, ap, ◌∙◌, subst, arith}
-use Rattle.std.specs.Prelude.{not, ◌≢◌, ◌-◌, ◌==◌, ◌&&◌, nat_le, slice_get, slice_range, if◌then◌else◌, All}
+use Rattle.std.proofs.Common.{inr, None, ◌≡◌, ℕ, zero, suc, ◌+◌, ◌<◌, ◌≤◌, List, [], ◌∷◌, length, get_or, Bool, true, false, Some, refl, sym, ap, ◌∙◌, subst, arith}
+use Rattle.std.specs.Prelude.{not, ◌≢◌, ◌==◌, slice_get, if◌then◌else◌, All}
 use Rattle.std.proofs.lemmas.Bool.Decides.{nat_tests}
 use Rattle.std.proofs.lemmas.Option.{get_or_from_slice_get}
 use Rattle.flt_bpf.specs.declared.insn.Insn.{Insn}
@@ -9,18 +9,17 @@ use Rattle.flt_bpf.specs.declared.operation.Operation.TheVariants.{Jump, JumpIf}
 use Rattle.flt_bpf.specs.declared.operation.Operand.TheVariants.{Constant}
 use Rattle.flt_bpf.specs.Answer.{answer_of}
 use Rattle.flt_bpf.specs.Instructions.{code_of, operation_of}
-use Rattle.flt_bpf.specs.Machine.{Goes, test_holds, operand_value, start}
+use Rattle.flt_bpf.specs.Machine.{Goes, test_holds, operand_value}
 use Rattle.flt_opt.specs.declared.facts.Learnt.{Learnt}
 use Rattle.flt_opt.specs.declared.note.Both.{Both}
 use Rattle.flt_opt.specs.declared.note.Fact.{Fact}
 use Rattle.flt_opt.specs.declared.note.Note.{Note}
-use Rattle.flt_opt.specs.declared.note.Span.{Span}
 use Rattle.flt_opt.specs.declared.validator.Condition.{Condition}
 use Rattle.flt_opt.specs.declared.validator.Programs.{Programs}
 use Rattle.flt_opt.specs.declared.validator.Way.{Way}
 use Rattle.flt_opt.specs.Terms.{Agree, Holds}
-use Rattle.flt_opt.specs.Facts.{IsDecided, AllHold, AllLearnt, LearntHolds, FactsFollow, outcome, part}
-use Rattle.flt_opt.specs.Alike.{Walks, IsGood, LeadsTo, Branches, Tests, IsSound, AreSound, Begins}
+use Rattle.flt_opt.specs.Facts.{IsDecided, AllLearnt, LearntHolds, FactsFollow, outcome, part}
+use Rattle.flt_opt.specs.Alike.{Reaches, IsGood, LeadsTo, Branches, Tests, IsSound, AreSound, Begins}
 use Rattle.flt_opt.specs.Replaces.{Replaces}
 use Rattle.flt_opt.specs.Alike.{IsRejection, Rejects}
 use Rattle.flt_opt.proofs.Drifting.{rejection_is}
@@ -28,10 +27,10 @@ use Rattle.flt_opt.proofs.Steps.{knows_step}
 use Rattle.flt_opt.proofs.Values.{shown}
 use Rattle.flt_opt.proofs.Walking.{at_goes}
 
-pub leads_good : (programs : Programs) (way : Way) (facts : List Fact) (learnt : List Learnt) (k : ℕ) (m : Note) (known : Both) → slice_get programs.notes.notes.now k ≡ Some m → m.new ≡ way.new → Walks programs.old.now way.old m.old way.both known facts programs.notes.pieces.now learnt → ((p : List ℕ) (n : ℕ) (s t : State) → Agree p n known s t → Agree p n m.registers s t) → FactsFollow (part programs.notes.facts.now m.facts) way.both facts programs.notes.pieces.now learnt → LeadsTo programs way facts learnt
-leads_good programs way facts learnt k m known there same walks fits follow p n at low good = record {
+pub leads_good : (programs : Programs) (way : Way) (facts : List Fact) (learnt : List Learnt) (k : ℕ) (m : Note) (known : Both) (kept : List Learnt) → slice_get programs.notes.notes.now k ≡ Some m → m.new ≡ way.new → ((p : List ℕ) (n : ℕ) → AllLearnt p n learnt → AllLearnt p n kept) → Reaches programs.old.now m.old facts programs.notes.pieces.now (record { at = way.old; known = way.both; learnt = kept; met = None }) known → ((p : List ℕ) (n : ℕ) (s t : State) → Agree p n known s t → Agree p n m.registers s t) → FactsFollow (part programs.notes.facts.now m.facts) way.both facts programs.notes.pieces.now learnt → LeadsTo programs way facts learnt
+leads_good programs way facts learnt k m known kept there same keeps walks fits follow p n at low good = record {
   returns = λ s t answer agree k' e.
-      (let c = walks p n s t answer agree k' e in
+      (let c = walks p n s answer k'.noted (inr (record { state = t; agree = agree; shown = keeps p n k'.shown; returns = e })) in
       let g = good k m there (subst (λ z. at ≤ z) (sym same) low) in
       ap (λ z. answer_of programs.new.now p n z s) (sym same)
       ∙ g.returns s c.state answer (fits p n s c.state c.agree) (record { noted = follow p n s t agree k'; shown = tt }) c.returns);

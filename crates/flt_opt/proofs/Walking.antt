@@ -1,6 +1,6 @@
 -- A run goes on by what is known.
-use Rattle.std.proofs.Common.{◌≡◌, ℕ, zero, suc, ◌+◌, List, [], ◌∷◌, Bool, true, false, Some, refl, sym, ap, ◌∙◌, arith}
-use Rattle.std.specs.Prelude.{slice_get, if◌then◌else◌}
+use Rattle.std.proofs.Common.{◌≡◌, ℕ, zero, suc, ◌+◌, List, [], ◌∷◌, Bool, true, false, Option, Some, None, inl, inr, IfSome, IsSome, refl, sym, ap, ◌∙◌, subst, arith}
+use Rattle.std.specs.Prelude.{not, slice_get, if◌then◌else◌}
 use Rattle.flt_bpf.specs.declared.insn.Insn.{Insn}
 use Rattle.flt_bpf.specs.declared.machine.State.{State}
 use Rattle.flt_bpf.specs.declared.operation.Operation.{Operation}
@@ -14,11 +14,11 @@ use Rattle.flt_opt.specs.declared.facts.Learnt.{Learnt}
 use Rattle.flt_opt.specs.declared.note.Both.{Both}
 use Rattle.flt_opt.specs.declared.note.Fact.{Fact}
 use Rattle.flt_opt.specs.declared.note.Piece.{Piece}
-use Rattle.flt_opt.specs.Terms.{Agree, after_old, is_jump, test_of}
-use Rattle.flt_opt.specs.Facts.{Known, IsDecided, outcome}
-use Rattle.flt_opt.specs.Alike.{IsSure, Passes, Comes, Walks}
+use Rattle.flt_opt.specs.Terms.{Agree, Holds, after_old, is_jump, test_of}
+use Rattle.flt_opt.specs.Facts.{AllLearnt, IsDecided}
+use Rattle.flt_opt.specs.declared.walk.Stage.{Stage}
+use Rattle.flt_opt.specs.Alike.{IsSure, Passes, Comes, HereAt, HasMet, IsOn, Advances, Reaches}
 use Rattle.flt_opt.proofs.Steps.{op_sure, agree_old, knows_step}
-use Rattle.flt_opt.proofs.Values.{shown}
 
 -- where an instruction goes on
 pub at_goes : (c : List Insn) (p : List ℕ) (n k : ℕ) (i : Insn) (s u : State) (far : ℕ) → slice_get c k ≡ Some i → step i p n s ≡ Goes far u → answer_of c p n k s ≡ answer_of c p n (k + 1 + far) u
@@ -61,37 +61,74 @@ pass_test i test holds far b facts pieces ls e decided is p n s t agree known =
       agree = agree;
     }
 
-pub walk_more : (old : List Insn) (from at far : ℕ) (i : Insn) (b known next : Both) (facts : List Fact) (pieces : List Piece) (ls : List Learnt) → Walks old from at b known facts pieces ls → slice_get old at ≡ Some i → Passes i far known next facts pieces ls → Walks old from (at + (1 + far)) b next facts pieces ls
-walk_more old from at far i b known next facts pieces ls walks there passes p n s t answer agree k returns =
-    let c = walks p n s t answer agree k returns in
-    let q = passes p n s c.state c.agree k in
-    let place : at + (1 + far) ≡ at + 1 + far = omega arith in
-    record {
+-- a walk goes on behind an instruction that can't fail
+pub advance_pass : (old : List Insn) (goal far : ℕ) (i : Insn) (known : Both) (facts : List Fact) (pieces : List Piece) (stage : Stage) → slice_get old stage.at ≡ Some i → Passes i far stage.known known facts pieces stage.learnt → Advances old goal facts pieces stage (record { at = stage.at + 1 + far; known = known; learnt = stage.learnt; met = stage.met })
+advance_pass old goal far i known facts pieces stage there passes p n s answer hold (inl met) = inl met
+advance_pass old goal far i known facts pieces stage there passes p n s answer hold (inr here) =
+    let q = passes p n s here.state here.agree (record { noted = hold; shown = here.shown }) in
+    inr (record {
       state = q.state;
       agree = q.agree;
-      returns = ap (λ z. answer_of old p n z q.state) place ∙ sym (at_goes old p n at i c.state q.state far there q.goes) ∙ c.returns;
+      shown = here.shown;
+      returns = sym (at_goes old p n stage.at i here.state q.state far there q.goes) ∙ here.returns;
+    })
+
+-- what is known on ways that met is known of all of them
+met_more : (old : List Insn) (goal : ℕ) (x y : Option Both) (p : List ℕ) (n : ℕ) (s : State) (answer : ℕ) → IfSome x (λ o. IfSome y (λ b. (p : List ℕ) (n : ℕ) (s t : State) → Agree p n o s t → Agree p n b s t)) → IsSome y → HasMet old p n s answer goal x → HasMet old p n s answer goal y
+met_more old goal None y p n s answer fits some met = absurd met
+met_more old goal (Some o) None p n s answer fits some met = cc
+met_more old goal (Some o) (Some b) p n s answer fits some met = record { state = met.state; agree = fits p n s met.state met.agree; returns = met.returns }
+
+met_one : (old : List Insn) (goal : ℕ) (one : Both) (y : Option Both) (p : List ℕ) (n : ℕ) (s : State) (answer : ℕ) → IfSome y (λ b. (p : List ℕ) (n : ℕ) (s t : State) → Agree p n one s t → Agree p n b s t) → IsSome y → Comes old p n one s answer goal → HasMet old p n s answer goal y
+met_one old goal one None p n s answer fits some met = cc
+met_one old goal one (Some b) p n s answer fits some met = record { state = met.state; agree = fits p n s met.state met.agree; returns = met.returns }
+
+pick : (h z : Bool) {P : Type 0} → (z ≡ h → P) → (z ≡ not h → P) → P
+pick true true f g = f refl
+pick true false f g = g refl
+pick false true f g = g refl
+pick false false f g = f refl
+
+-- a way of a test
+pub record IsWay (stage : Stage) (i : Insn) (test : Test) (holds : Bool) (way : Stage) : Type 0 where
+  pub at : way.at ≡ stage.at + 1 + (if holds then i.jt else i.jf)
+  pub known : way.known ≡ stage.known
+  pub learnt : (p : List ℕ) (n v : ℕ) → Holds p n stage.known.old.accumulator v → test_holds test v i.k ≡ holds → AllLearnt p n stage.learnt → AllLearnt p n way.learnt
+
+on_way : (old : List Insn) (i : Insn) (test : Test) (holds : Bool) (stage way : Stage) (p : List ℕ) (n : ℕ) (s : State) (answer : ℕ) → slice_get old stage.at ≡ Some i → operation_of i.code ≡ Some (JumpIf test Constant) → IsWay stage i test holds way → (here : HereAt old p n s answer stage) → test_holds test here.state.accumulator i.k ≡ holds → HereAt old p n s answer way
+on_way old i test holds stage way p n s answer there is w here truth =
+    let t = here.state in
+    let far = if holds then i.jt else i.jf in
+    let goes : step i p n t ≡ Goes far t = knows_step p n i (JumpIf test Constant) t is ∙ ap (λ z. Goes (if z then i.jt else i.jf) t) truth in
+    record {
+      state = t;
+      agree = subst (λ z. Agree p n z s t) (sym w.known) here.agree;
+      shown = w.learnt p n t.accumulator here.agree.old_registers.accumulator truth here.shown;
+      returns = ap (λ z. answer_of old p n z t) w.at ∙ sym (at_goes old p n stage.at i t t far there goes) ∙ here.returns;
     }
 
--- one walk after another
-pub walk_then : (old : List Insn) (from at goal : ℕ) (b known last : Both) (facts : List Fact) (pieces : List Piece) (ls : List Learnt) → Walks old from at b known facts pieces ls → Walks old at goal known last facts pieces ls → Walks old from goal b last facts pieces ls
-walk_then old from at goal b known last facts pieces ls one two p n s t answer agree k e =
-    let c = one p n s t answer agree k e in
-    two p n s c.state answer c.agree k c.returns
+-- one way of a test leads to the goal, and the walk goes on along the other one
+pub fork_step : (old : List Insn) (goal : ℕ) (facts : List Fact) (pieces : List Piece) (i : Insn) (test : Test) (holds : Bool) (stage way other next : Stage) (one : Both) → slice_get old stage.at ≡ Some i → operation_of i.code ≡ Some (JumpIf test Constant) → IsWay stage i test holds way → way.met ≡ None → IsWay stage i test (not holds) other → Reaches old goal facts pieces way one → next.at ≡ other.at → next.known ≡ other.known → next.learnt ≡ other.learnt → IfSome next.met (λ b. (p : List ℕ) (n : ℕ) (s t : State) → Agree p n one s t → Agree p n b s t) → IfSome stage.met (λ o. IfSome next.met (λ b. (p : List ℕ) (n : ℕ) (s t : State) → Agree p n o s t → Agree p n b s t)) → IsSome next.met → Advances old goal facts pieces stage next
+fork_step old goal facts pieces i test holds stage way other next one there is w none o reaches at known learnt fits_one fits_other some p n s answer hold (inl met) = inl (met_more old goal stage.met next.met p n s answer fits_other some met)
+fork_step old goal facts pieces i test holds stage way other next one there is w none o reaches at known learnt fits_one fits_other some p n s answer hold (inr here) =
+    pick holds (test_holds test here.state.accumulator i.k)
+    (λ e. inl (met_one old goal one next.met p n s answer fits_one some (reaches p n s answer hold (inr (on_way old i test holds stage way p n s answer there is w here e)))))
+    (λ e. let on = on_way old i test (not holds) stage other p n s answer there is o here e in
+    inr (record {
+      state = on.state;
+      agree = subst (λ z. Agree p n z s on.state) (sym known) on.agree;
+      shown = subst (λ z. AllLearnt p n z) (sym learnt) on.shown;
+      returns = ap (λ z. answer_of old p n z on.state) at ∙ on.returns;
+    }))
 
-module _ (old : List Insn) (at goal : ℕ) (i : Insn) (test : Test) (b : Both) (facts : List Fact) (pieces : List Piece) (ls : List Learnt) (there : slice_get old at ≡ Some i) (is : operation_of i.code ≡ Some (JumpIf test Constant)) where
-  abbrev pub known_after : Bool → Learnt
-  known_after holds = outcome test i.k b.old.accumulator holds
+-- the walk is at its goal
+pub at_goal : (old : List Insn) (goal : ℕ) (facts : List Fact) (pieces : List Piece) (from stage : Stage) (all : Both) → Advances old goal facts pieces from stage → stage.at ≡ goal → ((p : List ℕ) (n : ℕ) (s t : State) → Agree p n stage.known s t → Agree p n all s t) → IfSome stage.met (λ o. (p : List ℕ) (n : ℕ) (s t : State) → Agree p n o s t → Agree p n all s t) → Reaches old goal facts pieces from all
+at_goal old goal facts pieces from stage all advances at fits_known fits_met p n s answer hold on = by (advances p n s answer hold on)
+  where
+    by_met : (x : Option Both) → IfSome x (λ o. (p : List ℕ) (n : ℕ) (s t : State) → Agree p n o s t → Agree p n all s t) → HasMet old p n s answer goal x → Comes old p n all s answer goal
+    by_met None fits met = absurd met
+    by_met (Some o) fits met = record { state = met.state; agree = fits p n s met.state met.agree; returns = met.returns }
 
-  way_of : (holds : Bool) (known result : Both) → Walks old (at + 1 + (if holds then i.jt else i.jf)) goal b known facts pieces (known_after holds ∷ ls) → ((p : List ℕ) (n : ℕ) (s t : State) → Agree p n known s t → Agree p n result s t) → (p : List ℕ) (n : ℕ) (s t : State) (answer : ℕ) → Agree p n b s t → Known p n facts pieces ls → test_holds test t.accumulator i.k ≡ holds → answer_of old p n at t ≡ Some answer → Comes old p n result s answer goal
-  way_of holds known result walks fits p n s t answer agree k truth e =
-      let goes : step i p n t ≡ Goes (if holds then i.jt else i.jf) t = knows_step p n i (JumpIf test Constant) t is ∙ ap (λ z. Goes (if z then i.jt else i.jf) t) truth in
-      let learnt = shown p n t.accumulator test i.k b.old.accumulator holds agree.old_registers.accumulator truth in
-      let c = walks p n s t answer agree (record { noted = k.noted; shown = (learnt, k.shown) }) (sym (at_goes old p n at i t t (if holds then i.jt else i.jf) there goes) ∙ e) in
-      record { state = c.state; agree = fits p n s c.state c.agree; returns = c.returns }
-
-  pub fork_good : (one other result : Both) → Walks old (at + 1 + i.jt) goal b one facts pieces (known_after true ∷ ls) → Walks old (at + 1 + i.jf) goal b other facts pieces (known_after false ∷ ls) → ((p : List ℕ) (n : ℕ) (s t : State) → Agree p n one s t → Agree p n result s t) → ((p : List ℕ) (n : ℕ) (s t : State) → Agree p n other s t → Agree p n result s t) → Walks old at goal b result facts pieces ls
-  fork_good one other result hit miss fits_one fits_other p n s t answer agree k e = by (test_holds test t.accumulator i.k) refl
-    where
-      by : (z : Bool) → test_holds test t.accumulator i.k ≡ z → Comes old p n result s answer goal
-      by true w = way_of true one result hit fits_one p n s t answer agree k w e
-      by false w = way_of false other result miss fits_other p n s t answer agree k w e
+    by : IsOn old goal p n s answer stage → Comes old p n all s answer goal
+    by (inl met) = by_met stage.met fits_met met
+    by (inr here) = record { state = here.state; agree = fits_known p n s here.state here.agree; returns = ap (λ z. answer_of old p n z here.state) (sym at) ∙ here.returns }

@@ -1,5 +1,5 @@
 -- What the rules of `replaces` show.
-use Rattle.std.specs.Prelude.{◌≡◌, ℕ, ◌+◌, ◌≤◌, Bool, true, if◌then◌else◌, List, [], Option, Some, slice_get, ◌⊎◌}
+use Rattle.std.specs.Prelude.{◌≡◌, ℕ, ◌+◌, ◌≤◌, Bool, true, if◌then◌else◌, List, [], Option, Some, None, slice_get, ◌⊎◌}
 use Rattle.flt_bpf.specs.declared.insn.Insn.{Insn}
 use Rattle.flt_bpf.specs.declared.machine.State.{State}
 use Rattle.flt_bpf.specs.declared.operation.Operation.{Operation}
@@ -19,11 +19,13 @@ use Rattle.flt_opt.specs.declared.note.Registers.{Registers}
 use Rattle.flt_opt.specs.declared.validator.Condition.{Condition}
 use Rattle.flt_opt.specs.declared.validator.Programs.{Programs}
 use Rattle.flt_opt.specs.declared.validator.Way.{Way}
-use Rattle.flt_opt.specs.Facts.{AllHold, Known, part}
+use Rattle.flt_opt.specs.declared.walk.Stage.{Stage}
+use Rattle.flt_opt.specs.Facts.{AllLearnt, AllHold, Known, part}
 use Rattle.flt_opt.specs.Terms.{Agree, Hold, There, Reads, asked, is_sure}
 
 -- from a place of each program on both return the same, where so much is known
-pub record Alike (new old : List Insn) (p : List ℕ) (n : ℕ) (at_new at_old : ℕ) (b : Both) (facts : List Fact) (pieces : List Piece) (learnt : List Learnt) : Type 0 where
+pub record Alike (new old : List Insn) (p : List ℕ) (n : ℕ) (at_new at_old : ℕ) (b : Both)
+    (facts : List Fact) (pieces : List Piece) (learnt : List Learnt) : Type 0 where
   pub returns : (s t : State) (answer : ℕ) → Agree p n b s t → Known p n facts pieces learnt
       → answer_of old p n at_old t ≡ Some answer → answer_of new p n at_new s ≡ Some answer
 
@@ -33,7 +35,8 @@ IsGood new old facts pieces p n m =
     Alike new old p n m.new m.old m.registers (part facts m.facts) pieces []
 
 -- from each note on that is for a place of the new program from one on
-abbrev pub AreGoodFrom : List Insn → List Insn → List Note → List Fact → List Piece → List ℕ → ℕ → ℕ → Type 0
+abbrev pub AreGoodFrom : List Insn → List Insn → List Note → List Fact → List Piece → List ℕ → ℕ
+    → ℕ → Type 0
 AreGoodFrom new old notes facts pieces p n at =
     (j : ℕ) (m : Note) → slice_get notes j ≡ Some m → at ≤ m.new
     → IsGood new old facts pieces p n m
@@ -45,7 +48,8 @@ Stands new old notes facts pieces m =
     → IsGood new old facts pieces p n m
 
 -- the old run comes to a place, where it is as is known, and returns what it returned
-pub record Comes (old : List Insn) (p : List ℕ) (n : ℕ) (b : Both) (new_state : State) (answer at : ℕ) : Type 0 where
+pub record Comes (old : List Insn) (p : List ℕ) (n : ℕ) (b : Both) (new_state : State)
+    (answer at : ℕ) : Type 0 where
   pub state : State
   pub agree : Agree p n b new_state state
   pub returns : answer_of old p n at state ≡ Some answer
@@ -62,7 +66,8 @@ IsSure op k r b facts pieces learnt =
     → Leads op k r p n
 
 -- the old run goes on behind an instruction, and so much is known then
-pub record Passed (i : Insn) (far : ℕ) (b : Both) (p : List ℕ) (n : ℕ) (new old : State) : Type 0 where
+pub record Passed (i : Insn) (far : ℕ) (b : Both) (p : List ℕ) (n : ℕ) (new old : State)
+    : Type 0 where
   pub state : State
   pub goes : step i p n old ≡ Goes far state
   pub agree : Agree p n b new state
@@ -72,12 +77,33 @@ Passes i far b after facts pieces learnt =
     (p : List ℕ) (n : ℕ) (s t : State) → Agree p n b s t → Known p n facts pieces learnt
     → Passed i far after p n s t
 
--- from one place the old run comes to another one
-abbrev pub Walks : List Insn → ℕ → ℕ → Both → Both → List Fact → List Piece → List Learnt → Type 0
-Walks old from to b after facts pieces learnt =
-    (p : List ℕ) (n : ℕ) (s t : State) (answer : ℕ) → Agree p n b s t
-    → Known p n facts pieces learnt → answer_of old p n from t ≡ Some answer
-    → Comes old p n after s answer to
+-- the old run is where a walk is, and returns what it returned
+pub record HereAt (old : List Insn) (p : List ℕ) (n : ℕ) (new_state : State) (answer : ℕ)
+    (stage : Stage) : Type 0 where
+  pub state : State
+  pub agree : Agree p n stage.known new_state state
+  pub shown : AllLearnt p n stage.learnt
+  pub returns : answer_of old p n stage.at state ≡ Some answer
+
+-- it has come to the goal on another way
+abbrev pub HasMet : List Insn → List ℕ → ℕ → State → ℕ → ℕ → Option Both → Type 0
+HasMet old p n new_state answer goal None = ⊥
+HasMet old p n new_state answer goal (Some b) = Comes old p n b new_state answer goal
+
+abbrev pub IsOn : List Insn → ℕ → List ℕ → ℕ → State → ℕ → Stage → Type 0
+IsOn old goal p n new_state answer stage =
+    HasMet old p n new_state answer goal stage.met ⊎ HereAt old p n new_state answer stage
+
+-- a walk goes on, and comes to its goal
+abbrev pub Advances : List Insn → ℕ → List Fact → List Piece → Stage → Stage → Type 0
+Advances old goal facts pieces stage next =
+    (p : List ℕ) (n : ℕ) (s : State) (answer : ℕ) → AllHold p n pieces facts
+    → IsOn old goal p n s answer stage → IsOn old goal p n s answer next
+
+abbrev pub Reaches : List Insn → ℕ → List Fact → List Piece → Stage → Both → Type 0
+Reaches old goal facts pieces stage known =
+    (p : List ℕ) (n : ℕ) (s : State) (answer : ℕ) → AllHold p n pieces facts
+    → IsOn old goal p n s answer stage → Comes old p n known s answer goal
 
 -- the same for two programs with their notes
 abbrev pub AreGood : Programs → List ℕ → ℕ → ℕ → Type 0
@@ -143,7 +169,8 @@ pub record IsBits (new mask test : Insn) : Type 0 where
   pub same : mask.k ≡ new.k
 
 -- a run goes on behind an instruction, where so much is known, or returns 0
-pub record Drifted (far : ℕ) (after : Registers) (p : List ℕ) (n answer : ℕ) (rest : ℕ → State → Option ℕ) : Type 0 where
+pub record Drifted (far : ℕ) (after : Registers) (p : List ℕ) (n answer : ℕ)
+    (rest : ℕ → State → Option ℕ) : Type 0 where
   pub state : State
   pub hold : Hold p n after state
   pub returns : rest far state ≡ Some answer
@@ -166,12 +193,14 @@ Rejects code from r facts pieces learnt =
     → Known p n facts pieces learnt → answer_of code p n from t ≡ Some answer → answer ≡ 0
 
 -- a run from a place on returns what one from another place on returns, or 0
-pub record DriftsTo (code : List Insn) (p : List ℕ) (n : ℕ) (after : Registers) (answer at : ℕ) : Type 0 where
+pub record DriftsTo (code : List Insn) (p : List ℕ) (n : ℕ) (after : Registers) (answer at : ℕ)
+    : Type 0 where
   pub state : State
   pub hold : Hold p n after state
   pub returns : answer_of code p n at state ≡ Some answer
 
-abbrev pub DriftsFrom : List Insn → ℕ → ℕ → Registers → Registers → List Fact → List Piece → List Learnt → Type 0
+abbrev pub DriftsFrom : List Insn → ℕ → ℕ → Registers → Registers → List Fact → List Piece
+    → List Learnt → Type 0
 DriftsFrom code from to r after facts pieces learnt =
     (p : List ℕ) (n : ℕ) (t : State) (answer : ℕ) → Hold p n r t
     → Known p n facts pieces learnt → answer_of code p n from t ≡ Some answer

@@ -48,7 +48,8 @@ AllLearnt p n [] = Unit {0}
 AllLearnt p n (l ∷ ls) = LearntHolds p n l × AllLearnt p n ls
 
 -- what is known of a packet
-pub record Known (p : List ℕ) (n : ℕ) (facts : List Fact) (pieces : List Piece) (learnt : List Learnt) : Type 0 where
+pub record Known (p : List ℕ) (n : ℕ) (facts : List Fact) (pieces : List Piece)
+    (learnt : List Learnt) : Type 0 where
   pub noted : AllHold p n pieces facts
   pub shown : AllLearnt p n learnt
 

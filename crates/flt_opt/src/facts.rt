@@ -4,7 +4,7 @@ ghost use Rattle.std.specs.Prelude.{◌≡◌, ℕ, ◌<◌, true, false, List, 
 ghost use Rattle.flt_opt.specs.Facts.{in_piece};
 ghost use Rattle.flt_opt.specs.Facts.{before, only, starting, past, outcome, IsWithin, NeverIs};
 ghost use Rattle.flt_opt.specs.Facts.{IsIn, part, HasNumbers, NeverSo, NeverAmong, CannotBe};
-ghost use Rattle.flt_opt.specs.Facts.{IsDecided};
+ghost use Rattle.flt_opt.specs.Facts.{IsDecided, AllLearnt, LearntHolds};
 ghost use Rattle.flt_opt.specs.Terms.{value};
 ghost use Rattle.flt_opt.specs.declared.note.Piece.{Piece};
 
@@ -48,6 +48,32 @@ pub(crate) fn facts_in(facts: &[Fact], span: Span) -> &[Fact]
     } else {
         &[]
     }
+}
+
+/// How many outcomes of tests a walk keeps.
+pub(crate) const OUTCOMES: usize = 4;
+
+/// The outcomes of tests as a walk keeps them.
+pub(crate) fn kept_outcomes(learnt: &[Learnt]) -> [Learnt; OUTCOMES]
+    ensures { (p : List ℕ) (n : ℕ) → AllLearnt p n learnt.now → AllLearnt p n result }
+{
+    let nothing = Learnt {
+        term: Term::Anything,
+        below: only(0),
+        above: only(0),
+    };
+    match learnt {
+        [] => [nothing, nothing, nothing, nothing],
+        [first, ..] => [*first, nothing, nothing, nothing],
+    }
+}
+
+/// One more outcome in place of the oldest but the first, that with which the walk began.
+pub(crate) fn with_newest(learnt: [Learnt; OUTCOMES], shown: Learnt) -> [Learnt; OUTCOMES]
+    ensures { (p : List ℕ) (n : ℕ) → LearntHolds p n shown → AllLearnt p n learnt
+        → AllLearnt p n result }
+{
+    [learnt[0], shown, learnt[1], learnt[2]]
 }
 
 /// The numbers below one.
@@ -177,7 +203,8 @@ pub(crate) fn covered(
 
 /// Where the pieces of the first fact on a term are.
 pub(crate) fn numbers_of(term: Term, facts: &[Fact]) -> Option<Span>
-    ensures { IfSome result (λ span. (pieces : List Piece) → HasNumbers term span facts.now pieces) }
+    ensures { IfSome result (λ span. (pieces : List Piece)
+        → HasNumbers term span facts.now pieces) }
 {
     for fact in facts {
         if same_term(fact.term, term) {

@@ -250,9 +250,18 @@ fn what_a_walk_passes(rt: HostRuntime) {
         note(0, 0, same(Term::Anything), none(), 1, 0),
         note(1, 2, apart(), none(), 0, 0),
     ];
-    let forks = [line(LOAD_HALF, 12), test(EQUAL, 7, 0, 0), line(RETURN, 1)];
+    let forks = [
+        line(LOAD_HALF, 12),
+        test(EQUAL, 7, 4, 0),
+        test(EQUAL, 8, 3, 0),
+        test(EQUAL, 9, 2, 0),
+        test(EQUAL, 10, 1, 0),
+        test(EQUAL, 11, 0, 0),
+        line(RETURN, 1),
+    ];
     assert!(rt; replaces(&new, &again, no_facts(&notes)));
-    assert!(rt; replaces(&new, &forks, no_facts(&notes)));
+    let last = note(1, 6, apart(), none(), 0, 0);
+    assert!(rt; replaces(&new, &forks, no_facts(&[notes[0], last])));
     assert!(rt; !replaces(&new, &stores, no_facts(&notes)), "a store");
     let jumps = [
         line(LOAD_HALF, 12),

@@ -1,6 +1,7 @@
 //! Whether a program may replace another one: note by note, by four rules.
 
-ghost use Rattle.std.specs.Prelude.{◌≡◌, ◌≢◌, ◌↔◌, ℕ, ◌+◌, ◌^◌, ◌<◌, List, [], not, Some, All, IsTrue, slice_get};
+ghost use Rattle.std.specs.Prelude.{◌≡◌, ◌≢◌, ◌↔◌, ℕ, ◌+◌, ◌^◌, ◌<◌, List, [], not, Some, All};
+ghost use Rattle.std.specs.Prelude.{IsTrue, slice_get};
 ghost use Rattle.std.specs.Prelude.{if◌then◌else◌};
 ghost use Rattle.flt_bpf.specs.declared.operation.Operation.TheVariants.{Jump, JumpIf};
 ghost use Rattle.flt_bpf.specs.Instructions.{code_of, operation_of};
@@ -12,14 +13,14 @@ ghost use Rattle.flt_opt.specs.Terms.{Agree};
 ghost use Rattle.flt_bpf.specs.Machine.{start};
 ghost use Rattle.flt_opt.specs.Facts.{part, IsDecided};
 
-use crate::facts::{Knowledge, Learnt, decided, facts_in, outcome};
+use crate::facts::{Knowledge, Learnt, decided, facts_in, kept_outcomes, outcome};
 use crate::follows::{facts_follow, fits, same_accumulator, same_index};
 use crate::note::{Both, Fact, Note, Notes, Registers, Term};
 use crate::terms::{
     after_both, after_loads, after_new, after_old, asked, is_known, is_load, leads_on,
     reads_accumulator, reads_index, returns, same_term,
 };
-use crate::walk::{Route, Start, goes_on, is_rejection, rejects, walk};
+use crate::walk::{Stage, Start, goes_on, is_rejection, rejects, walk};
 use flt_bpf::Wide;
 use flt_bpf::operation::{AluOperation, Operand, Operation, Test, decode};
 
@@ -71,19 +72,14 @@ fn leads_to(programs: &Programs, facts: &[Fact], learnt: &[Learnt], way: &Way, t
         pieces: programs.notes.pieces,
         learnt,
     };
-    let route = Route {
-        from: way.old,
-        goal: note.old,
-        splits: MOST_SPLITS,
+    let from = Stage {
+        at: way.old,
+        known: way.both,
+        learnt: kept_outcomes(learnt),
+        met: None,
     };
-    let Some(both) = walk(
-        programs.old,
-        facts,
-        knowledge.pieces,
-        learnt,
-        &way.both,
-        route,
-    ) else {
+    let pieces = knowledge.pieces;
+    let Some(both) = walk(programs.old, facts, pieces, from, note.old, MOST_SPLITS) else {
         return false;
     };
     fits(&both, &note.registers) && facts_follow(facts_of(programs, note), &knowledge, &way.both)
@@ -310,7 +306,7 @@ fn loads_same(programs: &Programs, note: &Note, new: Wide, old: Wide) -> bool
     step_leads(programs, note, both, note.old + 1)
 }
 
-/// The codes and numbers are those of a test of bits, and of a mask and a test of what is left for 0.
+/// Three instructions are a test of bits, and a mask and a test of what is left for 0.
 fn is_bits(new: Wide, mask: Wide, test: Wide) -> bool
     ensures { IsTrue result → IsBits new mask test }
 {

@@ -1,15 +1,21 @@
 //! How far the old run goes by what is known.
 
-ghost use Rattle.std.specs.Prelude.{◌≡◌, ℕ, List, ◌+◌, ◌^◌, ◌<◌, ◌∷◌, Some, IfSome, IsTrue, slice_get};
+ghost use Rattle.std.specs.Prelude.{◌≡◌, ℕ, List, ◌+◌, ◌^◌, ◌<◌, ◌∷◌, Some, None, IfSome, IsSome};
+ghost use Rattle.std.specs.Prelude.{IsTrue, slice_get};
+ghost use Rattle.std.specs.Prelude.{if◌then◌else◌};
+ghost use Rattle.flt_bpf.specs.Machine.{test_holds};
+ghost use Rattle.flt_opt.specs.Facts.{AllLearnt};
+ghost use Rattle.flt_opt.specs.Terms.{Agree, Holds};
 ghost use Rattle.flt_bpf.specs.declared.machine.State.{State};
-ghost use Rattle.flt_opt.specs.Alike.{IsSure, Passes, Walks, Drifts, IsRejection, Rejects};
+ghost use Rattle.flt_opt.specs.Alike.{IsSure, Passes, Reaches, Advances, Drifts, IsRejection};
+ghost use Rattle.flt_opt.specs.Alike.{Rejects};
 
-use crate::facts::{Knowledge, Learnt, decided, outcome};
+use crate::facts::{Knowledge, Learnt, OUTCOMES, decided, outcome, with_newest};
 use crate::follows::{common, is_there};
 use crate::note::{Both, Fact, Piece, Registers};
 use crate::terms::{after, after_old, asked, is_jump, is_sure, leads_on, test_of};
 use flt_bpf::Wide;
-use flt_bpf::operation::{Operation, decode};
+use flt_bpf::operation::{Operation, Test, decode};
 
 /// How many instructions a walk passes at most.
 const MOST_STEPS: usize = 8192;
@@ -49,12 +55,30 @@ fn pass(insn: Wide, knowledge: &Knowledge, both: &Both) -> Option<(u32, Both)>
     }
 }
 
-/// Where a walk is, where it is to end, and how many tests it may still go both ways from.
+/// Where a walk is.
 #[derive(Clone, Copy)]
-pub(crate) struct Route {
-    pub from: usize,
-    pub goal: usize,
-    pub splits: u32,
+pub(crate) struct Stage {
+    /// The place in the old program.
+    pub at: usize,
+    /// What is known of the registers there.
+    pub known: Both,
+    /// What the last tests on this way have shown.
+    pub learnt: [Learnt; OUTCOMES],
+    /// What is known at the goal on the other ways, if there are any.
+    pub met: Option<Both>,
+}
+
+/// What is known of the registers on this way and on those that met.
+fn joined(met: &Option<Both>, known: &Both) -> Both
+    ensures known { (p : List ℕ) (n : ℕ) (new old : State) → Agree p n known.now new old
+        → Agree p n result new old }
+    ensures met { IfSome met.now (λ other. (p : List ℕ) (n : ℕ) (new old : State)
+        → Agree p n other new old → Agree p n result new old) }
+{
+    match met {
+        None => *known,
+        Some(other) => common(other, known),
+    }
 }
 
 /// What is known once the old run is at a place, if it comes there.
@@ -63,111 +87,115 @@ pub(crate) fn walk(
     old: &[Wide],
     facts: &[Fact],
     pieces: &[Piece],
-    learnt: &[Learnt],
-    both: &Both,
-    route: Route,
+    from: Stage,
+    goal: usize,
+    splits: u32,
 ) -> Option<Both>
-    ensures { IfSome result (λ known. Walks old.now route.from route.goal both.now known
-        facts.now pieces.now learnt.now) }
+    ensures { IfSome result (λ known. Reaches old.now goal facts.now pieces.now from known) }
 {
-    let knowledge = Knowledge {
-        facts,
-        pieces,
-        learnt,
-    };
-    let mut at = route.from;
-    let mut known = *both;
+    let mut stage = from;
     'steps: for _ in 0..MOST_STEPS {
-        if at == route.goal {
-            return Some(known);
+        if stage.at == goal {
+            return Some(joined(&stage.met, &stage.known));
         }
-        let insn = *old.get(at)?;
-        let Some((skipped, next)) = pass(insn, &knowledge, &known) else {
-            let here = Route {
-                from: at,
-                goal: route.goal,
-                splits: route.splits,
-            };
-            return fork(old, facts, pieces, learnt, &known, insn, here);
-        };
-        at += 1 + skipped as usize;
-        known = next;
+        stage = advance(old, facts, pieces, stage, goal, splits)?;
     }
     None
 }
 
-/// The same from a test on, both ways of which lead there.
+/// The same behind one instruction.
+#[cycle(walking)]
+fn advance(
+    old: &[Wide],
+    facts: &[Fact],
+    pieces: &[Piece],
+    stage: Stage,
+    goal: usize,
+    splits: u32,
+) -> Option<Stage>
+    ensures { IfSome result (λ next. Advances old.now goal facts.now pieces.now stage next) }
+{
+    let insn = *old.get(stage.at)?;
+    let knowledge = Knowledge {
+        facts,
+        pieces,
+        learnt: &stage.learnt,
+    };
+    if let Some((skipped, known)) = pass(insn, &knowledge, &stage.known) {
+        return Some(Stage {
+            at: stage.at + 1 + skipped as usize,
+            known,
+            learnt: stage.learnt,
+            met: stage.met,
+        });
+    }
+    fork(old, facts, pieces, stage, insn, goal, splits)
+}
+
+/// From a test that isn't decided one way leads to the goal; the walk goes on along the other one.
 #[cycle(walking)]
 fn fork(
     old: &[Wide],
     facts: &[Fact],
     pieces: &[Piece],
-    learnt: &[Learnt],
-    both: &Both,
+    stage: Stage,
     insn: Wide,
-    route: Route,
-) -> Option<Both>
-    requires bound { route.from < 2 ^ 62 }
-    requires there { slice_get old.now route.from ≡ Some insn }
-    ensures { IfSome result (λ known. Walks old.now route.from route.goal both.now known
-        facts.now pieces.now learnt.now) }
+    goal: usize,
+    splits: u32,
+) -> Option<Stage>
+    requires bound { stage.at < 2 ^ 62 }
+    requires there { slice_get old.now stage.at ≡ Some insn }
+    ensures { IfSome result (λ next. Advances old.now goal facts.now pieces.now stage next) }
 {
-    if route.splits == 0 {
+    if splits == 0 {
         return None;
     }
     let test = test_of(decode(insn.code)?)?;
-    let term = both.old.accumulator;
-    let hit = Route {
-        from: route.from + 1 + insn.yes as usize,
-        goal: route.goal,
-        splits: route.splits - 1,
-    };
-    let miss = Route {
-        from: route.from + 1 + insn.no as usize,
-        goal: route.goal,
-        splits: route.splits - 1,
-    };
-    let (yes, no) = (
-        outcome(test, insn.k, term, true),
-        outcome(test, insn.k, term, false),
-    );
-    let one = one_way(old, facts, pieces, learnt, both, yes, hit)?;
-    let other = one_way(old, facts, pieces, learnt, both, no, miss)?;
-    Some(common(&one, &other))
+    let hit = way_of(&stage, insn, test, true);
+    let miss = way_of(&stage, insn, test, false);
+    if let Some(one) = walk(old, facts, pieces, hit, goal, splits - 1) {
+        return Some(met_by(&miss, &stage.met, &one));
+    }
+    let one = walk(old, facts, pieces, miss, goal, splits - 1)?;
+    Some(met_by(&hit, &stage.met, &one))
 }
 
-/// The same where a test has shown more.
-#[cycle(walking)]
-fn one_way(
-    old: &[Wide],
-    facts: &[Fact],
-    pieces: &[Piece],
-    learnt: &[Learnt],
-    both: &Both,
-    shown: Learnt,
-    route: Route,
-) -> Option<Both>
-    ensures { IfSome result (λ known. Walks old.now route.from route.goal both.now known
-        facts.now pieces.now (shown ∷ learnt.now)) }
+/// The way that a test takes which holds, or doesn't.
+fn way_of(stage: &Stage, insn: Wide, test: Test, holds: bool) -> Stage
+    requires { stage.now.at < 2 ^ 62 }
+    ensures at { result.at ≡ stage.now.at + 1 + (if holds then insn.jt else insn.jf) }
+    ensures known { result.known ≡ stage.now.known }
+    ensures met { result.met ≡ None }
+    ensures learnt { (p : List ℕ) (n v : ℕ) → Holds p n stage.now.known.old.accumulator v
+        → test_holds test v insn.k ≡ holds → AllLearnt p n stage.now.learnt
+        → AllLearnt p n result.learnt }
 {
-    match learnt {
-        [] => {
-            let more = [shown];
-            walk(old, facts, pieces, &more, both, route)
-        }
-        [first] => {
-            let more = [shown, *first];
-            walk(old, facts, pieces, &more, both, route)
-        }
-        [first, second] => {
-            let more = [shown, *first, *second];
-            walk(old, facts, pieces, &more, both, route)
-        }
-        [first, second, third] => {
-            let more = [shown, *first, *second, *third];
-            walk(old, facts, pieces, &more, both, route)
-        }
-        _ => None,
+    let shown = outcome(test, insn.k, stage.known.old.accumulator, holds);
+    let skipped = if holds { insn.yes } else { insn.no };
+    Stage {
+        at: stage.at + 1 + skipped as usize,
+        known: stage.known,
+        learnt: with_newest(stage.learnt, shown),
+        met: None,
+    }
+}
+
+/// A walk goes on where another way has met the goal.
+fn met_by(stage: &Stage, met: &Option<Both>, one: &Both) -> Stage
+    ensures at { result.at ≡ stage.now.at }
+    ensures known { result.known ≡ stage.now.known }
+    ensures learnt { result.learnt ≡ stage.now.learnt }
+    ensures one { IfSome result.met (λ b. (p : List ℕ) (n : ℕ) (new old : State)
+        → Agree p n one.now new old → Agree p n b new old) }
+    ensures other { IfSome met.now (λ other. IfSome result.met (λ b. (p : List ℕ) (n : ℕ)
+        (new old : State) → Agree p n other new old → Agree p n b new old)) }
+    ensures some { IsSome result.met }
+{
+    Stage {
+        at: stage.at,
+        known: stage.known,
+        learnt: stage.learnt,
+        met: Some(joined(met, one)),
     }
 }
 

@@ -1,6 +1,6 @@
-use Rattle.std.proofs.Common.{◌≡◌, ◌+◌, [], true, sym, ap, ◌∙◌, subst}
+use Rattle.std.proofs.Common.{◌+◌, [], sym, ap, ◌∙◌, subst}
 use Rattle.flt_bpf.specs.Instructions.{operation_of}
-use Rattle.flt_opt.specs.Terms.{is_known, asked}
+use Rattle.flt_opt.specs.Terms.{asked}
 use Rattle.flt_opt.specs.Alike.{LeadsTo}
 use Rattle.flt_opt.proofs.Rules.{way_on, facts_here, loads_lead}
 use Rattle.flt_opt.proofs.validator.loads_same.Goals as goal

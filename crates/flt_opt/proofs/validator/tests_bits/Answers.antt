@@ -1,4 +1,4 @@
-use Rattle.std.proofs.Common.{◌+◌, refl, sym, ap, ◌∙◌, subst}
+use Rattle.std.proofs.Common.{◌+◌, refl, ap, ◌∙◌, subst}
 use Rattle.std.proofs.lemmas.Option.{slice_get_read}
 use Rattle.flt_bpf.specs.declared.operation.Operation.TheVariants.{Compute}
 use Rattle.flt_bpf.specs.declared.operation.AluOperation.TheVariants.{And}

@@ -1,4 +1,4 @@
-use Rattle.std.proofs.Common.{◌+◌, ◌∷◌, true, false, Some, refl, sym, ap, ◌∙◌, subst, inr, arith, rules}
+use Rattle.std.proofs.Common.{◌+◌, ◌∷◌, true, false, Some, refl, sym, ap, ◌∙◌, subst, arith, rules}
 use Rattle.std.proofs.lemmas.Option.{slice_get_read}
 use Rattle.flt_bpf.specs.Instructions.{operation_of}
 use Rattle.flt_opt.specs.Facts.{outcome}
