@@ -247,6 +247,30 @@ impl<A: Allocator + Clone> Finder<'_, A> {
         })
     }
 
+    /// The index of the note on a side of a test, if it is found.
+    fn led_side(
+        &mut self,
+        way: &Way,
+        insn: Wide,
+        rule: Rule,
+        holds: bool,
+    ) -> Result<Option<usize>, AllocError> {
+        let on_side = self.way_on_side(way, insn, rule, holds)?;
+        self.arrive(&on_side)
+    }
+
+    /// The indices of the notes on both sides of a test, if they are found.
+    fn led_both(
+        &mut self,
+        way: &Way,
+        insn: Wide,
+        rule: Rule,
+    ) -> Result<Option<(usize, usize)>, AllocError> {
+        let yes = self.led_side(way, insn, rule, true)?;
+        let no = self.led_side(way, insn, rule, false)?;
+        Ok(yes.zip(no))
+    }
+
     /// The indices of the notes behind an instruction, if they are found.
     fn led(
         &mut self,
@@ -257,12 +281,15 @@ impl<A: Allocator + Clone> Finder<'_, A> {
         match decode(insn.code) {
             None => Ok(None),
             Some(Operation::ReturnConstant | Operation::ReturnAccumulator) => Ok(Some((0, 0))),
-            Some(Operation::JumpIf(_, _)) => {
-                let on_yes = self.way_on_side(way, insn, rule, true)?;
-                let yes = self.arrive(&on_yes)?;
-                let on_no = self.way_on_side(way, insn, rule, false)?;
-                let no = self.arrive(&on_no)?;
-                Ok(yes.zip(no))
+            Some(operation @ Operation::JumpIf(_, _)) => {
+                let (test, term) = (test_of(operation), way.old.both.new.accumulator);
+                match way.facts.decide(&self.found.pieces, test, insn.k, term) {
+                    None => self.led_both(way, insn, rule),
+                    Some(holds) => {
+                        let note = self.led_side(way, insn, rule, holds)?;
+                        Ok(note.map(|note| (note, note)))
+                    }
+                }
             }
             Some(operation) => {
                 let on = self.way_on(way, insn, operation, rule);

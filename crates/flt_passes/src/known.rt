@@ -2,8 +2,10 @@
 
 use crate::graph::Node;
 use crate::sets::{ALL, narrowed, united};
-use flt_bpf::operation::Operation;
-use flt_opt::{Fact, Learnt, Piece, Registers, Span, Term, after, asked, is_known};
+use flt_bpf::operation::{Operation, Test};
+use flt_opt::{
+    Fact, Knowledge, Learnt, Piece, Registers, Span, Term, after, asked, decided, is_known,
+};
 use std::alloc::{AllocError, Allocator};
 
 /// The most facts that are known at once. The oldest one goes.
@@ -38,6 +40,22 @@ impl Facts {
     pub(crate) fn numbers(&self, term: Term) -> Option<Span> {
         let fact = self.as_slice().iter().find(|fact| fact.term == term)?;
         Some(fact.pieces)
+    }
+
+    /// Whether a test of a register that holds a term holds, where the facts tell.
+    pub(crate) fn decide(
+        &self,
+        pieces: &[Piece],
+        test: Option<Test>,
+        k: u32,
+        term: Term,
+    ) -> Option<bool> {
+        let knowledge = Knowledge {
+            facts: self.as_slice(),
+            pieces,
+            learnt: &[],
+        };
+        decided(test?, k, term, &knowledge)
     }
 
     /// One more fact, on a term that no other one is on.

@@ -11,6 +11,8 @@ mod graph;
 mod halves;
 mod held;
 mod known;
+#[cfg(test)]
+mod listings;
 mod live;
 mod optimise;
 mod order;

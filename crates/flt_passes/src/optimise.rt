@@ -93,14 +93,16 @@ fn after_turn<A: Allocator + Clone>(alloc: A, from: Improved<A>) -> Result<Impro
     ensures { IfOk result (λ made. Improves made.code.items from.code.items) }
 {
     let threaded = after_pass(alloc.clone()?, from, Pass::Thread)?;
-    let joined = after_pass(alloc.clone()?, threaded, Pass::Bits)?;
-    let shared = after_pass(alloc, joined, Pass::Share)?;
+    let gathered = after_pass(alloc.clone()?, threaded, Pass::Gather)?;
+    let joined = after_pass(alloc.clone()?, gathered, Pass::Bits)?;
+    let searched = after_pass(alloc.clone()?, joined, Pass::Search)?;
+    let shared = after_pass(alloc, searched, Pass::Share)?;
     Ok(shared)
 }
 
 /// Code that returns what this code returns, with fewer instructions or on shorter ways, and how
 /// often what a pass made was refused.
-#[tactic(auto, using(crate::proofs::Improving::improves_over, crate::proofs::Improving::improves_itself,))]
+#[tactic(auto, using(crate::proofs::Improving::improves_over))]
 pub fn optimised_counted<A: Allocator + Clone>(
     alloc: A,
     code: Vec<Wide, A>,

@@ -6,7 +6,7 @@ use crate::known::{AT_START, Known};
 use crate::live::{Live, lives};
 use crate::order::ordered;
 use crate::sets::pieces_for_all;
-use flt_opt::{Knowledge, Piece, decided, outcome};
+use flt_opt::{Piece, outcome};
 use std::alloc::{AllocError, Allocator};
 
 /// A graph from whose first node on all edges are led on.
@@ -69,15 +69,8 @@ impl<A: Allocator + Clone> Threading<A> {
 impl<A: Allocator + Clone> Threading<A> {
     /// Whether a test can hold, and whether it can fail.
     fn outcomes(&self, known: &Known, node: Node) -> (bool, bool) {
-        let knowledge = Knowledge {
-            facts: known.facts.as_slice(),
-            pieces: &self.pieces,
-            learnt: &[],
-        };
-        let Some(test) = node.test() else {
-            return (true, true);
-        };
-        match decided(test, node.k, known.registers.accumulator, &knowledge) {
+        let term = known.registers.accumulator;
+        match known.facts.decide(&self.pieces, node.test(), node.k, term) {
             None => (true, true),
             Some(holds) => (holds, !holds),
         }

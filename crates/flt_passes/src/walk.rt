@@ -15,7 +15,10 @@ use std::alloc::{AllocError, Allocator};
 const FUEL: usize = 8192;
 
 /// How many tests that aren't decided are passed, one on a side of the other.
-const SPLITS: usize = 2;
+const SPLITS: usize = 3;
+
+/// Of so many tests at most the outcomes are looked at.
+const MOST_LEARNT: usize = 3;
 
 /// The old run at a place, and what is known of both.
 #[derive(Clone, Copy)]
@@ -63,6 +66,12 @@ pub(crate) fn both_in_both(one: &Both, other: &Both) -> Both {
     }
 }
 
+/// What the last tests have shown.
+fn newest(learnt: &[Learnt]) -> &[Learnt] {
+    let from = learnt.len().saturating_sub(MOST_LEARNT);
+    learnt.get(from..).unwrap_or(&[])
+}
+
 impl<A: Allocator> Walker<'_, A> {
     fn is_goal(&self, way: &Way, insn: Wide) -> bool {
         let rejects = matches!(decode(insn.code), Some(Operation::ReturnConstant)) && insn.k == 0;
@@ -104,7 +113,7 @@ impl<A: Allocator> Walker<'_, A> {
         let knowledge = Knowledge {
             facts: self.facts.as_slice(),
             pieces: self.pieces,
-            learnt: &self.learnt,
+            learnt: newest(&self.learnt),
         };
         let Some(test) = test_of(operation) else {
             return Step::Either;
@@ -148,6 +157,18 @@ impl<A: Allocator> Walker<'_, A> {
         None
     }
 
+    /// A way on a side of a test that isn't decided, and what the test shows there.
+    fn learn(&mut self, way: &Way, holds: bool) -> Result<Way, AllocError> {
+        let Some(insn) = self.old.get(way.here.old).copied() else {
+            return Ok(*way);
+        };
+        if let Some(test) = decode(insn.code).and_then(|operation| test_of(operation)) {
+            let term = way.here.both.old.accumulator;
+            self.learnt.push(outcome(test, insn.k, term, holds))?;
+        }
+        Ok(self.on_side(way, insn, holds))
+    }
+
     /// Walks on a side of a test that isn't decided, past so many more of them.
     #[cycle(splits)]
     fn walk_side(
@@ -156,41 +177,52 @@ impl<A: Allocator> Walker<'_, A> {
         holds: bool,
         splits: usize,
     ) -> Result<Option<Arrival>, AllocError> {
-        let Some(insn) = self.old.get(way.here.old).copied() else {
-            return Ok(None);
-        };
         let len = self.learnt.len();
-        if let Some(test) = decode(insn.code).and_then(|operation| test_of(operation)) {
-            let term = way.here.both.old.accumulator;
-            self.learnt.push(outcome(test, insn.k, term, holds))?;
-        }
-        let arrival = self.walk_all(self.on_side(way, insn, holds), splits)?;
+        let side = self.learn(way, holds)?;
+        let arrival = self.walk_all(side, splits)?;
         self.learnt.truncate(len);
         Ok(arrival)
     }
 
-    /// Walks on both sides of a test to one place, which is found on the side `first`.
+    /// Walks from a test on, one side after the other of which leads to the goal.
     #[cycle(splits)]
-    fn walk_sides(
-        &mut self,
-        way: &Way,
-        first: bool,
-        splits: usize,
-    ) -> Result<Option<Arrival>, AllocError> {
-        let goal = self.goal;
-        let Some(one) = self.walk_side(way, first, splits)? else {
-            return Ok(None);
-        };
-        self.goal = Some(one.old);
-        let other = self.walk_side(way, !first, splits)?;
-        self.goal = goal;
-        Ok(other.map(|other| Arrival {
-            old: one.old,
-            both: both_in_both(&one.both, &other.both),
-        }))
+    fn go_on(&mut self, from: Way, splits: usize) -> Result<Option<Arrival>, AllocError> {
+        let mut way = from;
+        let mut met: Option<Arrival> = None;
+        for _ in 0..self.fuel {
+            let Some((other, one)) = self.one_side(&way, splits)? else {
+                return Ok(None);
+            };
+            let joined = met_by(met, &one);
+            let Some((next, is_goal)) = self.walk(other) else {
+                return Ok(None);
+            };
+            if is_goal {
+                return Ok(Some(met_by(Some(joined), &next.here)));
+            }
+            way = next;
+            met = Some(joined);
+        }
+        Ok(None)
     }
 
-    /// Walks past so many tests that aren't decided, where both sides lead to one place.
+    /// Walks on that side of a test which leads to the goal. Returns the other one, and what is
+    /// known at the goal.
+    #[cycle(splits)]
+    fn one_side(&mut self, way: &Way, splits: usize) -> Result<Option<(Way, Arrival)>, AllocError> {
+        let Some(fewer) = splits.checked_sub(1) else {
+            return Ok(None);
+        };
+        if let Some(one) = self.walk_side(way, true, fewer)? {
+            return Ok(Some((self.learn(way, false)?, one)));
+        }
+        match self.walk_side(way, false, fewer)? {
+            None => Ok(None),
+            Some(one) => Ok(Some((self.learn(way, true)?, one))),
+        }
+    }
+
+    /// Walks past tests that aren't decided, where all sides lead to one place.
     #[cycle(splits)]
     fn walk_all(&mut self, from: Way, splits: usize) -> Result<Option<Arrival>, AllocError> {
         let Some((way, is_goal)) = self.walk(from) else {
@@ -199,13 +231,46 @@ impl<A: Allocator> Walker<'_, A> {
         if is_goal {
             return Ok(Some(way.here));
         }
-        if splits == 0 {
-            return Ok(None);
+        if self.goal.is_some() {
+            return self.go_on(way, splits);
         }
-        match self.walk_sides(&way, true, splits - 1)? {
-            None => self.walk_sides(&way, false, splits - 1),
+        match self.walk_to_side(&way, true, splits)? {
+            None => self.walk_to_side(&way, false, splits),
             found => Ok(found),
         }
+    }
+
+    /// The same to a place that is found on one side of a test.
+    #[cycle(splits)]
+    fn walk_to_side(
+        &mut self,
+        way: &Way,
+        holds: bool,
+        splits: usize,
+    ) -> Result<Option<Arrival>, AllocError> {
+        let Some(fewer) = splits.checked_sub(1) else {
+            return Ok(None);
+        };
+        let Some(one) = self.walk_side(way, holds, fewer)? else {
+            return Ok(None);
+        };
+        let len = self.learnt.len();
+        self.goal = Some(one.old);
+        let arrival = self.go_on(*way, splits)?;
+        self.goal = None;
+        self.learnt.truncate(len);
+        Ok(arrival)
+    }
+}
+
+/// What is known at a place on the ways that met there and on one more.
+fn met_by(met: Option<Arrival>, one: &Arrival) -> Arrival {
+    match met {
+        None => *one,
+        Some(other) => Arrival {
+            old: one.old,
+            both: both_in_both(&other.both, &one.both),
+        },
     }
 }
 
