@@ -15,7 +15,7 @@ use Rattle.flt_tree.specs.Nodes.{number_nodes, truth_nodes, expr_nodes, number_o
 use Rattle.flt_tree.specs.Resolved.{is_unfilled, any_primitive, some_primitive}
 use Rattle.cap_octet.specs.declared.link.Link.{Link}
 use Rattle.flt_bpf.specs.declared.insn.Insn.{Insn}
-use Rattle.flt_short.specs.Layout.{IsShort}
+use Rattle.flt_bpf.specs.Layout.{IsShort}
 use Rattle.flt_gen.specs.Correct.{IsProgramOf}
 use Rattle.flt_code.specs.Elementary.{Yes, with, reading_of, compares, elementary_reads}
 use Rattle.flt_code.specs.Numbers.{width_of, base, number, result_of, accessors, accessor_tests}

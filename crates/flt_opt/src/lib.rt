@@ -18,5 +18,3 @@ pub use terms::{
     reads_accumulator, reads_index, same_term, sets_accumulator, sets_index, test_of,
 };
 pub use validator::replaces;
-pub use terms::{after, after_both, after_new, after_old, asked, is_known, is_sure, masked};
-pub use terms::{reads_accumulator, reads_index, same_term, sets_accumulator, sets_index, test_of};
