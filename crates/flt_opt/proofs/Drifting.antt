@@ -72,6 +72,10 @@ drift_on i op r facts pieces ls is on p n t rest answer hold known e =
     by (Ends a) d w e = elim w as (λ o v. does op i p n t ≡ o → answer_after rest o ≡ Some answer → (answer ≡ 0) ⊎ Drifted 0 (after op i.k r) p n answer rest) [ On u ↦ λ d e. inr (record { state = u; hold = (effect p n op i 0 r t u d hold).hold; returns = e }) | Fails ↦ λ d e. let same : 0 ≡ answer = cc in inl (sym same) | Missing ↦ λ d e. cc ] d e
     by Lost d w e = cc
 
+pub drift_jump : (i : Insn) (r : Registers) (facts : List Fact) (pieces : List Piece) (ls : List Learnt) → operation_of i.code ≡ Some Jump → Drifts i i.k r r facts pieces ls
+drift_jump i r facts pieces ls is p n t rest answer hold known e =
+    inr (record { state = t; hold = hold; returns = sym (ap (answer_after rest) (knows_step p n i Jump t is)) ∙ e })
+
 pub drift_test : (i : Insn) (test : Test) (holds : Bool) (far : ℕ) (r : Registers) (facts : List Fact) (pieces : List Piece) (ls : List Learnt) → operation_of i.code ≡ Some (JumpIf test Constant) → IsDecided test i.k r.accumulator facts pieces ls holds → far ≡ (if holds then i.jt else i.jf) → Drifts i far r r facts pieces ls
 drift_test i test holds far r facts pieces ls is decided far_is p n t rest answer hold known e =
     let goes : step i p n t ≡ Goes far t = knows_step p n i (JumpIf test Constant) t is ∙ ap (λ z. Goes (if z then i.jt else i.jf) t) (decided p n t.accumulator known hold.accumulator) ∙ ap (λ z. Goes z t) (sym far_is) in

@@ -4,7 +4,7 @@ use Rattle.std.specs.Prelude.{not, slice_get, if◌then◌else◌}
 use Rattle.flt_bpf.specs.declared.insn.Insn.{Insn}
 use Rattle.flt_bpf.specs.declared.machine.State.{State}
 use Rattle.flt_bpf.specs.declared.operation.Operation.{Operation}
-use Rattle.flt_bpf.specs.declared.operation.Operation.TheVariants.{JumpIf}
+use Rattle.flt_bpf.specs.declared.operation.Operation.TheVariants.{Jump, JumpIf}
 use Rattle.flt_bpf.specs.declared.operation.Operand.TheVariants.{Constant}
 use Rattle.flt_bpf.specs.declared.operation.Test.{Test}
 use Rattle.flt_bpf.specs.Answer.{answer_of, answer_after}
@@ -14,7 +14,7 @@ use Rattle.flt_opt.specs.declared.facts.Learnt.{Learnt}
 use Rattle.flt_opt.specs.declared.note.Both.{Both}
 use Rattle.flt_opt.specs.declared.note.Fact.{Fact}
 use Rattle.flt_opt.specs.declared.note.Piece.{Piece}
-use Rattle.flt_opt.specs.Terms.{Agree, Holds, after_old, test_of}
+use Rattle.flt_opt.specs.Terms.{Agree, Holds, after_old, is_jump, test_of}
 use Rattle.flt_opt.specs.Facts.{AllLearnt, IsDecided}
 use Rattle.flt_opt.specs.declared.walk.Stage.{Stage}
 use Rattle.flt_opt.specs.Alike.{IsSure, Passes, Comes, HereAt, HasMet, IsOn, Advances, Reaches}
@@ -34,6 +34,14 @@ at_goes (j ∷ c) p n (suc k) i s u far e g =
 pub is_test : (op : Operation) (test : Test) → test_of op ≡ Some test → op ≡ JumpIf test Constant
 is_test (JumpIf t Constant) test e = let same : t ≡ test = cc in ap (λ z. JumpIf z Constant) same
 is_test _ test e = cc
+
+pub is_a_jump : (op : Operation) → is_jump op ≡ true → op ≡ Jump
+is_a_jump Jump e = refl
+is_a_jump _ e = cc
+
+pub pass_jump : (i : Insn) (b : Both) (facts : List Fact) (pieces : List Piece) (ls : List Learnt) → operation_of i.code ≡ Some Jump → Passes i i.k b b facts pieces ls
+pass_jump i b facts pieces ls e p n s t agree known =
+    record { state = t; goes = knows_step p n i Jump t e; agree = agree }
 
 pub pass_sure : (i : Insn) (op : Operation) (b : Both) (facts : List Fact) (pieces : List Piece) (ls : List Learnt) → operation_of i.code ≡ Some op → IsSure op i.k b.old b facts pieces ls → Passes i 0 b (after_old op i.k b) facts pieces ls
 pass_sure i op b facts pieces ls e sure p n s t agree known =

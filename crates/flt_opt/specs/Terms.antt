@@ -230,6 +230,11 @@ abbrev pub test_of : Operation → Option Test
 test_of (JumpIf test Constant) = Some test
 test_of _ = None
 
+-- an operation that skips instructions, whatever the registers hold
+abbrev pub is_jump : Operation → Bool
+is_jump Jump = true
+is_jump _ = false
+
 -- an operation that leads to the next instruction, or fails
 abbrev pub leads_on : Operation → Bool
 leads_on Jump = false

@@ -13,6 +13,8 @@ mod walk;
 pub use facts::{Knowledge, Learnt, decided, outcome};
 pub use follows::{is_there, same_accumulator, same_index};
 pub use note::{Both, Fact, Load, Note, Notes, Piece, Registers, Span, Term};
+pub use terms::{
+    after, after_both, after_new, after_old, asked, is_jump, is_known, is_sure, masked,
+    reads_accumulator, reads_index, same_term, sets_accumulator, sets_index, test_of,
+};
 pub use validator::replaces;
-pub use terms::{after, after_both, after_new, after_old, asked, is_known, is_sure, masked};
-pub use terms::{reads_accumulator, reads_index, same_term, sets_accumulator, sets_index, test_of};

@@ -4,7 +4,7 @@ ghost use Rattle.std.specs.Prelude.{◌≡◌, IsTrue};
 ghost use Rattle.flt_opt.specs.Terms.{indirect, mask_of, masked, sum, computed, accumulator_after};
 ghost use Rattle.flt_opt.specs.Terms.{index_after, after, after_both, after_old, after_new, asked};
 ghost use Rattle.flt_opt.specs.Terms.{reads_accumulator, reads_index, sets_accumulator, sets_index};
-ghost use Rattle.flt_opt.specs.Terms.{is_known, is_sure, leads_on, returns, test_of};
+ghost use Rattle.flt_opt.specs.Terms.{is_known, is_sure, is_jump, leads_on, returns, test_of};
 ghost use Rattle.flt_opt.specs.Terms.{after_loads, is_load};
 
 use crate::note::{Both, Load, Registers, Term};
@@ -148,6 +148,13 @@ pub fn test_of(operation: Operation) -> Option<Test>
         Operation::JumpIf(test, Operand::Constant) => Some(test),
         _ => None,
     }
+}
+
+/// An operation skips instructions, whatever the registers hold.
+pub fn is_jump(operation: Operation) -> bool
+    ensures { result ≡ is_jump operation }
+{
+    matches!(operation, Operation::Jump)
 }
 
 /// An operation reads A.

@@ -25,6 +25,8 @@ const AT_LEAST: u16 = 53;
 
 const ANY_BIT: u16 = 69;
 
+const JUMP: u16 = 5;
+
 const RETURN: u16 = 6;
 
 const RETURN_A: u16 = 22;
@@ -261,6 +263,15 @@ fn what_a_walk_passes(rt: HostRuntime) {
     let last = note(1, 6, apart(), none(), 0, 0);
     assert!(rt; replaces(&new, &forks, no_facts(&[notes[0], last])));
     assert!(rt; !replaces(&new, &stores, no_facts(&notes)), "a store");
+    let jumps = [
+        line(LOAD_HALF, 12),
+        line(JUMP, 1),
+        line(STORE, 0),
+        line(RETURN, 1),
+    ];
+    let far = [notes[0], note(1, 3, apart(), none(), 0, 0)];
+    assert!(rt; replaces(&new, &jumps, no_facts(&far)));
+    assert!(rt; !replaces(&new, &jumps, no_facts(&notes)), "it jumps on");
     assert!(rt;
         !replaces(&new, &fails, no_facts(&notes)),
         "a load that may fail"

@@ -13,7 +13,7 @@ ghost use Rattle.flt_opt.specs.Alike.{Rejects};
 use crate::facts::{Knowledge, Learnt, OUTCOMES, decided, outcome, with_newest};
 use crate::follows::{common, is_there};
 use crate::note::{Both, Fact, Piece, Registers};
-use crate::terms::{after, after_old, asked, is_sure, leads_on, test_of};
+use crate::terms::{after, after_old, asked, is_jump, is_sure, leads_on, test_of};
 use flt_bpf::Wide;
 use flt_bpf::operation::{Operation, Test, decode};
 
@@ -44,6 +44,9 @@ fn pass(insn: Wide, knowledge: &Knowledge, both: &Both) -> Option<(u32, Both)>
     if let Some(test) = test_of(operation) {
         let holds = decided(test, insn.k, both.old.accumulator, knowledge)?;
         return Some((if holds { insn.yes } else { insn.no }, *both));
+    }
+    if is_jump(operation) {
+        return Some((insn.k, *both));
     }
     if goes_on(operation, insn.k, both.old, knowledge, both) {
         Some((0, after_old(operation, insn.k, *both)))
@@ -206,6 +209,9 @@ fn drift(insn: Wide, knowledge: &Knowledge, registers: Registers) -> Option<(u32
     if let Some(test) = test_of(operation) {
         let holds = decided(test, insn.k, registers.accumulator, knowledge)?;
         return Some((if holds { insn.yes } else { insn.no }, registers));
+    }
+    if is_jump(operation) {
+        return Some((insn.k, registers));
     }
     if leads_on(operation) {
         Some((0, after(operation, insn.k, registers)))

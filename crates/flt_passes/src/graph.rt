@@ -2,7 +2,7 @@
 
 use flt_bpf::Wide;
 use flt_bpf::operation::{Operation, Test, decode};
-use flt_opt::test_of;
+use flt_opt::{is_jump, test_of};
 use std::alloc::{AllocError, Allocator};
 
 /// No node.
@@ -19,12 +19,61 @@ pub(crate) enum Flow {
     Branches,
 }
 
-/// How a run goes on behind an instruction with a code, which isn't a jump.
+/// How a run goes on behind an instruction with a code. A jump is no node.
 fn flow_of(code: u16) -> Flow {
     match decode(code) {
         None | Some(Operation::ReturnConstant | Operation::ReturnAccumulator) => Flow::Ends,
         Some(Operation::JumpIf(_, _)) => Flow::Branches,
         Some(_) => Flow::Goes,
+    }
+}
+
+/// An instruction always skips others.
+fn jumps(code: u16) -> bool {
+    decode(code).is_some_and(|operation| is_jump(operation))
+}
+
+/// For each instruction of some code the number of nodes from where a run comes to one by it, past
+/// jumps, to the end.
+fn places_of<A: Allocator>(alloc: A, code: &[Wide]) -> Result<Vec<usize, A>, AllocError> {
+    let mut places = vec![in alloc; 0; code.len()]?;
+    let mut count: usize = 0;
+    for (at, insn) in code.iter().enumerate().rev() {
+        let mut place = count.saturating_add(1);
+        if jumps(insn.code) {
+            place = places.get(behind(at, insn.k)).copied().unwrap_or(0);
+        } else {
+            count = place;
+        }
+        if let Some(placed) = places.get_mut(at) {
+            *placed = place;
+        }
+    }
+    Ok(places)
+}
+
+/// The indices of the nodes where runs come by the instructions of some code.
+#[derive(Drop)]
+struct Indices<'a> {
+    places: &'a [usize],
+}
+
+impl Indices<'_> {
+    /// How many nodes there are from the first one that a run comes to.
+    fn count(&self) -> usize {
+        self.places.first().copied().unwrap_or(0)
+    }
+
+    fn index(&self, at: usize) -> usize {
+        match self.places.get(at) {
+            Some(place) if *place > 0 => self.count().checked_sub(*place).unwrap_or(NOWHERE),
+            _ => NOWHERE,
+        }
+    }
+
+    /// The same so many instructions behind the next one.
+    fn behind(&self, at: usize, skipped: u32) -> usize {
+        self.index(behind(at, skipped))
     }
 }
 
@@ -45,12 +94,12 @@ pub(crate) fn behind(at: usize, skipped: u32) -> usize {
 }
 
 impl Node {
-    /// The node of an instruction with an index.
-    fn new(at: usize, insn: Wide) -> Node {
+    /// The node of an instruction, where runs come to the nodes with these indices.
+    fn new(at: usize, insn: Wide, indices: &Indices) -> Node {
         let (yes, no) = match flow_of(insn.code) {
             Flow::Ends => (NOWHERE, NOWHERE),
-            Flow::Goes => (behind(at, 0), behind(at, 0)),
-            Flow::Branches => (behind(at, insn.yes), behind(at, insn.no)),
+            Flow::Goes => (indices.behind(at, 0), indices.behind(at, 0)),
+            Flow::Branches => (indices.behind(at, insn.yes), indices.behind(at, insn.no)),
         };
         Node {
             code: insn.code,
@@ -79,11 +128,19 @@ impl Node {
     }
 }
 
-/// The graph of some code without a jump. A run begins at its first node.
-pub(crate) fn nodes_of<A: Allocator>(alloc: A, code: &[Wide]) -> Result<Vec<Node, A>, AllocError> {
-    let mut nodes = Vec::with_capacity(alloc, code.len())?;
+/// The graph of some code. A run begins at its first node. A jump is no node: what leads to it leads
+/// on to where it goes.
+pub(crate) fn nodes_of<A: Allocator + Clone>(
+    alloc: A,
+    code: &[Wide],
+) -> Result<Vec<Node, A>, AllocError> {
+    let places = places_of(alloc.clone()?, code)?;
+    let indices = Indices { places: &places };
+    let mut nodes = Vec::with_capacity(alloc, indices.count())?;
     for (at, insn) in code.iter().enumerate() {
-        nodes.push(Node::new(at, *insn))?;
+        if !jumps(insn.code) && indices.index(at) < indices.count() {
+            nodes.push(Node::new(at, *insn, &indices))?;
+        }
     }
     Ok(nodes)
 }

@@ -22,6 +22,8 @@ mod rules;
 mod search;
 mod sets;
 mod share;
+#[cfg(test)]
+mod tests;
 mod thread;
 mod walk;
 mod write;

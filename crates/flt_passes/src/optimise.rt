@@ -101,7 +101,7 @@ fn after_turn<A: Allocator + Clone>(alloc: A, from: Improved<A>) -> Result<Impro
 }
 
 /// Code that returns what this code returns, with fewer instructions or on shorter ways, and how
-/// often what a pass made was refused. Code with a jump stays as it is.
+/// often what a pass made was refused.
 #[tactic(auto, using(crate::proofs::Improving::improves_over))]
 pub fn optimised_counted<A: Allocator + Clone>(
     alloc: A,

@@ -25,7 +25,7 @@ pub enum Pass {
     Share,
 }
 
-/// What a pass makes of code without a jump, if it makes something.
+/// What a pass makes of code, if it makes something.
 pub fn passed<A: Allocator + Clone>(
     alloc: A,
     code: &[Wide],

@@ -128,6 +128,13 @@ impl<A: Allocator> Walker<'_, A> {
         match decode(insn.code) {
             None | Some(Operation::ReturnConstant | Operation::ReturnAccumulator) => Step::Ends,
             Some(operation @ Operation::JumpIf(_, _)) => self.behind_test(way, insn, operation),
+            Some(Operation::Jump) => Step::To(Way {
+                here: Arrival {
+                    old: behind(way.here.old, insn.k),
+                    ..way.here
+                },
+                ..*way
+            }),
             Some(operation) => self.behind(way, operation, insn.k),
         }
     }

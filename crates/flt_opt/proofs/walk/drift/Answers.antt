@@ -4,8 +4,8 @@ use Rattle.flt_bpf.specs.Instructions.{operation_of}
 use Rattle.flt_opt.specs.Terms.{after}
 use Rattle.flt_opt.specs.Facts.{IsDecided}
 use Rattle.flt_opt.specs.Alike.{Drifts}
-use Rattle.flt_opt.proofs.Walking.{is_test}
-use Rattle.flt_opt.proofs.Drifting.{drift_on, drift_test}
+use Rattle.flt_opt.proofs.Walking.{is_test, is_a_jump}
+use Rattle.flt_opt.proofs.Drifting.{drift_on, drift_jump, drift_test}
 use Rattle.flt_opt.proofs.walk.drift.Goals as goal
 
 pub returns-then-holds : goal.returns-then-holds
@@ -25,6 +25,14 @@ returns-else-holds c =
     (ap (λ i. operation_of i.code) (sym c.insn.view_is) ∙ sym c.decode.ensures ∙ c.in_ok-operation.was ∙ ap Some (is_test c.in_ok-operation.operation test (sym c.in-Some.ensures)))
     (subst (λ z. IsDecided test z c.args.registers.accumulator k.facts.now k.pieces.now k.learnt.now c.in_ok-holds.holds) (ap (λ i. i.k) c.insn.view_is) c.in_ok-holds.ensures)
     (ap (λ i. i.jf) c.insn.view_is ∙ ap (λ z. if z then c.args.insn.jt else c.args.insn.jf) (sym c.if-holds.false))
+
+pub returns-then-is_jump : goal.returns-then-is_jump
+returns-then-is_jump c =
+    let k = c.args.knowledge.now in
+    let op = c.in_ok-operation.operation in
+    subst (λ z. Drifts c.args.insn z c.args.registers c.args.registers k.facts.now k.pieces.now k.learnt.now) (sym (ap (λ i. i.k) c.insn.view_is))
+    (drift_jump c.args.insn c.args.registers k.facts.now k.pieces.now k.learnt.now
+    (ap (λ i. operation_of i.code) (sym c.insn.view_is) ∙ sym c.decode.ensures ∙ c.in_ok-operation.was ∙ ap Some (is_a_jump op (sym c.is_jump.ensures ∙ c.if-is_jump.true))))
 
 pub returns-then-leads_on : goal.returns-then-leads_on
 returns-then-leads_on c =

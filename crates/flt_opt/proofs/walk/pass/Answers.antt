@@ -4,7 +4,7 @@ use Rattle.flt_bpf.specs.Instructions.{operation_of}
 use Rattle.flt_opt.specs.Terms.{after_old}
 use Rattle.flt_opt.specs.Facts.{IsDecided}
 use Rattle.flt_opt.specs.Alike.{IsSure, Passes}
-use Rattle.flt_opt.proofs.Walking.{is_test, pass_sure, pass_test}
+use Rattle.flt_opt.proofs.Walking.{is_test, is_a_jump, pass_jump, pass_sure, pass_test}
 use Rattle.flt_opt.proofs.walk.pass.Goals as goal
 use Rattle.flt_opt.proofs.walk.pass.Goals.{then-holds, else-holds}
 
@@ -16,6 +16,14 @@ returns-in-Some c =
     (ap (λ i. operation_of i.code) (sym c.insn.view_is) ∙ sym c.decode.ensures ∙ c.in_ok-operation.was ∙ ap Some (is_test c.in_ok-operation.operation a.test (sym a.ensures)))
     (subst (λ z. IsDecided a.test z c.args.both.now.old.accumulator k.facts.now k.pieces.now k.learnt.now c.in_ok-holds.holds) (ap (λ i. i.k) c.insn.view_is) c.in_ok-holds.ensures)
     (elim c.if-holds.branch [ then-holds w ↦ w.result-is ∙ ap (λ i. i.jt) c.insn.view_is ∙ ap (λ z. if z then c.args.insn.jt else c.args.insn.jf) (sym w.if-holds.true) | else-holds w ↦ w.result-is ∙ ap (λ i. i.jf) c.insn.view_is ∙ ap (λ z. if z then c.args.insn.jt else c.args.insn.jf) (sym w.if-holds.false) ])
+
+pub returns-then-is_jump : goal.returns-then-is_jump
+returns-then-is_jump c =
+    let k = c.args.knowledge.now in
+    let op = c.in_ok-operation.operation in
+    subst (λ z. Passes c.args.insn z c.args.both.now c.args.both.now k.facts.now k.pieces.now k.learnt.now) (sym (ap (λ i. i.k) c.insn.view_is))
+    (pass_jump c.args.insn c.args.both.now k.facts.now k.pieces.now k.learnt.now
+    (ap (λ i. operation_of i.code) (sym c.insn.view_is) ∙ sym c.decode.ensures ∙ c.in_ok-operation.was ∙ ap Some (is_a_jump op (sym c.is_jump.ensures ∙ c.if-is_jump.true))))
 
 pub returns-then-goes_on : goal.returns-then-goes_on
 returns-then-goes_on c =
