@@ -1,5 +1,5 @@
 -- Code that improves other code does so over what that one improves.
-use Rattle.std.proofs.Common.{◌≡◌, List}
+use Rattle.std.proofs.Common.{List}
 use Rattle.flt_bpf.specs.declared.insn.Insn.{Insn}
 use Rattle.flt_opt.specs.Replaces.{Replaces}
 use Rattle.flt_passes.specs.Improves.{Improves}

@@ -113,12 +113,12 @@ fn bits_are_tested_in_one_instruction(rt: HostRuntime) -> Result<(), Fail> {
     ];
     let short = [
         (40, 0, 0, 20),
-        (69, 4, 0, 8191),
+        (69, 3, 0, 8191),
         (177, 0, 0, 14),
         (80, 0, 0, 27),
-        (21, 1, 0, 2),
-        REJECTS,
+        (21, 0, 1, 2),
         ACCEPTS,
+        REJECTS,
     ];
     let made = made(rt.alloc(), &long, Pass::Bits)?;
     assert_eq!(rt; made.as_slice(), short.as_slice());

@@ -1,4 +1,4 @@
-use Rattle.std.proofs.Common.{ℕ, ◌+◌, ◌*◌}
+use Rattle.std.proofs.Common.{◌+◌, ◌*◌}
 use Rattle.flt_passes.proofs.follow.Follower.+splits.Given as goal
 
 abbrev pub decreases-follow_all : goal.decreases-follow_all

@@ -1,4 +1,4 @@
-use Rattle.std.proofs.Common.{ℕ, ◌+◌, ◌*◌}
+use Rattle.std.proofs.Common.{◌+◌, ◌*◌}
 use Rattle.flt_passes.proofs.walk.Walker.+splits.Given as goal
 
 abbrev pub decreases-walk_side : goal.decreases-walk_side
