@@ -15,7 +15,6 @@ pub mod refusal;
 pub mod runner;
 pub mod stop;
 pub mod streams;
-pub mod waited;
 pub mod words;
 
 /// The status of a job that a fault ended.

@@ -99,7 +99,7 @@ pub fn create<'a>(rt: &HostRuntime, name: &'a str) -> Result<Created, Stop<'a>> 
     }
 }
 
-/// The output with its buffer. Where a read may wait it has none: what is written is held back.
+/// The output with its buffer. Where a read may wait, it is the one that reads write out.
 pub fn target<'a, 'h>(
     rt: &HostRuntime,
     created: Created,
@@ -110,9 +110,7 @@ pub fn target<'a, 'h>(
         Buffering::AtOnce => 0,
         Buffering::WhenFull => BUFFER,
         Buffering::BeforeReads => {
-            if held.hold(rt.alloc(), created).is_err() {
-                return Err(Stop::NoMemory);
-            }
+            held.hold(buffered(BufWriter::with_capacity(rt.alloc(), BUFFER, created))?);
             return buffered(BufWriter::with_capacity(rt.alloc(), 0, Outlet::Held(held)));
         }
     };

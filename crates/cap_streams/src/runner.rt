@@ -9,7 +9,6 @@ use crate::held::{Held, Outlet, may_wait};
 use crate::opening::{Source, buffered, create, open, target, with_listing};
 use crate::progress::Progress;
 use crate::stop::{Stop, stopped};
-use crate::waited::{WaitedOutput, waited};
 use cap_command::{Command, Engine};
 use cap_octet::StdOutput;
 use capkit::{Line, STANDARD};
@@ -21,8 +20,6 @@ struct Devices<'p> {
     inputs: Vec<Source<'p>>,
     output: StdOutput<Outlet<'p>>,
     messages: StdOutput<Stderr>,
-    /// Whether a read of some input may wait.
-    may_wait: bool,
 }
 
 /// Opens the inputs in order, and creates the output.
@@ -44,59 +41,33 @@ fn open_devices<'a, 'p>(
         inputs,
         output: StdOutput::new(target),
         messages: StdOutput::new(messages),
-        may_wait,
     })
 }
 
-/// What a command leaves: its status, the output, and the messages' device.
-type Ran<'p> = (u8, StdOutput<Outlet<'p>>, StdOutput<Stderr>);
-
-/// Runs the command over its devices. Where a read may wait, what is written is held back until the
-/// next one.
-fn run_over<'a, 'p, J: Engine>(
+/// Runs the command over its devices, and returns its status. What the command told of the output
+/// is not told again.
+fn run_over<J: Engine>(
     rt: &HostRuntime,
     command: Command,
     names: Vec<String>,
-    devices: Devices<'p>,
-    held: &'p Held,
-) -> Result<Ran<'p>, Stop<'a>>
+    devices: Devices<'_>,
+    output: &str,
+    progress: &Progress<'_>,
+) -> u8
     requires { is_proper command (vec_len devices.inputs) ≡ true }
-    ensures { IfOk result (λ ran. ran.0 ≤ 2) }
+    ensures { result ≤ 2 }
 {
     let Devices {
         inputs,
-        output,
+        output: out,
         messages,
-        may_wait,
     } = devices;
-    if !may_wait {
-        return Ok(J::run(rt.alloc(), command, names, inputs, output, messages));
-    }
-    let Ok(inputs) = waited(rt.alloc(), inputs, held) else {
-        return Err(Stop::NoMemory);
-    };
-    let output = WaitedOutput::new(output, held);
-    let (status, output, messages) = J::run(rt.alloc(), command, names, inputs, output, messages);
-    Ok((status, output.into_output(), messages))
-}
-
-/// Runs the command over its devices, writes what is buffered, and returns the status. What the
-/// command told of the output is not told again.
-fn run_to_end<'a, 'p, J: Engine>(
-    rt: &HostRuntime,
-    command: Command,
-    names: Vec<String>,
-    devices: Devices<'p>,
-    held: &'p Held,
-    progress: &Progress<'_>,
-    output: &'a str,
-) -> Result<u8, Stop<'a>>
-    requires { is_proper command (vec_len devices.inputs) ≡ true }
-    ensures { IfOk result (λ status. status ≤ 2) }
-{
-    let (status, target, messages) = run_over::<J>(rt, command, names, devices, held)?;
+    let (status, target, messages) = J::run(rt.alloc(), command, names, inputs, out, messages);
     progress.end();
-    finish(rt.alloc(), status, target, messages, output)
+    match finish(rt.alloc(), status, target, messages, output) {
+        Ok(status) => status,
+        Err(stop) => stopped(rt, stop),
+    }
 }
 
 /// The names of the inputs, then that of the output.
@@ -129,12 +100,8 @@ pub fn run_command<J: Engine>(
         return stopped(rt, Stop::NoMemory);
     };
     let inputs = &names[..names.len() - 1];
-    let devices = match open_devices(rt, inputs, output, progress, held) {
-        Ok(devices) => devices,
-        Err(stop) => return stopped(rt, stop),
-    };
-    match run_to_end::<J>(rt, command, names, devices, held, progress, output) {
-        Ok(status) => status,
+    match open_devices(rt, inputs, output, progress, held) {
+        Ok(devices) => run_over::<J>(rt, command, names, devices, output, progress),
         Err(stop) => stopped(rt, stop),
     }
 }

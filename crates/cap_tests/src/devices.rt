@@ -1,7 +1,7 @@
 //! Tests of cap_octet: devices over std's readers and writers, times as dates.
 
 mod courses;
-pub mod marked;
+mod marked;
 mod reads;
 mod streams;
 mod times;

@@ -2,17 +2,13 @@
 ghost use Rattle.std.specs.Prelude.{◌≤◌};
 
 use super::folder::{enter, leave};
-use crate::devices::marked::{Counts, Manner, MarkedWriter, write_marks};
-use cap_octet::{Input, MemInput, StdOutput, write_all};
+use cap_octet::StdOutput;
 use cap_streams::ending::{finish, settle};
 use cap_streams::held::{Held, Outlet};
 use cap_streams::opening::{Target, create, target};
 use cap_streams::progress::{Counted, Progress};
 use cap_streams::stop::Stop;
 use cap_streams::streams::Created;
-use cap_streams::waited::{WaitedOutput, waited};
-use std::alloc::Global;
-use std::cell::Cell;
 use std::fs;
 use std::io::{self, BufWriter, Error, ErrorKind, IsTerminal, Read, Write};
 
@@ -81,72 +77,6 @@ fn is_written_in_time(rt: &HostRuntime, may_wait: bool) -> bool {
 fn failures_before_reads_are_told(rt: HostRuntime) {
     assert!(rt; is_written_in_time(&rt, true));
     assert!(rt; is_written_in_time(&rt, false));
-}
-
-/// Packets and the bytes of each; how many bytes came to the output, and by how many calls, behind
-/// them; and once all is written out.
-type Whole = (usize, usize, (usize, usize), (usize, usize));
-
-const WHOLE: [Whole; 3] = [
-    (8, 60_000, (0, 0), (480_000, 1)),
-    // Of the ninth the header has room, and the rest doesn't.
-    (9, 60_000, (480_000, 1), (540_000, 2)),
-    (1, 600_000, (600_000, 2), (600_000, 2)),
-];
-
-/// Writes packets, each by two calls, before which an input is asked for bytes.
-fn put_packets(
-    alloc: Global,
-    held: &Held<MarkedWriter<'_>>,
-    packets: usize,
-    size: usize,
-) -> Option<()> {
-    let inputs = Vec::from_array(alloc, [MemInput::new(&[])]).ok()?;
-    let mut inputs = waited(alloc, inputs, held).ok()?;
-    let target = BufWriter::with_capacity(alloc, 0, Outlet::Held(held)).ok()?;
-    let mut output = WaitedOutput::new(StdOutput::new(target), held);
-    let mut bytes = vec![in alloc; 0; size].ok()?;
-    for packet in 0..packets {
-        write_marks(packet.wrapping_mul(size), &mut bytes);
-        let (header, data) = bytes.split_at_checked(16)?;
-        inputs.first_mut()?.pass(1);
-        write_all(&mut output, header).ok()?;
-        write_all(&mut output, data).ok()?;
-    }
-    Some(())
-}
-
-/// Whether an output of marked bytes is written out as the row says.
-fn is_written_whole(alloc: Global, row: Whole) -> Option<bool> {
-    let (packets, size, behind, at_end) = row;
-    let counts = Cell::new(Counts::new());
-    let manner = Manner {
-        piece: usize::MAX,
-        failing: 0,
-        kind: ErrorKind::Other,
-    };
-    let writer = MarkedWriter {
-        manner,
-        counts: &counts,
-    };
-    let held = Held::new();
-    held.hold(alloc, Created::Stream(writer)).ok()?;
-    put_packets(alloc, &held, packets, size)?;
-    let before = counts.get();
-    Outlet::Held(&held).flush().ok()?;
-    let after = counts.get();
-    let are_right = (before.bytes, before.calls) == behind && (after.bytes, after.calls) == at_end;
-    Some(are_right && after.in_order)
-}
-
-/// What is held back goes out by whole packets, in one write, where there is no more room; of a
-/// packet that has no room at all in parts.
-#[test]
-fn whole_packets_go_out(rt: HostRuntime) {
-    for row in WHOLE {
-        let is_whole = is_written_whole(rt.alloc(), row);
-        assert!(rt; is_whole == Some(true), "{} of {}", row.0, row.1);
-    }
 }
 
 /// A stream that takes all, whose flush fails, and that is a terminal.
