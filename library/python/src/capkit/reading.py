@@ -1,0 +1,119 @@
+"""The packets of captures."""
+from __future__ import annotations
+
+import ctypes as c
+import mmap
+import os
+import stat
+from typing import Any, Iterator, NamedTuple, Optional, Union
+
+from . import native
+from .errors import CaptureError
+
+Path = Union[str, "os.PathLike[str]"]
+
+
+class Packet(NamedTuple):
+    """A packet of a capture."""
+
+    time: int
+    """Nanoseconds since 1970-01-01 00:00:00 UTC."""
+    link_type: int
+    data: bytes
+    """The bytes that were captured."""
+    original_length: int
+    """How many bytes it had on the wire."""
+    comment: bytes = b""
+    interface_name: bytes = b""
+    snap_length: int = 262144
+    """The most bytes that were captured of a packet of its interface; 0 is no limit."""
+
+
+class _BufferView(c.Structure):
+    """Python's Py_buffer."""
+
+    _fields_ = [
+        ("start", c.c_void_p),
+        ("owner", c.py_object),
+        ("length", c.c_ssize_t),
+        ("item_size", c.c_ssize_t),
+        ("is_read_only", c.c_int),
+        ("dimensions", c.c_int),
+        ("format", c.c_char_p),
+        ("shape", c.c_void_p),
+        ("strides", c.c_void_p),
+        ("suboffsets", c.c_void_p),
+        ("internal", c.c_void_p),
+    ]
+
+
+def _start_of(memory: Any) -> Any:
+    """Where the bytes of an object begin. It has to live as long as they are read."""
+    view = _BufferView()
+    c.pythonapi.PyObject_GetBuffer(c.py_object(memory), c.byref(view), c.c_int(0))
+    start = c.c_void_p(view.start)
+    c.pythonapi.PyBuffer_Release(c.byref(view))
+    return start
+
+
+def _contents(path: Path) -> Union[bytes, mmap.mmap]:
+    """A file, mapped into memory; of what can't be mapped, as a pipe, the bytes up to its end."""
+    with open(path, "rb") as file:
+        status = os.fstat(file.fileno())
+        if stat.S_ISREG(status.st_mode) and status.st_size > 0:
+            return mmap.mmap(file.fileno(), 0, access=mmap.ACCESS_READ)
+        return file.read()
+
+
+class Packets:
+    """The packets of a capture in memory. Each loop over it begins at the first one.
+
+    A loop ends with the capture, or raises CaptureError at its first fault.
+    """
+
+    def __init__(self, memory: Union[bytes, mmap.mmap], fault_at: Optional[int] = None) -> None:
+        """`fault_at` is the offset of a known fault: the packets before it are given, no error."""
+        self._memory, self._fault_at = memory, fault_at
+
+    def __iter__(self) -> Iterator[Packet]:
+        memory, size = self._memory, len(self._memory)
+        start = _start_of(memory)
+        reader, packet = native.Reader(), native.PacketInfo()
+        table = (native.Interface * native.MOST_INTERFACES)()
+        arguments = (c.byref(reader), table, len(table), start, size, c.byref(packet))
+        while reader.offset != self._fault_at:
+            found = native.next_(*arguments)
+            if found == native.PACKET:
+                yield self._packet(reader, table, start, packet)
+            elif found == native.END:
+                return
+            elif found != native.NO_PACKET:
+                before = Packets(memory, reader.offset)
+                raise CaptureError(found, reader.offset, before)
+
+    def _packet(self, reader: Any, table: Any, start: Any, packet: Any) -> Packet:
+        data = self._memory[packet.at : packet.at + packet.captured]
+        name = b""
+        if packet.interface < reader.interfaces:
+            interface = table[packet.interface]
+            name = bytes(interface.name[: interface.name_length])
+        comment = b""
+        if packet.options_length > 0:
+            buffer = c.create_string_buffer(packet.options_length)
+            length = native.comment(
+                c.byref(reader), start, len(self._memory), c.byref(packet), buffer, len(buffer)
+            )
+            comment = buffer.raw[:length]
+        return Packet(
+            packet.time, packet.link_type, data, packet.original, comment, name, packet.snap
+        )
+
+
+def packets(source: Union[Path, bytes]) -> Packets:
+    """The packets of a capture: of a file, or of bytes in memory.
+
+    A file is mapped into memory, so it may be larger than that, and is not to be changed while it
+    is read: where it becomes shorter the process ends by SIGBUS. A pipe is read to its end first.
+    Raises OSError where the file can't be opened or read.
+    """
+    return Packets(source if isinstance(source, bytes) else _contents(source))
