@@ -34,7 +34,7 @@ fn what_is_written_reads_back() {
     assert_eq!(read(&written(Format::Pcapng, &packets)), packets);
     assert_eq!(
         read(&written(Format::PcapNanoseconds, [&plain])),
-        [plain.clone()]
+        std::slice::from_ref(&plain)
     );
     let pcap = written(Format::Pcap, [&plain]);
     assert_eq!(read(&pcap)[0].time, TIME / 1000 * 1000);
@@ -88,7 +88,10 @@ fn a_packet_of_the_greatest_length() {
     let large = vec![7; 262_144];
     let packet = Packet::new(TIME, LINK_ETHERNET, &large);
     for format in [Format::Pcapng, Format::PcapNanoseconds] {
-        assert_eq!(read(&written(format, [&packet])), [packet.clone()]);
+        assert_eq!(
+            read(&written(format, [&packet])),
+            std::slice::from_ref(&packet)
+        );
     }
 }
 
