@@ -1,9 +1,9 @@
 /* Writes the packets of a capture that match, with their comments, to a pcapng file.
  *
- * The expression is compiled, the capture opened and its first packet read before the output is
- * touched, which may not be the capture itself. The status is 1 where the capture is damaged, after
- * its packets before the damage are written, and where a packet can't be written, and 2 where the
- * expression is refused or a file can't be opened. */
+ * The expression is checked, the capture opened and its first packet read before the output is
+ * touched, which may not be the capture itself. The statuses are those of capkit: 1 after a fault,
+ * before which the packets are written, and 2 where the command line or the expression is refused.
+ */
 #define _POSIX_C_SOURCE 200809L
 #include "example.h"
 
@@ -35,12 +35,12 @@ static const struct program *program_for(uint16_t link_type)
     if (program < programs + 3 && program->insns)
         return program;
     if (program == programs + 3 || !(program->insns = room_of("keep", expression, &room)))
-        exit(2);
+        exit(1);
     status = capkit_compile(expression, strlen(expression), link_type, program->insns, room,
                             &program->count);
     if (status) {
         report_status("keep", status, program->count);
-        exit(2);
+        exit(1);
     }
     program->link_type = link_type;
     return program;
@@ -114,7 +114,7 @@ static void begin(void)
     uint32_t result = capkit_write_section(unit, sizeof unit, &length);
     if (!(out = fopen(out_name, "wb"))) {
         fprintf(stderr, "keep: %s: %s\n", out_name, strerror(errno));
-        exit(2);
+        exit(1);
     }
     put(result, length);
 }
@@ -129,12 +129,13 @@ int main(int argc, char **argv)
     if (argc != 4)
         return fprintf(stderr, "usage: keep EXPRESSION IN OUT\n"), 2;
     expression = argv[1], in_name = argv[2], out_name = argv[3];
-    if (!(checked = room_of("keep", expression, &room)) ||
-        !(capture = capture_of("keep", in_name, &size)))
+    if (!(checked = room_of("keep", expression, &room)))
         return 2;
     free(checked);
     if (is_same_file(in_name, out_name))
         return fprintf(stderr, "keep: %s: is the input too\n", out_name), 2;
+    if (!(capture = capture_of("keep", in_name, &size)))
+        return 1;
     do {
         found = capkit_next(&reader, interfaces, CAPKIT_MOST_INTERFACES, capture, size, &p);
         if (found == CAPKIT_PACKET)

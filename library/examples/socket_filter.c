@@ -2,7 +2,8 @@
  * packet socket with capkit's program (SO_ATTACH_FILTER). It needs the right to open such sockets
  * (CAP_NET_RAW).
  *
- * The status is 2 where the expression is refused, and 1 where the system refuses something. */
+ * The statuses are those of capkit: 1 after a fault, as where the right is missing, and 2 where the
+ * command line or the expression is refused. */
 #define _DEFAULT_SOURCE
 #include "example.h"
 #include <arpa/inet.h>

@@ -1,33 +1,45 @@
 """Counts the packets of a capture that match, and prints their comments.
 
-The status is 1 where the capture is damaged, after its packets before the damage, and 2 where the
-expression is refused or the capture can't be read.
+The statuses are those of capkit: 1 after a fault, which ends the capture, and 2 where the command
+line or the expression is refused.
 """
 import sys
 
 import capkit
 
 
-def main() -> int:
-    if len(sys.argv) != 3:
-        print("usage: filter.py EXPRESSION FILE", file=sys.stderr)
-        return 2
+def report(problem: object) -> None:
+    print(f"filter.py: {problem}", file=sys.stderr)
+
+
+def count(expression: capkit.Expression, name: str) -> int:
     seen = matching = status = 0
     try:
-        expression = capkit.Expression(sys.argv[1])
-        for packet in capkit.packets(sys.argv[2]):
+        for packet in capkit.packets(name):
             matching += expression.matches(packet)
             seen += 1
             if packet.comment:
                 print(f"packet {seen}: {packet.comment.decode(errors='replace')}")
     except capkit.CaptureError as fault:
-        print(f"filter.py: {sys.argv[2]}: {fault}", file=sys.stderr)
+        report(f"{name}: {fault}")
         status = 1
     except (capkit.CompileError, OSError) as error:
-        print(f"filter.py: {error}", file=sys.stderr)
-        return 2
+        report(error)
+        return 1
     print(f"{matching} of {seen} packets match")
     return status
+
+
+def main() -> int:
+    if len(sys.argv) != 3:
+        print("usage: filter.py EXPRESSION FILE", file=sys.stderr)
+        return 2
+    try:
+        expression = capkit.Expression(sys.argv[1])
+    except capkit.CompileError as error:
+        report(error)
+        return 2
+    return count(expression, sys.argv[2])
 
 
 sys.exit(main())

@@ -1,12 +1,37 @@
 """Writes the packets of a capture that match to a pcapng file.
 
-The expression is compiled and the capture opened before the output is touched, which may not be the
-capture itself. The statuses are those of filter.py.
+The expression is checked, the capture opened and its first packet read before the output is
+touched, which may not be the capture itself. The statuses are those of capkit: 1 after a fault,
+before which the packets are written, and 2 where the command line or the expression is refused.
 """
 import os
 import sys
 
 import capkit
+
+
+def report(problem: object) -> None:
+    print(f"keep.py: {problem}", file=sys.stderr)
+
+
+def is_same_file(one: str, other: str) -> bool:
+    return os.path.exists(one) and os.path.exists(other) and os.path.samefile(one, other)
+
+
+def keep(expression: capkit.Expression, source: str, target: str) -> int:
+    try:
+        # The writer opens its file for the first packet.
+        with capkit.Writer(target) as writer:
+            for packet in capkit.packets(source):
+                if expression.matches(packet):
+                    writer.write(packet)
+    except (capkit.CaptureError, capkit.CompileError, capkit.WriteError) as error:
+        report(f"{source}: {error}")
+        return 1
+    except OSError as error:
+        report(error)
+        return 1
+    return 0
 
 
 def main() -> int:
@@ -16,21 +41,13 @@ def main() -> int:
     text, source, target = sys.argv[1:]
     try:
         expression = capkit.Expression(text)
-        packets = capkit.packets(source)
-        if os.path.exists(target) and os.path.samefile(source, target):
-            print(f"keep.py: {target}: is the input too", file=sys.stderr)
-            return 2
-        with capkit.Writer(target) as writer:
-            for packet in packets:
-                if expression.matches(packet):
-                    writer.write(packet)
-    except (capkit.CaptureError, capkit.WriteError) as fault:
-        print(f"keep.py: {source}: {fault}", file=sys.stderr)
-        return 1
-    except (capkit.CompileError, OSError) as error:
-        print(f"keep.py: {error}", file=sys.stderr)
+    except capkit.CompileError as error:
+        report(error)
         return 2
-    return 0
+    if is_same_file(source, target):
+        report(f"{target}: is the input too")
+        return 2
+    return keep(expression, source, target)
 
 
 sys.exit(main())

@@ -1,13 +1,17 @@
 //! Writes the packets of a capture that match to a pcapng file.
 //!
-//! The expression is compiled, the capture opened and its first packet read before the output is
-//! touched, which may not be the capture itself. The statuses are those of `filter`.
-use capkit::{Capture, Expression, Fault, Format, Packets, Writer};
-use std::error::Error;
+//! The expression is checked, the capture opened and its first packet read before the output is
+//! touched, which may not be the capture itself. The statuses are those of capkit: 1 after a fault,
+//! before which the packets are written, and 2 where the command line or the expression is refused.
+use capkit::{Capture, Expression, Format, Writer};
 use std::fs::{self, File};
-use std::io::BufWriter;
 use std::os::unix::fs::MetadataExt;
-use std::{env, iter::Peekable, process::ExitCode};
+use std::{env, error::Error, fmt::Display, io::BufWriter, process::ExitCode};
+
+fn fail(problem: impl Display, status: u8) -> ExitCode {
+    eprintln!("keep: {problem}");
+    ExitCode::from(status)
+}
 
 fn is_same_file(one: &str, other: &str) -> bool {
     match (fs::metadata(one), fs::metadata(other)) {
@@ -16,58 +20,55 @@ fn is_same_file(one: &str, other: &str) -> bool {
     }
 }
 
-/// Writes the packets that match, and gives the fault that ends the capture.
-fn write(
-    mut packets: Peekable<Packets>,
-    mut expression: Expression,
-    out: &str,
-) -> Result<Option<Fault>, Box<dyn Error>> {
-    match packets.peek() {
-        Some(Err(fault)) => return Ok(Some(*fault)),
-        Some(Ok(first)) => drop(expression.filter(first.link_type)?),
-        None => {}
+/// Writes the packets that match, also those before a fault.
+fn keep(mut expression: Expression, name: &str, out: &str) -> Result<(), Box<dyn Error>> {
+    let of_input = |error: &dyn Display| format!("{name}: {error}");
+    let of_output = |error: &dyn Display| format!("{out}: {error}");
+    // SAFETY: the capture isn't changed while this program reads it; its user sees to that.
+    let capture = unsafe { Capture::map(name) }.map_err(|error| of_input(&error))?;
+    if let Some(first) = capture.packets().next() {
+        let first = first.map_err(|fault| of_input(&fault))?;
+        expression
+            .filter(first.link_type)
+            .map_err(|error| of_input(&error))?;
     }
-    let file = File::create(out).map_err(|error| format!("{out}: {error}"))?;
-    let (mut writer, mut fault) = (Writer::new(BufWriter::new(file), Format::Pcapng), None);
-    for packet in packets {
+    let file = File::create(out).map_err(|error| of_output(&error))?;
+    let (mut writer, mut end) = (Writer::new(BufWriter::new(file), Format::Pcapng), Ok(()));
+    for packet in capture.packets() {
         match packet {
-            Ok(packet) if expression.matches(&packet)? => writer.write(&packet)?,
-            Ok(_) => {}
-            Err(found) => fault = Some(found),
+            Ok(packet) => {
+                if expression
+                    .matches(&packet)
+                    .map_err(|error| of_input(&error))?
+                {
+                    writer.write(&packet).map_err(|error| of_output(&error))?;
+                }
+            }
+            Err(fault) => end = Err(of_input(&fault).into()),
         }
     }
-    writer.finish()?;
-    Ok(fault)
-}
-
-fn keep(text: &str, name: &str, out: &str) -> Result<Option<Fault>, Box<dyn Error>> {
-    let expression = Expression::new(text)?;
-    // SAFETY: the capture isn't changed while this program reads it; its user sees to that.
-    let capture = unsafe { Capture::map(name) }.map_err(|error| format!("{name}: {error}"))?;
-    if is_same_file(name, out) {
-        return Err(format!("{out}: is the input too").into());
-    }
-    write(capture.packets().peekable(), expression, out)
+    writer.finish().map_err(|error| of_output(&error))?;
+    end
 }
 
 fn main() -> ExitCode {
     let words: Vec<String> = env::args().collect();
-    let (name, result) = match &words[..] {
-        [_, text, name, out] => (name, keep(text, name, out)),
+    let (text, name, out) = match &words[..] {
+        [_, text, name, out] => (text, name, out),
         _ => {
             eprintln!("usage: keep EXPRESSION IN OUT");
             return ExitCode::from(2);
         }
     };
-    match result {
-        Ok(None) => ExitCode::SUCCESS,
-        Ok(Some(fault)) => {
-            eprintln!("keep: {name}: {fault}");
-            ExitCode::from(1)
-        }
-        Err(error) => {
-            eprintln!("keep: {error}");
-            ExitCode::from(2)
-        }
+    let expression = match Expression::new(text) {
+        Ok(expression) => expression,
+        Err(error) => return fail(error, 2),
+    };
+    if is_same_file(name, out) {
+        return fail(format_args!("{out}: is the input too"), 2);
+    }
+    match keep(expression, name, out) {
+        Ok(()) => ExitCode::SUCCESS,
+        Err(error) => fail(error, 1),
     }
 }

@@ -1,11 +1,10 @@
 // Filter counts the packets of a capture that match.
 //
-// The status is 1 where the capture is damaged, after its packets before the damage, and 2 where the
-// expression is refused or the capture can't be read.
+// The statuses are those of capkit: 1 after a fault, which ends the capture, and 2 where the command
+// line or the expression is refused.
 package main
 
 import (
-	"errors"
 	"fmt"
 	"io"
 	"os"
@@ -13,12 +12,8 @@ import (
 	"capkit"
 )
 
-// count prints how many packets match.
-func count(text, name string) error {
-	expression, err := capkit.NewExpression(text)
-	if err != nil {
-		return err
-	}
+// count prints how many packets match, also of those before a fault.
+func count(expression *capkit.Expression, name string) error {
 	capture, err := capkit.Open(name)
 	if err != nil {
 		return err
@@ -36,7 +31,7 @@ func count(text, name string) error {
 		}
 		matches, err := expression.Matches(packet)
 		if err != nil {
-			return err
+			return fmt.Errorf("%s: %w", name, err)
 		}
 		if seen++; matches {
 			matching++
@@ -44,19 +39,21 @@ func count(text, name string) error {
 	}
 }
 
+func fail(err error, status int) {
+	fmt.Fprintln(os.Stderr, "filter:", err)
+	os.Exit(status)
+}
+
 func main() {
 	if len(os.Args) != 3 {
 		fmt.Fprintln(os.Stderr, "usage: filter EXPRESSION FILE")
 		os.Exit(2)
 	}
-	err := count(os.Args[1], os.Args[2])
-	if err == nil {
-		return
+	expression, err := capkit.NewExpression(os.Args[1])
+	if err != nil {
+		fail(err, 2)
 	}
-	fmt.Fprintln(os.Stderr, "filter:", err)
-	var fault *capkit.Fault
-	if errors.As(err, &fault) {
-		os.Exit(1)
+	if err := count(expression, os.Args[2]); err != nil {
+		fail(err, 1)
 	}
-	os.Exit(2)
 }

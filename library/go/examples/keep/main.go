@@ -1,12 +1,12 @@
 // Keep writes the packets of a capture that match to a pcapng file.
 //
-// The expression is compiled, the capture opened and its first packet read before the output is
-// touched, which may not be the capture itself. The statuses are those of filter.
+// The expression is checked, the capture opened and its first packet read before the output is
+// touched, which may not be the capture itself. The statuses are those of capkit: 1 after a fault,
+// before which the packets are written, and 2 where the command line or the expression is refused.
 package main
 
 import (
 	"bufio"
-	"errors"
 	"fmt"
 	"io"
 	"os"
@@ -23,31 +23,20 @@ func isSameFile(one, other string) bool {
 	return err == nil && os.SameFile(first, second)
 }
 
-// keep writes the packets that match. Its error is a *capkit.Fault where the capture ends with one.
-func keep(text, name, out string) error {
-	expression, err := capkit.NewExpression(text)
-	if err != nil {
-		return err
-	}
+// keep writes the packets that match, also those before a fault.
+func keep(expression *capkit.Expression, name, out string) error {
 	capture, err := capkit.Open(name)
 	if err != nil {
 		return err
 	}
 	defer capture.Close()
-	if isSameFile(name, out) {
-		return fmt.Errorf("%s: is the input too", out)
-	}
 	first, err := capture.Reader().Next()
 	if err == nil {
 		_, err = expression.Filter(first.LinkType)
 	}
 	if err != nil && err != io.EOF {
-		return err
+		return fmt.Errorf("%s: %w", name, err)
 	}
-	return write(capture.Reader(), expression, out)
-}
-
-func write(reader *capkit.Reader, expression *capkit.Expression, out string) error {
 	file, err := os.Create(out)
 	if err != nil {
 		return err
@@ -55,14 +44,16 @@ func write(reader *capkit.Reader, expression *capkit.Expression, out string) err
 	defer file.Close()
 	buffer := bufio.NewWriter(file)
 	writer := capkit.NewWriter(buffer, capkit.Pcapng)
-	end := copyMatching(reader, expression, writer)
-	// What is before a fault is kept.
+	end := copyMatching(capture.Reader(), expression, writer)
 	for _, finish := range []func() error{writer.Close, buffer.Flush, file.Close} {
 		if err := finish(); err != nil {
 			return err
 		}
 	}
-	return end
+	if end != nil {
+		return fmt.Errorf("%s: %w", name, end)
+	}
+	return nil
 }
 
 func copyMatching(reader *capkit.Reader, expression *capkit.Expression, writer *capkit.Writer) error {
@@ -83,20 +74,25 @@ func copyMatching(reader *capkit.Reader, expression *capkit.Expression, writer *
 	}
 }
 
+func fail(err error, status int) {
+	fmt.Fprintln(os.Stderr, "keep:", err)
+	os.Exit(status)
+}
+
 func main() {
 	if len(os.Args) != 4 {
 		fmt.Fprintln(os.Stderr, "usage: keep EXPRESSION IN OUT")
 		os.Exit(2)
 	}
-	err := keep(os.Args[1], os.Args[2], os.Args[3])
-	if err == nil {
-		return
+	name, out := os.Args[2], os.Args[3]
+	expression, err := capkit.NewExpression(os.Args[1])
+	if err != nil {
+		fail(err, 2)
 	}
-	var fault *capkit.Fault
-	if errors.As(err, &fault) {
-		fmt.Fprintf(os.Stderr, "keep: %s: %v\n", os.Args[2], fault)
-		os.Exit(1)
+	if isSameFile(name, out) {
+		fail(fmt.Errorf("%s: is the input too", out), 2)
 	}
-	fmt.Fprintln(os.Stderr, "keep:", err)
-	os.Exit(2)
+	if err := keep(expression, name, out); err != nil {
+		fail(err, 1)
+	}
 }

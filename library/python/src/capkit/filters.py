@@ -84,10 +84,10 @@ class Filter:
         """
         original = len(data) if original_length is None else original_length
         native.fits(original, 32, "original length")
-        steps = c.c_uint32()
-        result: int = native.run(
-            self._insns, self._count, bytes(data), len(data), original, c.byref(steps)
-        )
+        if not isinstance(data, bytes):
+            data = bytes(data)
+        steps = c.byref(c.c_uint32())
+        result: int = native.run(self._insns, self._count, data, len(data), original, steps)
         return result
 
     def matches(self, data: Bytes, original_length: Optional[int] = None) -> bool:

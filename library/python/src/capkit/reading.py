@@ -5,6 +5,7 @@ import ctypes as c
 import mmap
 import os
 import stat
+import struct
 from typing import Any, Iterator, NamedTuple, Optional, Union
 
 from . import native
@@ -47,6 +48,18 @@ class _BufferView(c.Structure):
     ]
 
 
+# The fields of native.PacketInfo.
+_INFO = struct.Struct("@QNNIIIIIH")
+
+
+def _name(table: memoryview, number: int) -> bytes:
+    """The name of an interface, of the bytes of a table."""
+    start = number * c.sizeof(native.Interface)
+    length = table[start + native.Interface.name_length.offset]
+    name = start + native.Interface.name.offset
+    return bytes(table[name : name + length])
+
+
 def _start_of(memory: Any) -> Any:
     """Where the bytes of an object begin. It has to live as long as they are read."""
     view = _BufferView()
@@ -76,37 +89,32 @@ class Packets:
         self._memory, self._fault_at = memory, fault_at
 
     def __iter__(self) -> Iterator[Packet]:
-        memory, size = self._memory, len(self._memory)
-        start = _start_of(memory)
-        reader, packet = native.Reader(), native.PacketInfo()
+        memory, fault_at = self._memory, self._fault_at
+        start, size = _start_of(memory), len(memory)
+        reader, info = native.Reader(), native.PacketInfo()
         table = (native.Interface * native.MOST_INTERFACES)()
-        arguments = (c.byref(reader), table, len(table), start, size, c.byref(packet))
-        while reader.offset != self._fault_at:
-            found = native.next_(*arguments)
+        arguments = (c.byref(reader), table, len(table), start, size, c.byref(info))
+        unpack = _INFO.unpack_from
+        next_, names, fields = native.next_, memoryview(table).cast("B"), memoryview(info).cast("B")
+        while fault_at is None or reader.offset != fault_at:
+            found = next_(*arguments)
             if found == native.PACKET:
-                yield self._packet(reader, table, start, packet)
+                # One call for all fields is faster than one for each.
+                time, at, _, length, original, options, number, snap, link = unpack(fields)
+                comment = self._comment(reader, start, info) if options else b""
+                name = _name(names, number) if number < reader.interfaces else b""
+                yield Packet(time, link, memory[at : at + length], original, comment, name, snap)
             elif found == native.END:
                 return
             elif found != native.NO_PACKET:
-                before = Packets(memory, reader.offset)
-                raise CaptureError(found, reader.offset, before)
+                raise CaptureError(found, reader.offset, Packets(memory, reader.offset))
 
-    def _packet(self, reader: Any, table: Any, start: Any, packet: Any) -> Packet:
-        data = self._memory[packet.at : packet.at + packet.captured]
-        name = b""
-        if packet.interface < reader.interfaces:
-            interface = table[packet.interface]
-            name = bytes(interface.name[: interface.name_length])
-        comment = b""
-        if packet.options_length > 0:
-            buffer = c.create_string_buffer(packet.options_length)
-            length = native.comment(
-                c.byref(reader), start, len(self._memory), c.byref(packet), buffer, len(buffer)
-            )
-            comment = buffer.raw[:length]
-        return Packet(
-            packet.time, packet.link_type, data, packet.original, comment, name, packet.snap
+    def _comment(self, reader: Any, start: Any, info: Any) -> bytes:
+        buffer = c.create_string_buffer(info.options_length)
+        length = native.comment(
+            c.byref(reader), start, len(self._memory), c.byref(info), buffer, len(buffer)
         )
+        return buffer.raw[:length]
 
 
 def packets(source: Union[Path, bytes]) -> Packets:
