@@ -135,7 +135,7 @@ class PacketsTest(unittest.TestCase):
 
     def test_no_capture(self):
         with self.assertRaisesRegex(capkit.CaptureError, "not a capture file") as caught:
-            next(iter(capkit.packets(b"some text")))
+            next(capkit.packets(b"some text"))
         self.assertEqual(list(caught.exception.packets), [])
         with self.assertRaises(capkit.CaptureError):
             list(capkit.packets(b""))
@@ -145,10 +145,10 @@ class PacketsTest(unittest.TestCase):
             capkit.packets(SAMPLES)
 
     def test_each_loop_begins_anew(self):
-        packets = capkit.packets(SAMPLES / "day.pcap")
-        first = iter(packets)
+        capture = capkit.Capture(SAMPLES / "day.pcap")
+        first = iter(capture)
         next(first)
-        self.assertEqual(len(list(packets)), 44)
+        self.assertEqual(len(list(capture)), 44)
         self.assertEqual(len(list(first)), 43)
 
     def test_pipe(self):
@@ -191,7 +191,7 @@ class WriterTest(unittest.TestCase):
     def test_large_packets(self):
         large = packet(bytes(262144))
         for format in ("pcap", "nsecpcap", "pcapng"):
-            self.assertEqual(next(iter(capkit.packets(written([large], format)))).data, large.data)
+            self.assertEqual(next(capkit.packets(written([large], format))).data, large.data)
 
     def test_refused_packets(self):
         for format, wrong, reason in [

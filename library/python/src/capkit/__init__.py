@@ -10,7 +10,7 @@ for it; expressions are compiled for LINK_ETHERNET, LINK_RAW and LINK_COOKED.
 """
 from .errors import CaptureError, CompileError, ProgramError, WriteError
 from .filters import Expression, Filter, Instruction
-from .reading import Packet, Packets, packets
+from .reading import Capture, Packet, packets
 from .writing import Writer
 
 __version__ = "0.1.0"
@@ -23,13 +23,13 @@ __all__ = [
     "LINK_COOKED",
     "LINK_ETHERNET",
     "LINK_RAW",
+    "Capture",
     "CaptureError",
     "CompileError",
     "Expression",
     "Filter",
     "Instruction",
     "Packet",
-    "Packets",
     "ProgramError",
     "WriteError",
     "Writer",

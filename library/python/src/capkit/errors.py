@@ -6,7 +6,7 @@ from typing import TYPE_CHECKING, Optional
 from . import native
 
 if TYPE_CHECKING:
-    from .reading import Packets
+    from .reading import Capture
 
 
 class CompileError(ValueError):
@@ -41,7 +41,7 @@ class CaptureError(ValueError):
     read from the capture again.
     """
 
-    def __init__(self, fault: int, offset: int, packets: Packets) -> None:
+    def __init__(self, fault: int, offset: int, packets: Capture) -> None:
         self.fault, self.offset, self.packets = fault, offset, packets
         self.reason = native.text_of(native.found_text, fault)
         super().__init__(f"offset {offset}: {self.reason}")

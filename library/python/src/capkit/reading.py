@@ -1,6 +1,7 @@
 """The packets of captures."""
 from __future__ import annotations
 
+import copy
 import ctypes as c
 import mmap
 import os
@@ -78,15 +79,26 @@ def _contents(path: Path) -> Union[bytes, mmap.mmap]:
         return file.read()
 
 
-class Packets:
-    """The packets of a capture in memory. Each loop over it begins at the first one.
+class Capture:
+    """A capture of a file, or of bytes in memory. Each loop over it has its packets from the first.
 
     A loop ends with the capture, or raises CaptureError at its first fault.
+
+    A file is mapped into memory, so it may be larger than that, and is not to be changed while it
+    is read: where it becomes shorter the process ends by SIGBUS. A pipe is read to its end first.
     """
 
-    def __init__(self, memory: Union[bytes, mmap.mmap], fault_at: Optional[int] = None) -> None:
-        """`fault_at` is the offset of a known fault: the packets before it are given, no error."""
-        self._memory, self._fault_at = memory, fault_at
+    def __init__(self, source: Union[Path, bytes]) -> None:
+        """Raises OSError where the file can't be opened or read."""
+        self._memory = source if isinstance(source, bytes) else _contents(source)
+        # The offset of a known fault: the packets before it are given, no error.
+        self._fault_at: Optional[int] = None
+
+    def _before(self, fault_at: int) -> Capture:
+        """The capture up to a fault."""
+        capture = copy.copy(self)
+        capture._fault_at = fault_at
+        return capture
 
     def __iter__(self) -> Iterator[Packet]:
         memory, fault_at = self._memory, self._fault_at
@@ -107,7 +119,7 @@ class Packets:
             elif found == native.END:
                 return
             elif found != native.NO_PACKET:
-                raise CaptureError(found, reader.offset, Packets(memory, reader.offset))
+                raise CaptureError(found, reader.offset, self._before(reader.offset))
 
     def _comment(self, reader: Any, start: Any, info: Any) -> bytes:
         buffer = c.create_string_buffer(info.options_length)
@@ -117,11 +129,6 @@ class Packets:
         return buffer.raw[:length]
 
 
-def packets(source: Union[Path, bytes]) -> Packets:
-    """The packets of a capture: of a file, or of bytes in memory.
-
-    A file is mapped into memory, so it may be larger than that, and is not to be changed while it
-    is read: where it becomes shorter the process ends by SIGBUS. A pipe is read to its end first.
-    Raises OSError where the file can't be opened or read.
-    """
-    return Packets(source if isinstance(source, bytes) else _contents(source))
+def packets(source: Union[Path, bytes]) -> Iterator[Packet]:
+    """The packets of a capture, one after another; see Capture."""
+    return iter(Capture(source))
