@@ -195,11 +195,22 @@ if have python3; then
 else
     cp "$samples/mirror.pcap" "$packages/large.pcapng"
 fi
+check_trace() {
+    expect 0 '' 'it returns 262144' trace 'tcp port 80' "$samples/day.pcap" 7
+    grep -q '^(010) 21 7 8 80 *A is 0x50$' "$packages/out.txt" || wrong 'Python: trace: A is something else'
+    expect 0 '' 'it returns 0' trace 'tcp port 80' "$samples/day.pcap" 1
+    expect 1 'no packet 99' '' trace tcp "$samples/day.pcap" 99
+    expect 1 'too long' '' trace tcp "$samples/damaged.pcap" 40
+    expect 2 'unknown word' '' trace prt "$samples/day.pcap" 1
+    expect 2 'usage: trace' '' trace tcp "$samples/day.pcap" 0
+}
+
 for language in $languages; do
     "check_$language"
     check_filter
     check_keep
     check_usage
+    if [ "$language" = python ]; then check_trace; fi
 done
 case $languages in *python*) remove_python ;; esac
 make -s uninstall PREFIX="$packages/prefix"
