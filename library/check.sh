@@ -1,7 +1,7 @@
 #!/bin/sh
-# Builds libcapkit and its callers, and runs them over samples/. Where valgrind, a C++ compiler, rustc, go, python3,
-# libpcap's headers and capkit itself are there it uses them too, and says which are missing. The last line says
-# whether all was as it should be.
+# Builds libcapkit, its callers and its packages, and runs them over samples/. Where valgrind, a C++ compiler, cargo, go,
+# python3, libpcap's headers and capkit itself are there it uses them too, and says which are missing. The last line
+# says whether all was as it should be.
 #
 # usage: library/check.sh [ROUNDS]       ROUNDS of random programs and packets, 100000 where none are given
 set -eu
@@ -9,7 +9,7 @@ cd "$(dirname "$0")"
 rounds=${1:-100000}
 bad=0
 have() { command -v "$1" >/dev/null 2>&1; }
-for program in valgrind c++ rustc go python3 capkit; do
+for program in valgrind c++ python3 capkit; do
     have $program || echo "without $program"
 done
 make -s all examples
@@ -41,22 +41,15 @@ for name in day.pcap two-sections.pcapng comments.pcapng damaged.pcap; do
         valgrind -q --error-exitcode=99 --leak-check=full --show-leak-kinds=definite out/filter 'tcp or udp' "../samples/$name" \
             >/dev/null 2>out/valgrind.txt || test $? != 99 || { cat out/valgrind.txt; bad=1; }
     fi
-    want=$(out/filter tcp "../samples/$name" 2>/dev/null | tail -n 1)
-    if have rustc; then
-        make -s out/rust
-        test "$(out/rust tcp "../samples/$name" | tail -n 1)" = "$want" || { echo "Rust: $name"; bad=1; }
-    fi
-    if have go; then
-        make -s out/go
-        test "$(out/go tcp "../samples/$name" | tail -n 1)" = "$want" || { echo "Go: $name"; bad=1; }
-    fi
-    if have python3; then
-        test "$(CAPKIT_LIBRARY=out/libcapkit.so.0 python3 examples/capkit.py tcp "../samples/$name" | tail -n 1)" = "$want" ||
-            { echo "Python: $name"; bad=1; }
-    fi
 done
+./check_packages.sh || bad=1
 if [ -e /usr/include/pcap/pcap.h ]; then
-    make -s tests
+    make -s tests out/pcap_filter
+    # libpcap runs capkit's programs, on Ethernet, cooked and raw captures.
+    for name in day.pcap cooked.pcap four.pcap truncated.pcap; do
+        want=$(out/filter 'tcp or udp' "../samples/$name" 2>/dev/null | sed -n 's/^\([0-9]*\) of .*/\1 packets match/p')
+        test "$(out/pcap_filter 'tcp or udp' "../samples/$name" 2>/dev/null)" = "$want" || { echo "libpcap: $name"; bad=1; }
+    done
     out/fuzz 1 "$rounds" ../samples/*.pcap ../samples/*.pcapng || bad=1
     out/writes 1 "$rounds" || bad=1
     out/compare tests/expressions.txt ../samples/*.pcap || bad=1
@@ -66,6 +59,12 @@ if [ -e /usr/include/pcap/pcap.h ]; then
     fi
 else
     echo "without libpcap's headers"
+fi
+# Linux runs capkit's programs, in a network of its own.
+if unshare -rn ip link set lo up 2>/dev/null; then
+    unshare -rn tests/kernel.sh || bad=1
+else
+    echo 'without a network of its own'
 fi
 [ $bad = 0 ] && echo 'all as it should be'
 exit $bad

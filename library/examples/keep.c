@@ -1,66 +1,154 @@
-/* Writes the packets of a capture that match, with their comments, to a pcapng file: keep
- * EXPRESSION IN OUT */
-#include <capkit.h>
-#include <stdio.h>
-#include <stdlib.h>
-#include <string.h>
+/* Writes the packets of a capture that match, with their comments, to a pcapng file.
+ *
+ * The expression is checked, the capture opened and its first packet read before the output is
+ * touched, which may not be the capture itself. The statuses are those of capkit: 1 after a fault,
+ * before which the packets are written, and 2 where the command line or the expression is refused.
+ */
+#define _POSIX_C_SOURCE 200809L
+#include "example.h"
 
-static struct capkit_insn programs[4][CAPKIT_MOST_INSNS]; /* one a link type; only three compile */
+#define MOST_OUTPUT_INTERFACES 4096
+
+static const char *expression, *in_name, *out_name;
+static FILE *out;
+static struct capkit_reader reader;
 static struct capkit_interface interfaces[CAPKIT_MOST_INTERFACES];
-static uint8_t capture[1 << 24], unit[CAPKIT_MOST_UNIT];
+static struct capkit_interface written[MOST_OUTPUT_INTERFACES];
+static uint32_t written_count;
+static uint8_t unit[CAPKIT_MOST_UNIT];
 static char comment[65535];
 
-static void die(size_t (*text)(uint32_t, char *, size_t), uint32_t number, size_t at)
+/* The programs for the link types that were met; no expression is compiled for a fourth one. */
+static struct program {
+    struct capkit_insn *insns;
+    size_t count;
+    uint16_t link_type;
+} programs[3];
+
+static const struct program *program_for(uint16_t link_type)
 {
-    char buffer[64];
-    fprintf(stderr, "keep: %.*s (%zu)\n", (int)text(number, buffer, sizeof buffer), buffer, at);
-    exit(2);
+    struct program *program = programs;
+    size_t room;
+    uint32_t status;
+    while (program < programs + 3 && program->insns && program->link_type != link_type)
+        program++;
+    if (program < programs + 3 && program->insns)
+        return program;
+    if (program == programs + 3 || !(program->insns = room_of("keep", expression, &room)))
+        exit(1);
+    status = capkit_compile(expression, strlen(expression), link_type, program->insns, room,
+                            &program->count);
+    if (status) {
+        report_status("keep", status, program->count);
+        exit(1);
+    }
+    program->link_type = link_type;
+    return program;
 }
 
-static void put(uint32_t written, size_t length, FILE *out)
+/* Writes the unit that a call made, or ends where it made none. */
+static void put(uint32_t result, size_t length)
 {
-    if (written != CAPKIT_WRITTEN)
-        die(capkit_found_text, written, length);
-    fwrite(unit, 1, length, out);
+    if (result != CAPKIT_WRITTEN) {
+        report_found("keep", in_name, result, reader.offset);
+        exit(1);
+    }
+    if (fwrite(unit, 1, length, out) != length) {
+        fprintf(stderr, "keep: %s: %s\n", out_name, strerror(errno));
+        exit(1);
+    }
+}
+
+/* The number of a packet's interface in the output, where it is written if it wasn't yet. Those of
+ * equal link type, snapshot length and name are one, as capkit writes them. */
+static uint32_t interface_for(const struct capkit_packet *p)
+{
+    struct capkit_interface is;
+    size_t length;
+    uint32_t i, result;
+    memset(&is, 0, sizeof is);
+    is.link_type = p->link_type;
+    is.snap = p->snap;
+    if (p->interface < reader.interfaces) {
+        is.name_length = interfaces[p->interface].name_length;
+        memcpy(is.name, interfaces[p->interface].name, is.name_length);
+    }
+    for (i = 0; i < written_count; i++)
+        if (memcmp(&written[i], &is, sizeof is) == 0)
+            return i;
+    if (written_count == MOST_OUTPUT_INTERFACES)
+        put(CAPKIT_TOO_MANY_OUTPUT_INTERFACES, 0);
+    result = capkit_write_interface(is.link_type, is.snap, is.name, is.name_length, unit,
+                                    sizeof unit, &length);
+    put(result, length);
+    memcpy(&written[written_count], &is, sizeof is);
+    return written_count++;
+}
+
+static void keep(const uint8_t *capture, size_t size, const struct capkit_packet *p)
+{
+    const struct program *program = program_for(p->link_type);
+    const uint8_t *bytes = capture + p->at;
+    uint32_t number, result, steps;
+    size_t length;
+    if (!capkit_run(program->insns, program->count, bytes, p->captured, p->original, &steps))
+        return;
+    number = interface_for(p);
+    length = capkit_comment(&reader, capture, size, p, comment, sizeof comment);
+    result = capkit_write_packet(number, p->time, p->original, bytes, p->captured, comment, length,
+                                 unit, sizeof unit, &length);
+    put(result, length);
+}
+
+static int is_same_file(const char *one, const char *other)
+{
+    struct stat first, second;
+    return stat(one, &first) == 0 && stat(other, &second) == 0 && first.st_dev == second.st_dev &&
+           first.st_ino == second.st_ino;
+}
+
+/* Opens the output and writes the section header that it begins with. */
+static void begin(void)
+{
+    size_t length;
+    uint32_t result = capkit_write_section(unit, sizeof unit, &length);
+    if (!(out = fopen(out_name, "wb"))) {
+        fprintf(stderr, "keep: %s: %s\n", out_name, strerror(errno));
+        exit(1);
+    }
+    put(result, length);
 }
 
 int main(int argc, char **argv)
 {
-    FILE *in = argc == 4 ? fopen(argv[2], "rb") : NULL, *out = in ? fopen(argv[3], "wb") : NULL;
-    struct capkit_reader reader = {0};
     struct capkit_packet p;
-    size_t size, length, counts[4];
-    uint32_t found, status, steps, number, links = 0;
-    uint16_t link_types[4];
-    if (!out)
+    struct capkit_insn *checked;
+    const uint8_t *capture;
+    size_t room, size;
+    uint32_t found;
+    if (argc != 4)
+        return fprintf(stderr, "usage: keep EXPRESSION IN OUT\n"), 2;
+    expression = argv[1], in_name = argv[2], out_name = argv[3];
+    if (!(checked = room_of("keep", expression, &room)))
         return 2;
-    size = fread(capture, 1, sizeof capture, in);
-    status = capkit_write_section(unit, sizeof unit, &length);
-    put(status, length, out);
-    while ((found = capkit_next(&reader, interfaces, CAPKIT_MOST_INTERFACES, capture, size, &p)) ==
-               CAPKIT_PACKET ||
-           found == CAPKIT_NO_PACKET) {
-        if (found == CAPKIT_NO_PACKET)
-            continue;
-        for (number = 0; number < links && link_types[number] != p.link_type;)
-            number++;
-        if (number == links) {
-            link_types[links++] = p.link_type;
-            status = capkit_compile(argv[1], strlen(argv[1]), p.link_type, programs[number],
-                                    CAPKIT_MOST_INSNS, &counts[number]);
-            if (status)
-                die(capkit_status_text, status, counts[number]);
-            status =
-                capkit_write_interface(p.link_type, p.snap, NULL, 0, unit, sizeof unit, &length);
-            put(status, length, out);
-        }
-        if (!capkit_run(programs[number], counts[number], capture + p.at, p.captured, p.original,
-                        &steps))
-            continue;
-        length = capkit_comment(&reader, capture, size, &p, comment, sizeof comment);
-        status = capkit_write_packet(number, p.time, p.original, capture + p.at, p.captured,
-                                     comment, length, unit, sizeof unit, &length);
-        put(status, length, out);
-    }
-    return found == CAPKIT_END && !fclose(out) ? 0 : 1;
+    free(checked);
+    if (is_same_file(in_name, out_name))
+        return fprintf(stderr, "keep: %s: is the input too\n", out_name), 2;
+    if (!(capture = capture_of("keep", in_name, &size)))
+        return 1;
+    do {
+        found = capkit_next(&reader, interfaces, CAPKIT_MOST_INTERFACES, capture, size, &p);
+        if (found == CAPKIT_PACKET)
+            program_for(p.link_type);
+        if (!out && (found == CAPKIT_PACKET || found == CAPKIT_END))
+            begin();
+        if (found == CAPKIT_PACKET)
+            keep(capture, size, &p);
+    } while (found == CAPKIT_PACKET || found == CAPKIT_NO_PACKET);
+    if (out && fclose(out) != 0)
+        return fprintf(stderr, "keep: %s: %s\n", out_name, strerror(errno)), 1;
+    if (found == CAPKIT_END)
+        return 0;
+    report_found("keep", in_name, found, reader.offset);
+    return 1;
 }

@@ -1,0 +1,220 @@
+#!/bin/sh
+# Builds libcapkit's packages for C, Python, Rust and Go, installs them into out/packages, runs their tests, uses them
+# from programs elsewhere, holds the examples of the four against each other, and removes them again. It needs no network.
+# What is missing of compilers it says. The status is 1 where something wasn't as it should be.
+#
+# usage: library/check_packages.sh       check.sh calls it
+#
+# shellcheck disable=SC2317  # the functions of a language are called by names that are put together
+set -eu
+cd "$(dirname "$0")"
+library=$PWD
+samples=$library/../samples
+packages=$library/out/packages
+bad=0
+languages=c
+have() { command -v "$1" >/dev/null 2>&1; }
+wrong() {
+    printf '%s\n' "$*"
+    bad=1
+}
+# Debian's Python has the tools that build a wheel, where the first one in PATH may not.
+for python in python3 /usr/bin/python3 none; do
+    "$python" -c 'import setuptools, wheel, venv, pip' 2>/dev/null && break
+done
+version=$(cat ../packaging/version)
+grep -q "__version__ = \"$version\"" python/src/capkit/__init__.py || wrong 'Python: another version'
+grep -q "^version = \"$version\"" rust/Cargo.toml || wrong 'Rust: another version'
+
+make -s all examples
+rm -rf "$packages"
+mkdir -p "$packages"
+make -s install PREFIX="$packages/prefix"
+export PKG_CONFIG_PATH="$packages/prefix/lib/pkgconfig"
+# What is linked to the shared library finds it here; the wheel has its own.
+linked() { LD_LIBRARY_PATH=$packages/prefix/lib "$@"; }
+
+check_c() {
+    # shellcheck disable=SC2046  # the flags are words
+    for example in filter keep; do
+        cc -O2 -Wall -Wextra -o "$packages/c-$example" "examples/$example.c" $(pkg-config --cflags --libs capkit)
+    done
+}
+run_c() {
+    example=$1
+    shift
+    linked "$packages/c-$example" "$@"
+}
+
+check_python() {
+    make -s python PYTHON="$python"
+    "$python" -m venv "$packages/venv"
+    "$packages/venv/bin/pip" -q --disable-pip-version-check install --no-index out/python/capkit-*.whl
+    (cd "$packages" && CAPKIT_SAMPLES=$samples venv/bin/python -I -W error -m unittest discover -q -s "$library/python/tests") ||
+        wrong 'Python: tests'
+    if have mypy; then
+        mypy --strict --no-error-summary python/src/capkit || wrong 'Python: types'
+    fi
+}
+run_python() {
+    example=$1
+    shift
+    "$packages/venv/bin/python" -I "$library/python/examples/$example.py" "$@"
+}
+remove_python() {
+    "$packages/venv/bin/pip" -q --disable-pip-version-check uninstall -y capkit
+    (cd "$packages" && ! venv/bin/python -I -c 'import capkit' 2>/dev/null) || wrong 'Python: it is still there'
+}
+
+check_rust() {
+    make -s rust
+    (cd rust && linked cargo test -q --offline --target-dir "$library/out/cargo") >"$packages/rust.txt" 2>&1 ||
+        { cat "$packages/rust.txt"; wrong 'Rust: tests'; }
+    mkdir -p "$packages/rust/src"
+    tar -C "$packages" -xzf out/rust/capkit-"$version".crate
+    printf '[package]\nname = "user"\nversion = "0.0.0"\nedition = "2021"\n[dependencies]\ncapkit = { path = "%s" }\n' \
+        "$packages/capkit-$version" >"$packages/rust/Cargo.toml"
+    for example in filter keep; do
+        mkdir -p "$packages/rust/src/bin"
+        cp "rust/examples/$example.rs" "$packages/rust/src/bin/"
+    done
+    (cd "$packages/rust" && cargo build -q --offline --release && CAPKIT_STATIC=1 cargo build -q --offline)
+    # The second one needs no shared library.
+    "$packages/rust/target/debug/filter" tcp "$samples/day.pcap" >"$packages/static.txt" || wrong 'Rust: static'
+}
+run_rust() {
+    example=$1
+    shift
+    linked "$packages/rust/target/release/$example" "$@"
+}
+
+check_go() {
+    make -s go
+    # A cache would keep where the library was the last time.
+    export GOFLAGS=-mod=mod GOPROXY=off CGO_ENABLED=1 GOCACHE="$packages/go-cache"
+    test -z "$(gofmt -l go)" || wrong 'Go: layout'
+    (cd go && go vet ./... && linked go test ./...) >"$packages/go.txt" 2>&1 ||
+        { cat "$packages/go.txt"; wrong 'Go: tests'; }
+    tar -C "$packages" -xzf out/go/capkit-"$version".tar.gz
+    mkdir -p "$packages/go"
+    printf 'module user\n\ngo 1.18\n\nrequire capkit v%s\n\nreplace capkit => %s\n' "$version" "$packages/capkit@v$version" \
+        >"$packages/go/go.mod"
+    for example in filter keep; do
+        mkdir "$packages/go/$example"
+        cp "go/examples/$example/main.go" "$packages/go/$example/"
+        (cd "$packages/go" && go build -o "$packages/go-$example" "./$example")
+    done
+}
+run_go() {
+    example=$1
+    shift
+    linked "$packages/go-$example" "$@"
+}
+
+# Runs an example in a language. What it writes is left in two files, and its status in a variable.
+run() { # LANGUAGE EXAMPLE WORD..
+    language=$1
+    shift
+    status=0
+    "run_$language" "$@" >"$packages/out.txt" 2>"$packages/err.txt" || status=$?
+}
+
+# An example ends with a status, a message that has these words, and standard output whose last line is this.
+expect() { # STATUS MESSAGE OUTPUT WORD..
+    want=$1 message=$2 output=$3
+    shift 3
+    run "$language" "$@"
+    test "$status" = "$want" || wrong "$language: $*: status $status, not $want"
+    if [ "$message" ]; then
+        grep -qF -- "$message" "$packages/err.txt" || wrong "$language: $*: no message with '$message'"
+    elif [ -s "$packages/err.txt" ]; then
+        wrong "$language: $*: $(cat "$packages/err.txt")"
+    fi
+    test "$(tail -n 1 "$packages/out.txt")" = "$output" || wrong "$language: $*: '$(tail -n 1 "$packages/out.txt")'"
+}
+
+check_filter() {
+    for name in big-endian.pcap cooked.pcap day.pcap four.pcap mirror.pcap nanoseconds.pcap comments.pcapng two-sections.pcapng; do
+        counts=$(linked "$packages/c-filter" 'tcp or udp' "$samples/$name" | tail -n 1)
+        expect 0 '' "$counts" filter 'tcp or udp' "$samples/$name"
+    done
+    expect 1 'too long' '22 of 30 packets match' filter tcp "$samples/damaged.pcap"
+    expect 1 'truncated' '0 of 1 packets match' filter tcp "$samples/truncated.pcap"
+    expect 0 '' '0 of 1 packets match' filter tcp "$packages/large.pcapng"
+    expect 2 'unknown word' '' filter prt "$samples/day.pcap"
+    expect 1 'link type not filtered' '' filter arp "$samples/any.pcap"
+    expect 1 'o such file' '' filter tcp "$packages/missing.pcap"
+    expect 1 'irectory' '' filter tcp "$samples"
+    # A file that is redirected, and a pipe.
+    expect 0 '' '34 of 44 packets match' filter tcp /dev/stdin <"$samples/day.pcap"
+    mkfifo "$packages/pipe"
+    cat "$samples/day.pcap" >"$packages/pipe" &
+    expect 0 '' '34 of 44 packets match' filter tcp "$packages/pipe"
+    rm "$packages/pipe"
+}
+
+check_keep() {
+    kept=$packages/kept.pcapng
+    for name in day.pcap mirror.pcap nanoseconds.pcap comments.pcapng two-sections.pcapng cooked.pcap; do
+        linked "$packages/c-keep" 'tcp or udp' "$samples/$name" "$packages/c.pcapng"
+        expect 0 '' '' keep 'tcp or udp' "$samples/$name" "$kept"
+        cmp "$packages/c.pcapng" "$kept" || bad=1
+        if have capkit; then
+            capkit print -w "$packages/printed.pcapng" "$samples/$name" 'tcp or udp' >/dev/null
+            cmp "$packages/printed.pcapng" "$kept" || bad=1
+        fi
+    done
+    expect 1 'too long' '' keep tcp "$samples/damaged.pcap" "$kept"
+    test "$(linked "$packages/c-filter" '' "$kept" | tail -n 1)" = '22 of 22 packets match' || wrong "$language: not all are kept"
+    # What is refused leaves the output.
+    cp "$samples/day.pcap" "$packages/self.pcap"
+    printf 'some text\n' >"$packages/text"
+    expect 2 'is the input too' '' keep tcp "$packages/self.pcap" "$packages/self.pcap"
+    ln -f "$packages/self.pcap" "$packages/link.pcap"
+    expect 2 'is the input too' '' keep tcp "$packages/self.pcap" "$packages/link.pcap"
+    expect 2 'unknown word' '' keep prt "$packages/text" "$packages/self.pcap"
+    expect 1 'link type not filtered' '' keep arp "$samples/any.pcap" "$packages/self.pcap"
+    expect 1 'o such file' '' keep tcp "$packages/missing.pcap" "$packages/self.pcap"
+    expect 1 'not a capture file' '' keep tcp "$packages/text" "$packages/self.pcap"
+    cmp "$samples/day.pcap" "$packages/self.pcap" || wrong "$language: the output is gone"
+    expect 1 'irectory' '' keep tcp "$samples/day.pcap" "$packages"
+}
+
+check_usage() {
+    for example in filter keep; do
+        run "$language" "$example"
+        { test "$status" = 2 && grep -q "^usage: $example" "$packages/err.txt"; } || wrong "$language: $example: no usage"
+    done
+}
+
+if have "$python"; then languages="$languages python"; else echo 'without a python3 with pip, setuptools, wheel and venv'; fi
+if have cargo; then languages="$languages rust"; else echo 'without cargo'; fi
+if have go; then languages="$languages go"; else echo 'without go'; fi
+if have python3; then
+    python3 tests/sparse_capture.py "$packages/large.pcapng" 3072
+else
+    cp "$samples/mirror.pcap" "$packages/large.pcapng"
+fi
+check_trace() {
+    expect 0 '' 'it returns 262144' trace 'tcp port 80' "$samples/day.pcap" 7
+    grep -q '^(010) 21 7 8 80 *A is 0x50$' "$packages/out.txt" || wrong 'Python: trace: A is something else'
+    expect 0 '' 'it returns 0' trace 'tcp port 80' "$samples/day.pcap" 1
+    expect 1 'no packet 99' '' trace tcp "$samples/day.pcap" 99
+    expect 1 'too long' '' trace tcp "$samples/damaged.pcap" 40
+    expect 2 'unknown word' '' trace prt "$samples/day.pcap" 1
+    expect 2 'usage: trace' '' trace tcp "$samples/day.pcap" 0
+}
+
+for language in $languages; do
+    "check_$language"
+    check_filter
+    check_keep
+    check_usage
+    if [ "$language" = python ]; then check_trace; fi
+done
+case $languages in *python*) remove_python ;; esac
+make -s uninstall PREFIX="$packages/prefix"
+test -z "$(find "$packages/prefix" ! -type d)" || wrong 'make uninstall leaves files'
+rm -rf "$packages"
+[ $bad = 0 ] && echo "packages: $languages: all as they should be"
+exit $bad

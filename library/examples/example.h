@@ -1,0 +1,83 @@
+/* What the examples have in common: the bytes of a file, and messages. */
+#include <capkit.h>
+#include <errno.h>
+#include <fcntl.h>
+#include <stdio.h>
+#include <stdlib.h>
+#include <string.h>
+#include <sys/mman.h>
+#include <sys/stat.h>
+#include <unistd.h>
+
+/* Says why an expression isn't compiled: PROGRAM: TEXT, and where in the expression that is. */
+static inline void report_status(const char *program, uint32_t status, size_t place)
+{
+    char text[64];
+    size_t length = capkit_status_text(status, text, sizeof text);
+    fprintf(stderr, "%s: %.*s", program, (int)length, text);
+    if (status >= CAPKIT_UNKNOWN_CHARACTER && status <= CAPKIT_NUMBER_TOO_LARGE)
+        fprintf(stderr, " (at byte %zu)", place);
+    fputc('\n', stderr);
+}
+
+/* Says why a capture can't be read on, or a packet not written: PROGRAM: NAME: offset N: TEXT. */
+static inline void report_found(const char *program, const char *name, uint32_t found,
+                                size_t offset)
+{
+    char text[64];
+    size_t length = capkit_found_text(found, text, sizeof text);
+    fprintf(stderr, "%s: %s: offset %zu: %.*s\n", program, name, offset, (int)length, text);
+}
+
+/* Memory for the program of an expression, which is checked before anything else is done; null, and
+ * a message, where it is refused. */
+static inline struct capkit_insn *room_of(const char *program, const char *expression, size_t *room)
+{
+    uint32_t status = capkit_bound(expression, strlen(expression), room);
+    struct capkit_insn *insns = NULL;
+    if (status)
+        report_status(program, status, *room);
+    else if ((insns = calloc(*room, sizeof *insns)) == NULL)
+        perror(program);
+    return insns;
+}
+
+/* All that is left of a file that can't be mapped, as a pipe; null where it can't be read. */
+static inline uint8_t *read_whole(int file, size_t *size)
+{
+    uint8_t *bytes = NULL, *grown;
+    ssize_t got = 1;
+    for (*size = 0; got > 0; *size += got) {
+        if ((grown = realloc(bytes, *size + 65536)) == NULL)
+            break;
+        bytes = grown;
+        if ((got = read(file, bytes + *size, 65536)) < 0)
+            break;
+    }
+    if (got == 0)
+        return bytes;
+    free(bytes);
+    return NULL;
+}
+
+/* The bytes of a capture, until the program ends; null, and a message, where it can't be read. It
+ * is mapped, so it may be larger than memory, and is not to be changed meanwhile. */
+static inline const uint8_t *capture_of(const char *program, const char *name, size_t *size)
+{
+    void *bytes = NULL;
+    struct stat status;
+    int file = open(name, O_RDONLY);
+    if (file >= 0 && fstat(file, &status) == 0) {
+        if (S_ISREG(status.st_mode) && status.st_size > 0) {
+            bytes = mmap(NULL, *size = status.st_size, PROT_READ, MAP_PRIVATE, file, 0);
+            bytes = bytes == MAP_FAILED ? NULL : bytes;
+        } else {
+            bytes = read_whole(file, size);
+        }
+    }
+    if (!bytes)
+        fprintf(stderr, "%s: %s: %s\n", program, name, strerror(errno));
+    if (file >= 0)
+        close(file);
+    return bytes;
+}

@@ -1,0 +1,50 @@
+// Package capkit compiles filter expressions of packets, and reads and writes pcap and pcapng
+// captures, by the proved library libcapkit, which pkg-config finds.
+//
+// An Expression is checked once, and compiled for each link type that its packets have. A Capture is
+// a mapped file, a Reader gives the packets of bytes, and a Writer writes packets. Different values
+// may be used by different goroutines at once, and so may one Filter.
+package capkit
+
+// #cgo pkg-config: capkit
+// #include <capkit.h>
+import "C"
+
+import "unsafe"
+
+// Link types for which expressions are compiled, as captures have them.
+const (
+	LinkEthernet = 1
+	LinkRaw      = 101
+	LinkCooked   = 113
+)
+
+// start is where bytes begin in memory.
+func start(bytes []byte) unsafe.Pointer {
+	if len(bytes) == 0 {
+		return nil
+	}
+	return unsafe.Pointer(&bytes[0])
+}
+
+// A textOf puts what a number is called into a buffer.
+type textOf func(number C.uint32_t, buffer *C.char, room C.size_t) C.size_t
+
+// text is what a number is called.
+func text(of textOf, number uint32) string {
+	var buffer [64]C.char
+	length := of(C.uint32_t(number), &buffer[0], C.size_t(len(buffer)))
+	return C.GoStringN(&buffer[0], C.int(length))
+}
+
+func statusText(number C.uint32_t, buffer *C.char, room C.size_t) C.size_t {
+	return C.capkit_status_text(number, buffer, room)
+}
+
+func ruleText(number C.uint32_t, buffer *C.char, room C.size_t) C.size_t {
+	return C.capkit_rule_text(number, buffer, room)
+}
+
+func foundText(number C.uint32_t, buffer *C.char, room C.size_t) C.size_t {
+	return C.capkit_found_text(number, buffer, room)
+}

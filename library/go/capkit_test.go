@@ -1,0 +1,192 @@
+package capkit_test
+
+import (
+	"bytes"
+	"errors"
+	"io"
+	"os"
+	"path/filepath"
+	"reflect"
+	"strings"
+	"testing"
+	"time"
+
+	"capkit"
+)
+
+func packet(data []byte) capkit.Packet {
+	return capkit.Packet{Time: time.Unix(1700000000, 123456789).UTC(), LinkType: capkit.LinkEthernet,
+		Data: data, OriginalLength: uint32(len(data)), SnapLength: 262144}
+}
+
+func written(t *testing.T, format capkit.Format, packets ...capkit.Packet) []byte {
+	t.Helper()
+	var out bytes.Buffer
+	writer := capkit.NewWriter(&out, format)
+	for _, it := range packets {
+		if err := writer.Write(it); err != nil {
+			t.Fatal(err)
+		}
+	}
+	if err := writer.Close(); err != nil {
+		t.Fatal(err)
+	}
+	return out.Bytes()
+}
+
+func read(reader *capkit.Reader) (packets []capkit.Packet, err error) {
+	for {
+		packet, err := reader.Next()
+		if err != nil {
+			return packets, err
+		}
+		packets = append(packets, packet)
+	}
+}
+
+func TestWhatIsWrittenReadsBack(t *testing.T) {
+	named, raw, empty := packet(arp()), packet(arp()[:20]), packet([]byte{})
+	named.Comment, named.InterfaceName = "look here", "eth0"
+	raw.LinkType, raw.OriginalLength, raw.SnapLength = capkit.LinkRaw, 1500, 20
+	packets := []capkit.Packet{packet(arp()), named, raw, empty, named}
+	got, err := read(capkit.NewReader(written(t, capkit.Pcapng, packets...)))
+	if err != io.EOF || !reflect.DeepEqual(got, packets) {
+		t.Errorf("pcapng: %v, %v", got, err)
+	}
+	got, err = read(capkit.NewReader(written(t, capkit.PcapNanoseconds, packet(arp()), empty)))
+	if err != io.EOF || !reflect.DeepEqual(got, []capkit.Packet{packet(arp()), empty}) {
+		t.Errorf("pcap with nanoseconds: %v, %v", got, err)
+	}
+	got, _ = read(capkit.NewReader(written(t, capkit.Pcap, packet(arp()))))
+	if got[0].Time != time.Unix(1700000000, 123456000).UTC() {
+		t.Errorf("pcap: %v", got[0].Time)
+	}
+}
+
+func TestCapturesWithoutPackets(t *testing.T) {
+	for format, length := range map[capkit.Format]int{capkit.Pcapng: 28, capkit.Pcap: 24} {
+		capture := written(t, format)
+		if packets, err := read(capkit.NewReader(capture)); len(capture) != length || packets != nil || err != io.EOF {
+			t.Error(format, len(capture), packets, err)
+		}
+	}
+}
+
+func TestRefusedPacketsLeaveTheCapture(t *testing.T) {
+	early, late, long, large := packet(arp()), packet(arp()), packet(arp()), packet(make([]byte, 1<<20))
+	early.Time, late.Time = time.Unix(-1, 0), time.Unix(1<<34, 0)
+	long.Comment = strings.Repeat("c", 65536)
+	var out bytes.Buffer
+	writer := capkit.NewWriter(&out, capkit.Pcapng)
+	for _, it := range []struct {
+		packet capkit.Packet
+		check  capkit.Check
+	}{{early, capkit.TimeOutOfRange}, {late, capkit.TimeOutOfRange}, {long, capkit.BadOption}, {large, capkit.TooLong}} {
+		var refused *capkit.Refused
+		if err := writer.Write(it.packet); !errors.As(err, &refused) || refused.Check != it.check {
+			t.Errorf("%v, not %v", err, it.check)
+		}
+	}
+	if err := writer.Close(); err != nil || !bytes.Equal(out.Bytes(), written(t, capkit.Pcapng)) {
+		t.Error(err, out.Len())
+	}
+}
+
+// full is an output that fails once it has so many bytes.
+type full struct{ room int }
+
+func (f *full) Write(bytes []byte) (int, error) {
+	if len(bytes) > f.room {
+		return 0, io.ErrShortWrite
+	}
+	f.room -= len(bytes)
+	return len(bytes), nil
+}
+
+func TestAfterAFailedWriteEveryCallFails(t *testing.T) {
+	writer := capkit.NewWriter(&full{200}, capkit.Pcapng)
+	for i, want := range []error{nil, io.ErrShortWrite, io.ErrShortWrite} {
+		if err := writer.Write(packet(make([]byte, 60))); err != want {
+			t.Error(i, err)
+		}
+	}
+	if err := writer.Close(); err != io.ErrShortWrite {
+		t.Error(err)
+	}
+}
+
+func TestFaultsStay(t *testing.T) {
+	reader := capkit.NewReader([]byte("some text"))
+	for i := 0; i < 2; i++ {
+		var fault *capkit.Fault
+		if _, err := reader.Next(); !errors.As(err, &fault) || fault.Check != capkit.NotACaptureFile {
+			t.Error(err)
+		}
+	}
+}
+
+func TestOpen(t *testing.T) {
+	name := filepath.Join(t.TempDir(), "day.pcapng")
+	if err := os.WriteFile(name, written(t, capkit.Pcapng, packet(arp())), 0o666); err != nil {
+		t.Fatal(err)
+	}
+	capture, err := capkit.Open(name)
+	if err != nil {
+		t.Fatal(err)
+	}
+	if packets, err := read(capture.Reader()); len(packets) != 1 || err != io.EOF {
+		t.Error(packets, err)
+	}
+	for i := 0; i < 2; i++ {
+		if err := capture.Close(); err != nil {
+			t.Error(err)
+		}
+	}
+	if _, err := capkit.Open("missing.pcap"); !errors.Is(err, os.ErrNotExist) {
+		t.Error(err)
+	}
+	if _, err := capkit.Open("/"); err == nil {
+		t.Error("a folder was opened")
+	}
+	if empty, err := capkit.Open("/dev/null"); err != nil || len(empty.Bytes) != 0 {
+		t.Error(err)
+	}
+}
+
+func TestExpressions(t *testing.T) {
+	ip, err := capkit.NewExpression("ip")
+	if err != nil {
+		t.Fatal(err)
+	}
+	raw := packet(append([]byte{0x45}, make([]byte, 19)...))
+	for linkType, want := range map[uint16]bool{capkit.LinkRaw: true, capkit.LinkEthernet: false} {
+		raw.LinkType = linkType
+		if matches, err := ip.Matches(raw); matches != want || err != nil {
+			t.Error(linkType, matches, err)
+		}
+	}
+	raw.LinkType = 276
+	if _, err := ip.Matches(raw); err == nil || err.Error() != "link type not filtered" {
+		t.Error(err)
+	}
+	for text, want := range map[string]string{"tcp \xff": "not UTF-8 (at byte 5)", "tcp ?": "unknown character (at byte 5)",
+		"tcp port": "not an expression", strings.Repeat("tcp ", 20000): "longer than 65536 bytes"} {
+		if _, err := capkit.NewExpression(text); err == nil || err.Error() != want {
+			t.Errorf("%v, not %s", err, want)
+		}
+	}
+}
+
+func TestPrograms(t *testing.T) {
+	long, err := capkit.Compile("greater 1000", capkit.LinkEthernet)
+	if err != nil || !long.Matches(nil, 1000) || long.Matches(nil, 999) || long.IsPortable() {
+		t.Error(err)
+	}
+	same, err := capkit.FromInstructions(long.Instructions())
+	if err != nil || same.String() != long.String() {
+		t.Error(err)
+	}
+	if _, err := capkit.FromInstructions(nil); err == nil {
+		t.Error("no instructions were taken")
+	}
+}

@@ -1,0 +1,130 @@
+package capkit_test
+
+import (
+	"bytes"
+	"errors"
+	"fmt"
+	"io"
+	"log"
+	"time"
+
+	"capkit"
+)
+
+// arp is an Ethernet packet of ARP.
+func arp() []byte {
+	return append(append(make([]byte, 12), 8, 6), make([]byte, 28)...)
+}
+
+// capture is a pcapng capture of two packets.
+func capture() []byte {
+	var out bytes.Buffer
+	writer := capkit.NewWriter(&out, capkit.Pcapng)
+	for _, data := range [][]byte{arp(), make([]byte, 60)} {
+		packet := capkit.Packet{Time: time.Unix(1700000000, 0), LinkType: capkit.LinkEthernet, Data: data,
+			OriginalLength: uint32(len(data)), SnapLength: 262144}
+		if err := writer.Write(packet); err != nil {
+			log.Fatal(err)
+		}
+	}
+	if err := writer.Close(); err != nil {
+		log.Fatal(err)
+	}
+	return out.Bytes()
+}
+
+func ExampleCompile() {
+	filter, err := capkit.Compile("arp", capkit.LinkEthernet)
+	if err != nil {
+		log.Fatal(err)
+	}
+	fmt.Print(filter)
+	fmt.Println(filter.Matches(arp(), 42))
+	// Output:
+	// 4
+	// 40 0 0 12
+	// 21 0 1 2054
+	// 6 0 0 262144
+	// 6 0 0 0
+	// true
+}
+
+func ExampleCompile_refused() {
+	_, err := capkit.Compile("tcp prt 80", capkit.LinkEthernet)
+	fmt.Println(err)
+	var refused *capkit.CompileError
+	if errors.As(err, &refused) {
+		fmt.Println("place", refused.Place)
+	}
+	// Output:
+	// unknown word (at byte 5)
+	// place 5
+}
+
+func ExampleFromInstructions() {
+	length := capkit.Instruction{Code: 128}
+	_, err := capkit.FromInstructions([]capkit.Instruction{length})
+	fmt.Println(err)
+	filter, err := capkit.FromInstructions([]capkit.Instruction{length, {Code: 22}})
+	if err != nil {
+		log.Fatal(err)
+	}
+	fmt.Println(filter.Run(arp(), 1500))
+	// Output:
+	// no return at the end (instruction 0)
+	// 1500
+}
+
+func ExampleReader() {
+	expression, err := capkit.NewExpression("arp")
+	if err != nil {
+		log.Fatal(err)
+	}
+	reader := capkit.NewReader(capture())
+	for {
+		packet, err := reader.Next()
+		if err == io.EOF {
+			break
+		} else if err != nil {
+			log.Fatal(err)
+		}
+		matches, err := expression.Matches(packet)
+		if err != nil {
+			log.Fatal(err)
+		}
+		fmt.Println(packet.Time, len(packet.Data), matches)
+	}
+	// Output:
+	// 2023-11-14 22:13:20 +0000 UTC 42 true
+	// 2023-11-14 22:13:20 +0000 UTC 60 false
+}
+
+func ExampleReader_fault() {
+	whole := capture()
+	reader := capkit.NewReader(whole[:len(whole)-1])
+	for {
+		packet, err := reader.Next()
+		if err != nil {
+			fmt.Println(err)
+			break
+		}
+		fmt.Println(len(packet.Data))
+	}
+	// Output:
+	// 42
+	// offset 136: truncated
+}
+
+func ExampleWriter() {
+	var out bytes.Buffer
+	writer := capkit.NewWriter(&out, capkit.PcapNanoseconds)
+	packet := capkit.Packet{Time: time.Unix(1700000000, 1), LinkType: capkit.LinkEthernet, Data: arp(), OriginalLength: 42}
+	fmt.Println(writer.Write(packet))
+	packet.LinkType = capkit.LinkRaw
+	fmt.Println(writer.Write(packet))
+	fmt.Println(writer.Close(), out.Len())
+	// Output:
+	// <nil>
+	// link types differ
+	// <nil> 82
+}

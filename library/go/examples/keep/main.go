@@ -1,0 +1,98 @@
+// Keep writes the packets of a capture that match to a pcapng file.
+//
+// The expression is checked, the capture opened and its first packet read before the output is
+// touched, which may not be the capture itself. The statuses are those of capkit: 1 after a fault,
+// before which the packets are written, and 2 where the command line or the expression is refused.
+package main
+
+import (
+	"bufio"
+	"fmt"
+	"io"
+	"os"
+
+	"capkit"
+)
+
+func isSameFile(one, other string) bool {
+	first, err := os.Stat(one)
+	if err != nil {
+		return false
+	}
+	second, err := os.Stat(other)
+	return err == nil && os.SameFile(first, second)
+}
+
+// keep writes the packets that match, also those before a fault.
+func keep(expression *capkit.Expression, name, out string) error {
+	capture, err := capkit.Open(name)
+	if err != nil {
+		return err
+	}
+	defer capture.Close()
+	first, err := capture.Reader().Next()
+	if err == nil {
+		_, err = expression.Filter(first.LinkType)
+	}
+	if err != nil && err != io.EOF {
+		return fmt.Errorf("%s: %w", name, err)
+	}
+	file, err := os.Create(out)
+	if err != nil {
+		return err
+	}
+	defer file.Close()
+	buffer := bufio.NewWriter(file)
+	writer := capkit.NewWriter(buffer, capkit.Pcapng)
+	end := copyMatching(capture.Reader(), expression, writer)
+	for _, finish := range []func() error{writer.Close, buffer.Flush, file.Close} {
+		if err := finish(); err != nil {
+			return err
+		}
+	}
+	if end != nil {
+		return fmt.Errorf("%s: %w", name, end)
+	}
+	return nil
+}
+
+func copyMatching(reader *capkit.Reader, expression *capkit.Expression, writer *capkit.Writer) error {
+	for {
+		packet, err := reader.Next()
+		if err == io.EOF {
+			return nil
+		} else if err != nil {
+			return err
+		}
+		matches, err := expression.Matches(packet)
+		if err == nil && matches {
+			err = writer.Write(packet)
+		}
+		if err != nil {
+			return err
+		}
+	}
+}
+
+func fail(err error, status int) {
+	fmt.Fprintln(os.Stderr, "keep:", err)
+	os.Exit(status)
+}
+
+func main() {
+	if len(os.Args) != 4 {
+		fmt.Fprintln(os.Stderr, "usage: keep EXPRESSION IN OUT")
+		os.Exit(2)
+	}
+	name, out := os.Args[2], os.Args[3]
+	expression, err := capkit.NewExpression(os.Args[1])
+	if err != nil {
+		fail(err, 2)
+	}
+	if isSameFile(name, out) {
+		fail(fmt.Errorf("%s: is the input too", out), 2)
+	}
+	if err := keep(expression, name, out); err != nil {
+		fail(err, 1)
+	}
+}

@@ -1,0 +1,144 @@
+package capkit
+
+// #include <capkit.h>
+import "C"
+
+import (
+	"fmt"
+	"strings"
+)
+
+// Instruction is an instruction of a program, with the codes of classic BPF.
+type Instruction struct {
+	Code   uint16
+	JT, JF uint8
+	K      uint32
+}
+
+// Filter is the program of an expression for packets of one link type. Compile and FromInstructions
+// make one, and its program is valid.
+type Filter struct{ insns []C.struct_capkit_insn }
+
+// bound is how many instructions an expression's program has at most.
+func bound(source []byte) (C.size_t, error) {
+	var number C.size_t
+	status := C.capkit_bound((*C.char)(start(source)), C.size_t(len(source)), &number)
+	if status != C.CAPKIT_OK {
+		return 0, compileError(status, number)
+	}
+	return number, nil
+}
+
+func compileError(status C.uint32_t, number C.size_t) error {
+	place := 0
+	switch status {
+	case C.CAPKIT_UNKNOWN_CHARACTER, C.CAPKIT_UNKNOWN_WORD, C.CAPKIT_NUMBER_TOO_LARGE:
+		place = int(number)
+	case C.CAPKIT_NOT_UTF8: // counts from 0
+		place = int(number) + 1
+	}
+	return &CompileError{uint32(status), place}
+}
+
+// Compile compiles an expression for packets of a link type. Its error is a *CompileError.
+func Compile(expression string, linkType uint16) (*Filter, error) {
+	source := []byte(expression)
+	room, err := bound(source)
+	if err != nil {
+		return nil, err
+	}
+	var number C.size_t
+	insns := make([]C.struct_capkit_insn, room)
+	status := C.capkit_compile((*C.char)(start(source)), C.size_t(len(source)),
+		C.uint16_t(linkType), &insns[0], room, &number)
+	if status != C.CAPKIT_OK {
+		return nil, compileError(status, number)
+	}
+	return &Filter{insns[:number]}, nil
+}
+
+// FromInstructions is a program from elsewhere, as tcpdump -ddd prints it. Its error is a
+// *ProgramError.
+func FromInstructions(instructions []Instruction) (*Filter, error) {
+	insns := make([]C.struct_capkit_insn, len(instructions)+1)
+	for i, it := range instructions {
+		insns[i] = C.struct_capkit_insn{C.uint16_t(it.Code), C.uint8_t(it.JT), C.uint8_t(it.JF), C.uint32_t(it.K)}
+	}
+	var index C.size_t
+	rule := C.capkit_check(&insns[0], C.size_t(len(instructions)), &index)
+	if rule != C.CAPKIT_VALID {
+		return nil, &ProgramError{uint32(rule), int(index)}
+	}
+	return &Filter{insns[:len(instructions)]}, nil
+}
+
+// Run is what the program returns on a packet, given the bytes that were captured of it and how many
+// it had on the wire; 0 rejects it.
+func (f *Filter) Run(data []byte, originalLength uint32) uint32 {
+	var steps C.uint32_t
+	return uint32(C.capkit_run(&f.insns[0], C.size_t(len(f.insns)), (*C.uint8_t)(start(data)),
+		C.size_t(len(data)), C.uint32_t(originalLength), &steps))
+}
+
+// Matches is whether a packet matches; see Run.
+func (f *Filter) Matches(data []byte, originalLength uint32) bool {
+	return f.Run(data, originalLength) != 0
+}
+
+// Instructions is the program.
+func (f *Filter) Instructions() []Instruction {
+	instructions := make([]Instruction, len(f.insns))
+	for i, it := range f.insns {
+		instructions[i] = Instruction{uint16(it.code), uint8(it.jt), uint8(it.jf), uint32(it.k)}
+	}
+	return instructions
+}
+
+// IsPortable is whether libpcap and a Linux socket give the same answers, as far as
+// capkit_is_portable can say.
+func (f *Filter) IsPortable() bool {
+	return C.capkit_is_portable(&f.insns[0], C.size_t(len(f.insns))) != 0
+}
+
+// String is the program as capkit compile and tcpdump -ddd print it.
+func (f *Filter) String() string {
+	var listing strings.Builder
+	fmt.Fprintln(&listing, len(f.insns))
+	for _, it := range f.Instructions() {
+		fmt.Fprintln(&listing, it.Code, it.JT, it.JF, it.K)
+	}
+	return listing.String()
+}
+
+// Expression is an expression that is compiled for each link type when a packet has it first. It is
+// for one goroutine at a time.
+type Expression struct {
+	text    string
+	filters map[uint16]*Filter
+}
+
+// NewExpression checks an expression, which needs no link type. Its error is a *CompileError.
+func NewExpression(text string) (*Expression, error) {
+	if _, err := bound([]byte(text)); err != nil {
+		return nil, err
+	}
+	return &Expression{text, map[uint16]*Filter{}}, nil
+}
+
+// Filter is the expression's filter for a link type. Its error is a *CompileError.
+func (e *Expression) Filter(linkType uint16) (*Filter, error) {
+	if known := e.filters[linkType]; known != nil {
+		return known, nil
+	}
+	made, err := Compile(e.text, linkType)
+	if err == nil {
+		e.filters[linkType] = made
+	}
+	return made, err
+}
+
+// Matches is whether a packet matches; an error where no expression is compiled for its link type.
+func (e *Expression) Matches(packet Packet) (bool, error) {
+	filter, err := e.Filter(packet.LinkType)
+	return err == nil && filter.Matches(packet.Data, packet.OriginalLength), err
+}

@@ -1,0 +1,3 @@
+module capkit
+
+go 1.18

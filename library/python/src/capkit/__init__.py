@@ -1,0 +1,37 @@
+"""Filter expressions of packets, and pcap and pcapng captures, by the proved library libcapkit.
+
+    expression = capkit.Expression("tcp port 80")
+    for packet in capkit.packets("day.pcap"):
+        if expression.matches(packet):
+            print(packet.time, len(packet.data))
+
+A time is in nanoseconds since 1970-01-01 00:00:00 UTC. A link type is the number that captures have
+for it; expressions are compiled for LINK_ETHERNET, LINK_RAW and LINK_COOKED.
+"""
+from .errors import CaptureError, CompileError, ProgramError, WriteError
+from .filters import Expression, Filter, Instruction
+from .reading import Capture, Packet, packets
+from .writing import Writer
+
+__version__ = "0.1.0"
+
+LINK_ETHERNET = 1
+LINK_RAW = 101
+LINK_COOKED = 113
+
+__all__ = [
+    "LINK_COOKED",
+    "LINK_ETHERNET",
+    "LINK_RAW",
+    "Capture",
+    "CaptureError",
+    "CompileError",
+    "Expression",
+    "Filter",
+    "Instruction",
+    "Packet",
+    "ProgramError",
+    "WriteError",
+    "Writer",
+    "packets",
+]

@@ -1,0 +1,131 @@
+"""Expressions and their programs."""
+from __future__ import annotations
+
+import ctypes as c
+from typing import TYPE_CHECKING, Dict, Iterable, NamedTuple, Optional, Tuple, Union
+
+from . import native
+from .errors import CompileError, ProgramError
+
+if TYPE_CHECKING:
+    from .reading import Packet
+
+Bytes = Union[bytes, bytearray, memoryview]
+
+_STATUSES_WITH_A_PLACE = {2, 3, 4}
+_NOT_UTF8 = 14
+
+
+class Instruction(NamedTuple):
+    """An instruction of a program, with the codes of classic BPF."""
+
+    code: int
+    jt: int
+    jf: int
+    k: int
+
+
+def _failure(status: int, number: int) -> CompileError:
+    if status in _STATUSES_WITH_A_PLACE:
+        return CompileError(status, number)
+    return CompileError(status, number + 1 if status == _NOT_UTF8 else None)
+
+
+def _bound(text: bytes) -> int:
+    """How many instructions the program of an expression has at most."""
+    number = c.c_size_t()
+    status = native.bound(text, len(text), c.byref(number))
+    if status != native.OK:
+        raise _failure(status, number.value)
+    return number.value
+
+
+def _encoded(text: str) -> bytes:
+    # What isn't UTF-8 on a command line comes as lone surrogates, and is given back.
+    return text.encode(errors="surrogateescape")
+
+
+def _insn(code: int, jt: int, jf: int, k: int) -> native.Insn:
+    fits = native.fits
+    jumps = fits(jt, 8, "jt"), fits(jf, 8, "jf")
+    return native.Insn(fits(code, 16, "code"), *jumps, fits(k, 32, "k"))
+
+
+class Filter:
+    """The program of an expression for packets of one link type."""
+
+    def __init__(self, expression: str, link_type: int) -> None:
+        """Compiles the expression; raises CompileError."""
+        native.fits(link_type, 16, "link type")
+        text = _encoded(expression)
+        room, number = _bound(text), c.c_size_t()
+        insns = (native.Insn * room)()
+        status = native.compile_(text, len(text), link_type, insns, room, c.byref(number))
+        if status != native.OK:
+            raise _failure(status, number.value)
+        self._insns, self._count = insns, number.value
+
+    @classmethod
+    def from_instructions(cls, instructions: Iterable[Tuple[int, int, int, int]]) -> Filter:
+        """A program from elsewhere, as `tcpdump -ddd` prints it; raises ProgramError."""
+        program = [_insn(*instruction) for instruction in instructions]
+        made, index = cls.__new__(cls), c.c_size_t()
+        made._insns, made._count = (native.Insn * len(program))(*program), len(program)
+        rule = native.check(made._insns, made._count, c.byref(index))
+        if rule != native.OK:
+            raise ProgramError(rule, index.value)
+        return made
+
+    def run(self, data: Bytes, original_length: Optional[int] = None) -> int:
+        """What the program returns on a packet: 0 rejects it.
+
+        `data` are its captured bytes. It had `original_length` bytes on the wire, or as many as
+        were captured.
+        """
+        original = len(data) if original_length is None else original_length
+        native.fits(original, 32, "original length")
+        if not isinstance(data, bytes):
+            data = bytes(data)
+        steps = c.byref(c.c_uint32())
+        result: int = native.run(self._insns, self._count, data, len(data), original, steps)
+        return result
+
+    def matches(self, data: Bytes, original_length: Optional[int] = None) -> bool:
+        """Whether a packet matches; see `run`."""
+        return self.run(data, original_length) != 0
+
+    @property
+    def instructions(self) -> Tuple[Instruction, ...]:
+        """The program."""
+        return tuple(Instruction(i.code, i.jt, i.jf, i.k) for i in self._insns[: self._count])
+
+    @property
+    def listing(self) -> str:
+        """The program as `capkit compile` and `tcpdump -ddd` print it."""
+        lines = [" ".join(map(str, instruction)) for instruction in self.instructions]
+        return "\n".join([str(self._count), *lines, ""])
+
+    @property
+    def is_portable(self) -> bool:
+        """Whether libpcap and a Linux socket give the same answers; see capkit_is_portable."""
+        return bool(native.is_portable(self._insns, self._count))
+
+
+class Expression:
+    """An expression, compiled for each link type when a packet has it first."""
+
+    def __init__(self, text: str) -> None:
+        """Checks the expression, which needs no link type; raises CompileError."""
+        _bound(_encoded(text))
+        self.text = text
+        self._filters: Dict[int, Filter] = {}
+
+    def filter(self, link_type: int) -> Filter:
+        """The expression's filter for a link type; CompileError where none is compiled for it."""
+        if link_type not in self._filters:
+            self._filters[link_type] = Filter(self.text, link_type)
+        return self._filters[link_type]
+
+    def matches(self, packet: Packet) -> bool:
+        """Whether a packet matches; raises CompileError as `filter` does."""
+        return self.filter(packet.link_type).matches(packet.data, packet.original_length)

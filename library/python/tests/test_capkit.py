@@ -1,0 +1,244 @@
+"""What the package adds to libcapkit: errors, lifetimes, formats, and the layout of the structs.
+
+CAPKIT_SAMPLES names the folder of the samples, else it is that of the repository.
+"""
+import io
+import os
+import pathlib
+import struct
+import subprocess
+import sys
+import tempfile
+import threading
+import unittest
+
+import capkit
+
+SAMPLES = pathlib.Path(
+    os.environ.get("CAPKIT_SAMPLES", pathlib.Path(__file__).resolve().parents[3] / "samples")
+)
+# An Ethernet packet of ARP, and one of IPv4 and UDP.
+ARP = bytes(12) + b"\x08\x06" + bytes(28)
+UDP = bytes(12) + b"\x08\x00\x45" + bytes(8) + b"\x11" + bytes(18)
+
+
+def packet(data=ARP, **fields):
+    values = {"time": 1_700_000_000_123_456_789, "link_type": capkit.LINK_ETHERNET, "data": data}
+    return capkit.Packet(**{**values, "original_length": len(data), **fields})
+
+
+def written(packets, format="pcapng"):
+    file = io.BytesIO()
+    with capkit.Writer(file, format) as writer:
+        for each in packets:
+            writer.write(each)
+    return file.getvalue()
+
+
+class FilterTest(unittest.TestCase):
+    def test_matches(self):
+        arp = capkit.Filter("arp", capkit.LINK_ETHERNET)
+        self.assertTrue(arp.matches(ARP))
+        self.assertFalse(arp.matches(UDP))
+        self.assertFalse(arp.matches(b""))
+        for kind in (bytearray, memoryview):
+            self.assertTrue(arp.matches(kind(ARP)))
+
+    def test_original_length(self):
+        long = capkit.Filter("greater 1000", capkit.LINK_ETHERNET)
+        self.assertFalse(long.matches(ARP))
+        self.assertTrue(long.matches(ARP, 1000))
+        for wrong in (-1, 1 << 32):
+            with self.assertRaises(ValueError):
+                long.matches(ARP, wrong)
+
+    def test_listing_is_that_of_tcpdump(self):
+        # tcpdump -y EN10MB -ddd arp
+        arp = capkit.Filter("arp", capkit.LINK_ETHERNET)
+        self.assertEqual(arp.listing, "4\n40 0 0 12\n21 0 1 2054\n6 0 0 262144\n6 0 0 0\n")
+        self.assertEqual(arp.instructions[1], capkit.Instruction(21, 0, 1, 2054))
+        self.assertTrue(arp.is_portable)
+
+    def test_instructions_from_elsewhere(self):
+        length = capkit.Filter.from_instructions([(128, 0, 0, 0), (22, 0, 0, 0)])
+        self.assertEqual(length.run(ARP, 99), 99)
+        self.assertFalse(length.is_portable)
+        with self.assertRaisesRegex(capkit.ProgramError, r"no return at the end \(instruction 0\)"):
+            capkit.Filter.from_instructions([(128, 0, 0, 0)])
+        with self.assertRaisesRegex(capkit.ProgramError, "empty"):
+            capkit.Filter.from_instructions([])
+        with self.assertRaisesRegex(ValueError, "code 65542"):
+            capkit.Filter.from_instructions([(65542, 0, 0, 0)])
+
+    def test_refused_expressions(self):
+        for text, place, reason in [
+            ("prt 80", 1, r"unknown word \(at byte 1\)"),
+            ("tcp ?", 5, r"unknown character \(at byte 5\)"),
+            ("tcp \udcff", 5, r"not UTF-8 \(at byte 5\)"),
+            ("tcp port", None, "not an expression$"),
+            ("tcp " * 20000, None, "longer than 65536 bytes"),
+        ]:
+            with self.subTest(text=text[:9]):
+                with self.assertRaisesRegex(capkit.CompileError, reason) as caught:
+                    capkit.Expression(text)
+                self.assertEqual(caught.exception.place, place)
+
+    def test_link_types(self):
+        with self.assertRaisesRegex(capkit.CompileError, "link type not filtered"):
+            capkit.Filter("arp", 276)
+        with self.assertRaisesRegex(ValueError, "link type 65537"):
+            capkit.Filter("arp", 65537)
+        ip = capkit.Expression("udp")
+        self.assertTrue(ip.matches(packet(UDP)))
+        self.assertTrue(ip.matches(packet(UDP[14:], link_type=capkit.LINK_RAW)))
+        self.assertIs(ip.filter(capkit.LINK_RAW), ip.filter(capkit.LINK_RAW))
+
+    def test_long_program(self):
+        hosts = " or ".join(f"host 10.0.{i // 256}.{i % 256}" for i in range(600))
+        self.assertGreater(len(capkit.Filter(hosts, capkit.LINK_ETHERNET).instructions), 600)
+
+    def test_threads_share_a_filter(self):
+        expression, counts = capkit.Expression("tcp"), []
+
+        def count():
+            counts.append(sum(map(expression.matches, capkit.packets(SAMPLES / "day.pcap"))))
+
+        threads = [threading.Thread(target=count) for _ in range(4)]
+        for thread in threads:
+            thread.start()
+        for thread in threads:
+            thread.join()
+        self.assertEqual(counts, [34] * 4)
+
+
+class PacketsTest(unittest.TestCase):
+    def test_counts_of_samples(self):
+        tcp = capkit.Expression("tcp")
+        for name, count, matching in [("day.pcap", 44, 34), ("big-endian.pcap", 2, 0),
+                                      ("cooked.pcap", 2, 1), ("two-sections.pcapng", 2, 0)]:
+            with self.subTest(name=name):
+                packets = list(capkit.packets(SAMPLES / name))
+                self.assertEqual(len(packets), count)
+                self.assertEqual(sum(map(tcp.matches, packets)), matching)
+
+    def test_comments(self):
+        comments = [p.comment for p in capkit.packets(str(SAMPLES / "comments.pcapng"))]
+        self.assertEqual(comments, [b"a first look", b"", b"of two"])
+
+    def test_a_fault_has_the_packets_before(self):
+        with self.assertRaisesRegex(capkit.CaptureError, "^offset 2631: too long$") as caught:
+            list(capkit.packets(SAMPLES / "damaged.pcap"))
+        fault = caught.exception
+        self.assertEqual((fault.offset, fault.reason), (2631, "too long"))
+        self.assertEqual(len(list(fault.packets)), 30)
+        self.assertEqual(list(fault.packets)[29], list(fault.packets)[29])
+
+    def test_no_capture(self):
+        with self.assertRaisesRegex(capkit.CaptureError, "not a capture file") as caught:
+            next(capkit.packets(b"some text"))
+        self.assertEqual(list(caught.exception.packets), [])
+        with self.assertRaises(capkit.CaptureError):
+            list(capkit.packets(b""))
+        with self.assertRaises(FileNotFoundError):
+            capkit.packets(SAMPLES / "missing.pcap")
+        with self.assertRaises(IsADirectoryError):
+            capkit.packets(SAMPLES)
+
+    def test_each_loop_begins_anew(self):
+        capture = capkit.Capture(SAMPLES / "day.pcap")
+        first = iter(capture)
+        next(first)
+        self.assertEqual(len(list(capture)), 44)
+        self.assertEqual(len(list(first)), 43)
+
+    def test_pipe(self):
+        program = "import capkit; print(sum(1 for _ in capkit.packets('/dev/stdin')))"
+        capture = (SAMPLES / "day.pcap").read_bytes()
+        done = subprocess.run([sys.executable, "-c", program], input=capture, capture_output=True)
+        self.assertEqual(done.stdout.split(), [b"44"], done.stderr)
+
+    def test_a_file_of_3_gib(self):
+        """A sparse one: a section, 3,072 blocks without packets, and another section."""
+        head = written([packet()])
+        with tempfile.TemporaryFile() as file:
+            file.write(head)
+            block = struct.pack("<II", 0x0BAD, 1 << 20)
+            for start in range(0, 3 << 30, 1 << 20):
+                file.seek(len(head) + start)
+                file.write(block)
+                file.seek(len(head) + start + (1 << 20) - 4)
+                file.write(struct.pack("<I", 1 << 20))
+            file.seek(len(head) + (3 << 30))
+            file.write(head)
+            file.flush()
+            self.assertEqual(sum(1 for _ in capkit.packets(f"/dev/fd/{file.fileno()}")), 2)
+
+
+class WriterTest(unittest.TestCase):
+    def test_what_is_written_reads_back(self):
+        packets = [
+            packet(comment=b"first", interface_name=b"eth0"),
+            packet(UDP[14:], link_type=capkit.LINK_RAW, snap_length=96, original_length=1500),
+            packet(UDP, interface_name=b"eth0"),
+            packet(b""),
+        ]
+        self.assertEqual(list(capkit.packets(written(packets))), packets)
+        nanoseconds = [packet(), packet(UDP, original_length=1500)]
+        self.assertEqual(list(capkit.packets(written(nanoseconds, "nsecpcap"))), nanoseconds)
+        times = [p.time for p in capkit.packets(written(nanoseconds, "pcap"))]
+        self.assertEqual(times, [1_700_000_000_123_456_000] * 2)
+
+    def test_large_packets(self):
+        large = packet(bytes(262144))
+        for format in ("pcap", "nsecpcap", "pcapng"):
+            self.assertEqual(next(capkit.packets(written([large], format))).data, large.data)
+
+    def test_refused_packets(self):
+        for format, wrong, reason in [
+            ("pcapng", packet(time=1 << 63), "time out of range"),
+            ("pcapng", packet(time=-1), "time -1 is not"),
+            ("pcapng", packet(comment=b"c" * 65536), "bad option"),
+            ("pcapng", packet(interface_name=b"n" * 256), "bad option"),
+            ("pcapng", packet(bytes(1048576)), "too long"),
+            ("pcap", packet(bytes(262145)), "too long"),
+            ("pcap", packet(time=10**9 << 32), "time out of range"),
+            ("pcap", packet(link_type=capkit.LINK_RAW), "link types differ"),
+            ("pcap", packet(link_type=65536), "link type 65536"),
+        ]:
+            with self.subTest(format=format, reason=reason):
+                file = io.BytesIO()
+                with capkit.Writer(file, format) as writer:
+                    writer.write(packet())
+                    with self.assertRaisesRegex(capkit.WriteError, reason):
+                        writer.write(wrong)
+                    writer.write(packet())
+                self.assertEqual(file.getvalue(), written([packet()] * 2, format))
+
+    def test_no_packets(self):
+        self.assertEqual(len(written([])), 28)
+        self.assertEqual(len(written([], "pcap")), 24)
+        for format in ("pcapng", "pcap", "nsecpcap"):
+            self.assertEqual(list(capkit.packets(written([], format))), [])
+
+    def test_an_error_before_the_first_packet_leaves_the_file(self):
+        with tempfile.TemporaryDirectory() as folder:
+            path = pathlib.Path(folder, "out.pcapng")
+            path.write_bytes(b"kept")
+            with self.assertRaises(capkit.CaptureError):
+                with capkit.Writer(path) as writer:
+                    for each in capkit.packets(b"some text"):
+                        writer.write(each)
+            self.assertEqual(path.read_bytes(), b"kept")
+            with capkit.Writer(path) as writer:
+                writer.write(packet())
+            self.assertEqual(path.read_bytes(), written([packet()]))
+            with self.assertRaises(ValueError):
+                writer.write(packet())
+
+    def test_formats(self):
+        with self.assertRaisesRegex(ValueError, "pcapng, pcap, nsecpcap"):
+            capkit.Writer(io.BytesIO(), "pcapng2")
+
+
+if __name__ == "__main__":
+    unittest.main()

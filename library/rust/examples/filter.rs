@@ -1,0 +1,48 @@
+//! Counts the packets of a capture that match.
+//!
+//! The statuses are those of capkit: 1 after a fault, which ends the capture, and 2 where the
+//! command line or the expression is refused.
+use capkit::{Capture, Expression};
+use std::{env, error::Error, fmt::Display, process::ExitCode};
+
+fn fail(problem: impl Display, status: u8) -> ExitCode {
+    eprintln!("filter: {problem}");
+    ExitCode::from(status)
+}
+
+/// Prints how many packets match, also of those before a fault.
+fn count(mut expression: Expression, name: &str) -> Result<(), Box<dyn Error>> {
+    // SAFETY: the capture isn't changed while this program reads it; its user sees to that.
+    let capture = unsafe { Capture::map(name)? };
+    let (mut seen, mut matching, mut end) = (0, 0, Ok(()));
+    for packet in capture.packets() {
+        match packet {
+            Ok(packet) => {
+                matching += u64::from(expression.matches(&packet)?);
+                seen += 1;
+            }
+            Err(fault) => end = Err(fault.into()),
+        }
+    }
+    println!("{matching} of {seen} packets match");
+    end
+}
+
+fn main() -> ExitCode {
+    let words: Vec<String> = env::args().collect();
+    let (text, name) = match &words[..] {
+        [_, text, name] => (text, name),
+        _ => {
+            eprintln!("usage: filter EXPRESSION FILE");
+            return ExitCode::from(2);
+        }
+    };
+    let expression = match Expression::new(text) {
+        Ok(expression) => expression,
+        Err(error) => return fail(error, 2),
+    };
+    match count(expression, name) {
+        Ok(()) => ExitCode::SUCCESS,
+        Err(error) => fail(format_args!("{name}: {error}"), 1),
+    }
+}

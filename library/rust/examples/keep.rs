@@ -1,0 +1,74 @@
+//! Writes the packets of a capture that match to a pcapng file.
+//!
+//! The expression is checked, the capture opened and its first packet read before the output is
+//! touched, which may not be the capture itself. The statuses are those of capkit: 1 after a fault,
+//! before which the packets are written, and 2 where the command line or the expression is refused.
+use capkit::{Capture, Expression, Format, Writer};
+use std::fs::{self, File};
+use std::os::unix::fs::MetadataExt;
+use std::{env, error::Error, fmt::Display, io::BufWriter, process::ExitCode};
+
+fn fail(problem: impl Display, status: u8) -> ExitCode {
+    eprintln!("keep: {problem}");
+    ExitCode::from(status)
+}
+
+fn is_same_file(one: &str, other: &str) -> bool {
+    match (fs::metadata(one), fs::metadata(other)) {
+        (Ok(one), Ok(other)) => (one.dev(), one.ino()) == (other.dev(), other.ino()),
+        _ => false,
+    }
+}
+
+/// Writes the packets that match, also those before a fault.
+fn keep(mut expression: Expression, name: &str, out: &str) -> Result<(), Box<dyn Error>> {
+    let of_input = |error: &dyn Display| format!("{name}: {error}");
+    let of_output = |error: &dyn Display| format!("{out}: {error}");
+    // SAFETY: the capture isn't changed while this program reads it; its user sees to that.
+    let capture = unsafe { Capture::map(name) }.map_err(|error| of_input(&error))?;
+    if let Some(first) = capture.packets().next() {
+        let first = first.map_err(|fault| of_input(&fault))?;
+        expression
+            .filter(first.link_type)
+            .map_err(|error| of_input(&error))?;
+    }
+    let file = File::create(out).map_err(|error| of_output(&error))?;
+    let (mut writer, mut end) = (Writer::new(BufWriter::new(file), Format::Pcapng), Ok(()));
+    for packet in capture.packets() {
+        match packet {
+            Ok(packet) => {
+                if expression
+                    .matches(&packet)
+                    .map_err(|error| of_input(&error))?
+                {
+                    writer.write(&packet).map_err(|error| of_output(&error))?;
+                }
+            }
+            Err(fault) => end = Err(of_input(&fault).into()),
+        }
+    }
+    writer.finish().map_err(|error| of_output(&error))?;
+    end
+}
+
+fn main() -> ExitCode {
+    let words: Vec<String> = env::args().collect();
+    let (text, name, out) = match &words[..] {
+        [_, text, name, out] => (text, name, out),
+        _ => {
+            eprintln!("usage: keep EXPRESSION IN OUT");
+            return ExitCode::from(2);
+        }
+    };
+    let expression = match Expression::new(text) {
+        Ok(expression) => expression,
+        Err(error) => return fail(error, 2),
+    };
+    if is_same_file(name, out) {
+        return fail(format_args!("{out}: is the input too"), 2);
+    }
+    match keep(expression, name, out) {
+        Ok(()) => ExitCode::SUCCESS,
+        Err(error) => fail(error, 1),
+    }
+}

@@ -1,0 +1,168 @@
+//! The calls of libcapkit, as capkit.h declares them.
+
+pub const OK: u32 = 0;
+pub const NO_ROOM_IN_BUFFER: u32 = 25;
+pub const PACKET: u32 = 0;
+pub const END: u32 = 22;
+pub const NO_PACKET: u32 = 23;
+pub const MOST_INTERFACES: usize = 256;
+
+#[repr(C)]
+#[derive(Clone, Copy, Default)]
+pub struct Reader {
+    pub offset: usize,
+    pub snap: u32,
+    pub interfaces: u32,
+    pub link_type: u16,
+    pub has_link_type: u8,
+    pub form: u8,
+    pub big_endian: u8,
+    pub nanoseconds: u8,
+}
+
+#[repr(C)]
+#[derive(Clone, Copy)]
+pub struct Interface {
+    pub units: u64,
+    pub offset: i64,
+    pub snap: u32,
+    pub link_type: u16,
+    pub name_length: u8,
+    pub name: [u8; 255],
+}
+
+impl Interface {
+    pub const NONE: Interface = Interface {
+        units: 0,
+        offset: 0,
+        snap: 0,
+        link_type: 0,
+        name_length: 0,
+        name: [0; 255],
+    };
+}
+
+#[repr(C)]
+#[derive(Clone, Copy, Default)]
+pub struct Packet {
+    pub time: u64,
+    pub at: usize,
+    pub options_at: usize,
+    pub captured: u32,
+    pub original: u32,
+    pub options_length: u32,
+    pub interface: u32,
+    pub snap: u32,
+    pub link_type: u16,
+}
+
+extern "C" {
+    pub fn capkit_bound(text: *const u8, length: usize, number: *mut usize) -> u32;
+    pub fn capkit_compile(
+        text: *const u8,
+        length: usize,
+        link_type: u16,
+        insns: *mut crate::Instruction,
+        room: usize,
+        number: *mut usize,
+    ) -> u32;
+    pub fn capkit_check(insns: *const crate::Instruction, count: usize, index: *mut usize) -> u32;
+    pub fn capkit_run(
+        insns: *const crate::Instruction,
+        count: usize,
+        packet: *const u8,
+        captured: usize,
+        original: u32,
+        steps: *mut u32,
+    ) -> u32;
+    pub fn capkit_is_portable(insns: *const crate::Instruction, count: usize) -> u32;
+    pub fn capkit_next(
+        reader: *mut Reader,
+        interfaces: *mut Interface,
+        room: usize,
+        capture: *const u8,
+        size: usize,
+        packet: *mut Packet,
+    ) -> u32;
+    pub fn capkit_comment(
+        reader: *const Reader,
+        capture: *const u8,
+        size: usize,
+        packet: *const Packet,
+        buffer: *mut u8,
+        room: usize,
+    ) -> usize;
+    pub fn capkit_write_file_header(
+        nanoseconds: u32,
+        link_type: u16,
+        buffer: *mut u8,
+        room: usize,
+        length: *mut usize,
+    ) -> u32;
+    pub fn capkit_write_record(
+        nanoseconds: u32,
+        time: u64,
+        original: u32,
+        packet: *const u8,
+        captured: usize,
+        buffer: *mut u8,
+        room: usize,
+        length: *mut usize,
+    ) -> u32;
+    pub fn capkit_write_section(buffer: *mut u8, room: usize, length: *mut usize) -> u32;
+    pub fn capkit_write_interface(
+        link_type: u16,
+        snap: u32,
+        name: *const u8,
+        name_length: usize,
+        buffer: *mut u8,
+        room: usize,
+        length: *mut usize,
+    ) -> u32;
+    pub fn capkit_write_packet(
+        interface: u32,
+        time: u64,
+        original: u32,
+        packet: *const u8,
+        captured: usize,
+        comment: *const u8,
+        comment_length: usize,
+        buffer: *mut u8,
+        room: usize,
+        length: *mut usize,
+    ) -> u32;
+    pub fn capkit_status_text(status: u32, buffer: *mut u8, room: usize) -> usize;
+    pub fn capkit_rule_text(rule: u32, buffer: *mut u8, room: usize) -> usize;
+    pub fn capkit_found_text(found: u32, buffer: *mut u8, room: usize) -> usize;
+}
+
+type TextCall = unsafe extern "C" fn(u32, *mut u8, usize) -> usize;
+
+/// What a number is called.
+pub fn text(call: TextCall, number: u32) -> String {
+    let mut buffer = [0; 64];
+    // SAFETY: the buffer has as many bytes as the call is told.
+    let length = unsafe { call(number, buffer.as_mut_ptr(), buffer.len()) };
+    String::from_utf8_lossy(&buffer[..length.min(buffer.len())]).into_owned()
+}
+
+/// The unit that a call puts into a buffer, given where it begins, its room and where the length
+/// goes; or the number by which it is refused.
+///
+/// The call writes no more than the room, and `*length` bytes where it returns `OK`.
+pub fn unit(
+    buffer: &mut Vec<u8>,
+    call: impl Fn(*mut u8, usize, *mut usize) -> u32,
+) -> Result<&[u8], u32> {
+    let mut length = 0;
+    let mut written = call(buffer.as_mut_ptr(), buffer.len(), &mut length);
+    if written == NO_ROOM_IN_BUFFER {
+        buffer.resize(length, 0);
+        written = call(buffer.as_mut_ptr(), buffer.len(), &mut length);
+    }
+    if written == OK {
+        Ok(&buffer[..length])
+    } else {
+        Err(written)
+    }
+}

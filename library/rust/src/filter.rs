@@ -1,0 +1,174 @@
+use crate::{ffi, CompileError, Packet, ProgramError};
+use std::collections::HashMap;
+use std::fmt;
+
+/// An instruction of a program, with the codes of classic BPF. Its layout is that of `struct
+/// bpf_insn` of libpcap and of `struct sock_filter` of Linux.
+#[repr(C)]
+#[derive(Clone, Copy, Debug, Default, PartialEq, Eq, Hash)]
+pub struct Instruction {
+    pub code: u16,
+    pub jt: u8,
+    pub jf: u8,
+    pub k: u32,
+}
+
+/// The program of an expression for packets of one link type. It is always valid.
+///
+/// As text it is the listing that `capkit compile` and `tcpdump -ddd` print:
+///
+/// ```
+/// let arp = capkit::Filter::new("arp", capkit::LINK_ETHERNET)?;
+/// assert_eq!(arp.to_string(), "4\n40 0 0 12\n21 0 1 2054\n6 0 0 262144\n6 0 0 0\n");
+/// # Ok::<(), capkit::CompileError>(())
+/// ```
+#[derive(Clone, Debug, PartialEq, Eq)]
+pub struct Filter(Vec<Instruction>);
+
+impl Filter {
+    /// Compiles an expression.
+    ///
+    /// ```
+    /// use capkit::{CompileError, Filter};
+    ///
+    /// let error = Filter::new("tcp prt 80", capkit::LINK_ETHERNET).unwrap_err();
+    /// assert_eq!(error, CompileError::UnknownWord { at: 5 });
+    /// assert_eq!(error.to_string(), "unknown word (at byte 5)");
+    /// ```
+    pub fn new(expression: &str, link_type: u16) -> Result<Filter, CompileError> {
+        let mut insns = vec![Instruction::default(); bound(expression)?];
+        let mut number = 0;
+        // SAFETY: the pointers and lengths are those of the text and of the instructions.
+        let status = unsafe {
+            ffi::capkit_compile(
+                expression.as_ptr(),
+                expression.len(),
+                link_type,
+                insns.as_mut_ptr(),
+                insns.len(),
+                &mut number,
+            )
+        };
+        if status != ffi::OK {
+            return Err(CompileError::new(status, number, link_type));
+        }
+        insns.truncate(number);
+        Ok(Filter(insns))
+    }
+
+    /// A program from elsewhere, where it is valid.
+    ///
+    /// ```
+    /// use capkit::{Filter, Instruction, ProgramError};
+    ///
+    /// let length = Instruction { code: 128, ..Default::default() };
+    /// let error = Filter::from_instructions(vec![length]).unwrap_err();
+    /// assert_eq!(error, ProgramError::NoReturn);
+    /// ```
+    pub fn from_instructions(instructions: Vec<Instruction>) -> Result<Filter, ProgramError> {
+        let mut index = 0;
+        // SAFETY: the pointer and the length are those of the instructions.
+        let rule =
+            unsafe { ffi::capkit_check(instructions.as_ptr(), instructions.len(), &mut index) };
+        if rule != ffi::OK {
+            return Err(ProgramError::new(rule, index));
+        }
+        Ok(Filter(instructions))
+    }
+
+    /// What the program returns on a packet, given the bytes that were captured of it and how many
+    /// it had on the wire; 0 rejects it.
+    pub fn run(&self, data: &[u8], original_length: u32) -> u32 {
+        let mut steps = 0;
+        // SAFETY: the program is valid, and the pointers and lengths are those of the slices.
+        unsafe {
+            ffi::capkit_run(
+                self.0.as_ptr(),
+                self.0.len(),
+                data.as_ptr(),
+                data.len(),
+                original_length,
+                &mut steps,
+            )
+        }
+    }
+
+    /// Whether a packet matches; see [`run`](Filter::run).
+    pub fn matches(&self, data: &[u8], original_length: u32) -> bool {
+        self.run(data, original_length) != 0
+    }
+
+    /// The program.
+    pub fn instructions(&self) -> &[Instruction] {
+        &self.0
+    }
+
+    /// Whether libpcap and a Linux socket give the same answers, as far as `capkit_is_portable` can
+    /// say.
+    pub fn is_portable(&self) -> bool {
+        // SAFETY: the program is valid, and the pointer and the length are its.
+        unsafe { ffi::capkit_is_portable(self.0.as_ptr(), self.0.len()) != 0 }
+    }
+}
+
+impl fmt::Display for Filter {
+    fn fmt(&self, f: &mut fmt::Formatter) -> fmt::Result {
+        writeln!(f, "{}", self.0.len())?;
+        self.0
+            .iter()
+            .try_for_each(|i| writeln!(f, "{} {} {} {}", i.code, i.jt, i.jf, i.k))
+    }
+}
+
+/// How many instructions an expression's program has at most.
+fn bound(expression: &str) -> Result<usize, CompileError> {
+    let mut number = 0;
+    // SAFETY: the pointer and the length are those of the text.
+    let status = unsafe { ffi::capkit_bound(expression.as_ptr(), expression.len(), &mut number) };
+    if status == ffi::OK {
+        Ok(number)
+    } else {
+        Err(CompileError::new(status, number, 0))
+    }
+}
+
+/// An expression, compiled for each link type when a packet has it first.
+///
+/// ```
+/// let mut expression = capkit::Expression::new("arp")?;
+/// let arp = [&[0; 12][..], &[8, 6], &[0; 28]].concat();
+/// assert!(expression.matches(&capkit::Packet::new(0, capkit::LINK_ETHERNET, &arp))?);
+/// # Ok::<(), capkit::CompileError>(())
+/// ```
+#[derive(Clone, Debug)]
+pub struct Expression {
+    text: String,
+    filters: HashMap<u16, Filter>,
+}
+
+impl Expression {
+    /// Checks an expression, which needs no link type.
+    pub fn new(text: &str) -> Result<Expression, CompileError> {
+        bound(text)?;
+        Ok(Expression {
+            text: text.to_owned(),
+            filters: HashMap::new(),
+        })
+    }
+
+    /// The expression's filter for a link type.
+    pub fn filter(&mut self, link_type: u16) -> Result<&Filter, CompileError> {
+        if !self.filters.contains_key(&link_type) {
+            self.filters
+                .insert(link_type, Filter::new(&self.text, link_type)?);
+        }
+        Ok(&self.filters[&link_type])
+    }
+
+    /// Whether a packet matches. It is an error where no expression is compiled for its link type.
+    pub fn matches(&mut self, packet: &Packet) -> Result<bool, CompileError> {
+        Ok(self
+            .filter(packet.link_type)?
+            .matches(packet.data, packet.original_length))
+    }
+}

@@ -1,0 +1,41 @@
+//! Filter expressions of packets, and pcap and pcapng captures, by the proved library libcapkit.
+//!
+//! Every function of libcapkit is proved to meet its contract; this crate is a safe interface to it
+//! and is tested. `build.rs` finds the library by pkg-config.
+//!
+//! ```no_run
+//! use capkit::{Capture, Expression, Format, Writer};
+//! use std::{fs::File, io::BufWriter};
+//!
+//! # fn main() -> Result<(), Box<dyn std::error::Error>> {
+//! let mut expression = Expression::new("tcp port 80")?;
+//! // SAFETY: nothing changes the file.
+//! let capture = unsafe { Capture::map("day.pcap")? };
+//! let mut writer = Writer::new(BufWriter::new(File::create("web.pcapng")?), Format::Pcapng);
+//! for packet in capture.packets() {
+//!     let packet = packet?;
+//!     if expression.matches(&packet)? {
+//!         writer.write(&packet)?;
+//!     }
+//! }
+//! writer.finish()?;
+//! # Ok(())
+//! # }
+//! ```
+#![deny(unsafe_op_in_unsafe_fn)]
+
+mod errors;
+mod ffi;
+mod filter;
+mod reading;
+mod writing;
+
+pub use errors::{Check, CompileError, Fault, ProgramError, WriteError};
+pub use filter::{Expression, Filter, Instruction};
+pub use reading::{Capture, Packet, Packets};
+pub use writing::{Format, Writer};
+
+/// Link types for which expressions are compiled, as captures have them.
+pub const LINK_ETHERNET: u16 = 1;
+pub const LINK_RAW: u16 = 101;
+pub const LINK_COOKED: u16 = 113;
