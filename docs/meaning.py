@@ -49,10 +49,13 @@ PREPARED = ["IsPolicy None", "IsWhyRefused None"]
 COMMANDS = {"edit": [], "print": PREPARED, "merge": [], "infos": [], "compile": PREPARED}
 # Crates whose public functions are for other crates here.
 BETWEEN = {
-    "cap_arguments", "cap_inputs", "cap_memory", "cap_packets", "flt_code", "flt_reader", "flt_short", "flt_tree",
+    "cap_arguments", "cap_inputs", "cap_memory", "cap_packets", "flt_code", "flt_lay", "flt_make", "flt_opt", "flt_passes",
+    "flt_reader", "flt_short", "flt_tree",
 }
 # What the pages promise of these.
-PROMISED = {"flt_short::shortened"}
+PROMISED = {
+    "flt_lay::laid_out", "flt_make::best_of", "flt_opt::replaces", "flt_passes::optimised", "flt_short::shortened",
+}
 # The headline: what a user of the crates is promised.
 HEADLINE = [
     "cap_tools::run", "cap_tools::Job", "flt_gen::generate", "capkit::command_of", "cap_io", "cap_pcap", "cap_pcapng",
