@@ -67,8 +67,10 @@ CASES = [
     ("(cat day.pcap; sleep 1; tail -c +25 day.pcap; sleep 1; tail -c +25 day.pcap) | capkit print - | head -n 1 | wc -l > out",
      0, "", {"out": b"1\n"}),
     # A run that is stopped while it waits leaves all that was decided, in a file too, and whole packets.
-    *[(f"{WAITING} | timeout -s {signal} 1 capkit edit -F pcap - out", status, "", {"out": "day.pcap"})
-      for signal, status in (("INT", 124), ("TERM", 124), ("HUP", 124), ("KILL", 137))],
+    *[(f"{WAITING} | timeout -s {signal} 1 capkit edit -F pcap - out", 124, "", {"out": "day.pcap"})
+      for signal in ("INT", "TERM", "HUP")],
+    # The shell tells what was killed.
+    (f"exec 2> /dev/null; {WAITING} | timeout -s KILL 1 capkit edit -F pcap - out", 137, "", {"out": "day.pcap"}),
     ("head -c 3000 day.pcap > part; capkit edit -F pcap part whole 2> /dev/null; (cat part; sleep 3) "
      "| timeout -s TERM 1 capkit edit -F pcap - out; s=$?; cmp out whole && exit $s", 124, "", {}),
     (f"capkit print day.pcap > lines; {WAITING} | timeout 1 capkit print - > out; s=$?; cmp out lines && exit $s", 124, "", {}),
