@@ -44,8 +44,8 @@ fn has_no_jump(code: &[Wide]) -> bool
     code.iter().all(|insn| insn.code != JUMP)
 }
 
-/// A program that returns what a plain one returns, and is no longer: it has fewer instructions, or
-/// runs meet fewer of them. It is the plain one where that isn't found.
+/// A program that returns what a plain one returns, and is no longer. It is the plain one where the
+/// optimiser finds no such program.
 ///
 /// An error is a failed allocation, or an allocator that cannot be cloned.
 #[tactic(auto, using(crate::proofs::Bettering::betters_itself))]
