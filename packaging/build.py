@@ -439,6 +439,8 @@ def interrupt(_signal, _frame):
 
 
 def main():
+    if len(sys.argv) != 2 or sys.argv[1].startswith("-"):
+        sys.exit(__doc__)
     for it in (signal.SIGTERM, signal.SIGHUP):
         signal.signal(it, interrupt)
     try:

@@ -360,7 +360,7 @@ def fish_option(option):
 
 
 def fish_command(help):
-    place = f"'__fish_seen_subcommand_from {help.name}'"
+    place = f"'__fish_seen_subcommand_from {help.name}; and not __fish_seen_subcommand_from help'"
     options = [fish(place + fish_option(option), option.text) for option in help.options]
     return options + ([f"complete -c capkit -n {place} -F"] if help.has_files else [])
 
@@ -386,6 +386,14 @@ def fish_parts(program, commands):
 def page_of(name, parts):
     """The page of this name: the lines of its template, those of a part in the place of its name."""
     lines = (TEMPLATES / name).read_text().splitlines()
+    start = None
+    for line in lines:
+        if line.startswith(".Bd"):
+            start = MARGIN + DISPLAY * ("-offset indent" in line)
+        elif line == ".Ed":
+            start = None
+        elif start is not None and start + len(line.replace("\\", "")) > COLUMNS:
+            sys.exit(f"over {COLUMNS} columns in {name}: {line}")
     return "".join(f"{line}\n" for place in lines for line in parts.get(place, [place]))
 
 

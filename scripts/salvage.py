@@ -618,7 +618,8 @@ def main():
                 salvage(file)
                 count = write(file, given.OUT, given.form)
     except (OSError, Refused) as error:
-        sys.exit(f"salvage.py: {given.IN}: {error}")
+        name, reason = getattr(error, "filename", None), getattr(error, "strerror", None)
+        sys.exit(f"salvage.py: {name or given.IN}: {reason or error}")
     gaps = [(begin, f"{end - begin} bytes left out{why}") for begin, end, why in file.gaps]
     for at, text in sorted(file.notes + gaps):
         print(f"{given.IN}: offset {at}: {text}")

@@ -127,6 +127,11 @@ impl<I: Input, A: Allocator> InputCursor<I, A> {
         self.waiting = false;
     }
 
+    /// Whether the next packet is at hand, so that no read is made for it.
+    fn has_next_at_hand(&self) -> bool {
+        self.source.has_next_at_hand()
+    }
+
     fn first_link(&self) -> Option<u16>
         ensures { result ≡ first_link_of self.now.source.declared }
     {
@@ -273,6 +278,14 @@ impl<I: Input, A: Allocator> Inputs<I, A> {
     {
         self.cursors[input].mark_decided();
         go_back(&mut self.queue, &mut self.schedule, input);
+    }
+
+    /// Whether the next packet of an input is at hand, so that no read is made for it.
+    pub fn has_next_at_hand(&self, input: usize) -> bool {
+        match self.cursors.get(input) {
+            Some(cursor) => cursor.has_next_at_hand(),
+            None => false,
+        }
     }
 
     /// The first link type that the inputs declare, in their order.

@@ -11,12 +11,15 @@ ghost use Rattle.cap_io.specs.declared.file_state.FileState.TheVariants as state
 
 use crate::file_state::{NextUnit, PacketSpans, Span};
 use crate::unit::{copy_unit, make_room, read_front, read_rest};
-use cap_octet::{Fault, Input};
+use cap_octet::{Fault, Input, u32_at};
 use cap_pcap::{Head, RecordHead, read_head, read_magic, read_record};
 use std::alloc::Allocator;
 
 /// The bytes of a record in front of its data.
 const RECORD_HEAD: usize = 16;
+
+/// Where a record says how many bytes of its packet it holds.
+const CAPTURED: usize = 8;
 
 /// Reads the file header of pcap behind its first four bytes.
 pub(crate) fn read_header<I: Input>(input: &mut I, first: &[u8; 4]) -> Result<Head, Fault>
@@ -60,6 +63,14 @@ pub(crate) fn take_record<I: Input>(
     }
     copy_unit(hand, buffer, size);
     if input.pass(size) { Some(found) } else { None }
+}
+
+/// Whether the next record is wholly among these bytes.
+pub(crate) fn holds_record(head: &Head, bytes: &[u8]) -> bool {
+    if bytes.len() < RECORD_HEAD {
+        return false;
+    }
+    u32_at(head.order, bytes, CAPTURED) as usize <= bytes.len() - RECORD_HEAD
 }
 
 /// Reads the next record to the start of the buffer, and writes where its packet lies. Its limits

@@ -13,7 +13,7 @@ ghost use Rattle.cap_io.specs.Reading.{BeginsBlock, IsConsistent, ReadsUnit, kno
 use crate::file_state::{FileState, NextUnit, PacketSpans, Span};
 use crate::unit::{make_room, read_front, read_rest};
 use cap_octet::{Fault, Input, Order};
-use cap_pcapng::{Block, EnhancedBlock, Frame, SimpleBlock, Table, block, frame};
+use cap_pcapng::{Block, BlockType, EnhancedBlock, Frame, SimpleBlock, Table, block, frame};
 use std::alloc::Allocator;
 
 /// The bytes of a block in front of its body, and as many behind them as tell a section header's
@@ -157,6 +157,27 @@ pub(crate) fn read_block<I: Input, A: Allocator>(
         }
         Err(fault) => Err(fault),
     }
+}
+
+/// Whether the next block with a packet, and all before it, are wholly among these bytes.
+pub(crate) fn holds_packet(order: Order, bytes: &[u8]) -> bool {
+    let mut order = order;
+    let mut rest = bytes;
+    while let Some(front) = rest.first_chunk::<BLOCK_FRONT>() {
+        let Ok(found) = frame(Some(order), front) else {
+            return false;
+        };
+        let size = found.length as usize;
+        if size > rest.len() {
+            return false;
+        }
+        if let BlockType::SimplePacket | BlockType::EnhancedPacket = found.block_type {
+            return true;
+        }
+        order = found.order;
+        rest = &rest[size..];
+    }
+    false
 }
 
 /// Reads the next block of a pcapng file.

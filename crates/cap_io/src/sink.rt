@@ -1,5 +1,5 @@
 //! Packets to a capture, one at a time.
-ghost use Rattle.std.specs.Prelude.{◌≡◌, IsTrue};
+ghost use Rattle.std.specs.Prelude.{◌≡◌, IsTrue, true};
 
 use crate::numbering::OutputInterfaces;
 use crate::writing::{check, write_block, write_file_start, write_record};
@@ -118,6 +118,14 @@ impl<O: Output, A: Allocator> Sink<O, A> {
                 Ok(())
             }
         }
+    }
+
+    /// Makes the device pass on what it holds back, and returns whether it could.
+    pub fn release(&mut self) -> bool
+        ensures kept { self.new ≡ self.old }
+        ensures sure { IsTrue O.tells → result ≡ true }
+    {
+        self.output.release()
     }
 
     /// The output as it stands. It takes no memory.

@@ -1,7 +1,8 @@
 //! Packets of a capture, one at a time.
 use crate::file_state::{FileState, NextUnit, PacketSpans};
 use crate::next_unit::read_unit;
-use crate::pcap::{record_spans, take_record};
+use crate::pcap::{holds_record, record_spans, take_record};
+use crate::pcapng::holds_packet;
 use cap_octet::{Fault, Input, Packet};
 use cap_pcap::Resolution;
 use cap_pcapng::Table;
@@ -106,6 +107,17 @@ impl<I: Input, A: Allocator> Source<I, A> {
                 }
                 answer
             }
+        }
+    }
+
+    /// Whether the device has the next packet at hand, so that `advance` makes it read nothing. `false`
+    /// where that can't be told.
+    pub fn has_next_at_hand(&self) -> bool {
+        let hand = self.input.at_hand();
+        match &self.file {
+            FileState::Unknown => false,
+            FileState::Pcap(head) => holds_record(head, hand),
+            FileState::Pcapng(order, _) => holds_packet(*order, hand),
         }
     }
 

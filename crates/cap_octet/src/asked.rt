@@ -1,12 +1,12 @@
 //! std's buffered readers and writers, with a count of the calls that are made of them. The lines of
 //! `read` and `write` are all that is to be believed of it: they alone count, and each makes its
 //! call.
-ghost use Rattle.std.specs.Prelude.{◌≡◌, ◌+◌, Some, length};
+ghost use Rattle.std.specs.Prelude.{◌≡◌, ◌+◌, [], OnOk, Some, length};
 ghost use Rattle.std.specs.Io.{ReadsAtMost, WritesAtMost};
 ghost use Rattle.std.specs.Io.Buffered.{reader_buffer, reader_remaining};
-ghost use Rattle.std.specs.Io.Buffered.{writer_contents};
+ghost use Rattle.std.specs.Io.Buffered.{writer_buffer, writer_contents};
 ghost use Rattle.std.specs.Io.BufRead.{DropsConsumable};
-ghost use Rattle.std.specs.Io.KnownBytes.{ReadConsumes, WriteAppends};
+ghost use Rattle.std.specs.Io.KnownBytes.{Keeps, ReadConsumes, WriteAppends};
 
 use crate::count::ContractCount;
 use std::io::{BufRead, BufReader, BufWriter, Read, Result, Write};
@@ -95,6 +95,16 @@ impl<W: Write + Drop> AskedWriter<W> {
     {
         self.calls.add_one();
         self.writer.write(buf)
+    }
+
+    /// Writes out what its buffer holds.
+    pub(crate) fn flush(&mut self) -> Result<()>
+        ensures bytes { Keeps (writer_contents W.contents self.old.writer)
+            (writer_contents W.contents self.new.writer) }
+        ensures empty { OnOk result (writer_buffer self.new.writer ≡ []) }
+        ensures calls { self.new.calls.count ≡ self.old.calls.count }
+    {
+        self.writer.flush()
     }
 
     /// Whether its buffer has room for so many bytes and one more.

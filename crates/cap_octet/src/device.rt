@@ -1,6 +1,6 @@
 //! Devices: what a contract sees of bytes that come and go.
 ghost use Rattle.std.specs.Prelude.{◌≡◌, ℕ, ◌+◌, ◌^◌, ◌<◌, ◌≤◌, Bool, IsTrue, List, length, IfOk};
-ghost use Rattle.std.specs.Prelude.{IfErr, Option, Some, if◌then◌else◌};
+ghost use Rattle.std.specs.Prelude.{IfErr, Option, Some, if◌then◌else◌, true};
 ghost use Rattle.std.specs.List.{flat_map};
 ghost use Rattle.std.specs.Io.{StartsWith};
 ghost use Rattle.cap_octet.specs.Device.{AppendsOrStops, HasGiven, Passes, Reads, Fills, Writes};
@@ -98,6 +98,23 @@ pub trait Output {
         ensures room { room self.new ≡ room self.old }
         ensures exact { IsTrue tells → Writes (written self.old) buf.now
             result (written self.new) };
+
+    /// Whether somebody may be waiting for what it takes, so that it is to be released before a read
+    /// that may wait. Where a device doesn't give this nobody is.
+    fn is_awaited(&self) -> bool {
+        false
+    }
+
+    /// Passes on what it holds back, and returns whether it could; a device whose bytes contracts
+    /// know always can. Where a device doesn't give this it holds nothing back.
+    fn release(&mut self) -> bool
+        ensures written { written self.new ≡ written self.old }
+        ensures failures { failures self.new ≡ failures self.old }
+        ensures room { room self.new ≡ room self.old }
+        ensures sure { IsTrue tells → result ≡ true }
+    {
+        true
+    }
 
     /// A device that failed had taken as many bytes as it has room for. `Prim.search rules` proves
     /// it where the room is none.

@@ -1,10 +1,12 @@
 //! Devices over std's buffered readers and writers.
 ghost use Rattle.std.specs.Prelude.{◌≡◌, ℕ, ◌+◌, ◌≤◌, ◌<◌, ◌^◌, ◌||◌, IsTrue, IfOk, None, Option, Some, false};
-ghost use Rattle.std.specs.Prelude.{[]};
+ghost use Rattle.std.specs.Prelude.{[], List, true};
 ghost use Rattle.std.specs.Prelude.{if◌then◌else◌, is_err, is_some, length};
 ghost use Rattle.std.proofs.Common.{rules};
-ghost use Rattle.std.specs.Io.Buffered.{reader_buffer, reader_remaining, writer_contents};
+ghost use Rattle.std.specs.Io.Buffered.{reader_buffer, reader_remaining, writer_buffer};
+ghost use Rattle.std.specs.Io.Buffered.{writer_contents};
 ghost use Rattle.std.specs.Io.{StartsWith};
+ghost use Rattle.std.specs.Io.KnownBytes.{Keeps};
 ghost use Rattle.cap_octet.specs.Device.{Passes, Reads, Writes, count_of, failures_of};
 ghost use Rattle.cap_octet.specs.Stream.{HandsOver, IsOneRead, IsOneWrite, IsPassed, TakesOver};
 
@@ -148,24 +150,40 @@ impl<R: Read> Input for StdInput<R> {
 #[derive(Drop)]
 pub struct StdOutput<W: Write + Drop> {
     writer: AskedWriter<W>,
+    is_awaited: bool,
     /// Why it failed last.
     cause: Option<ErrorKind>,
     failures: ContractCount,
 }
 
 impl<W: Write + Drop> StdOutput<W> {
-    /// An output to which nothing was written yet.
+    /// An output to which nothing was written yet, and for which nobody waits.
     pub fn new(writer: BufWriter<W>) -> Self
         ensures writer { result.writer.writer ≡ writer }
         ensures calls { result.writer.calls.count ≡ 0 }
+        ensures awaited { result.is_awaited ≡ false }
         ensures cause { result.cause ≡ None }
         ensures failures { ⟦<StdOutput<W> as Output>⟧.failures result ≡ 0 }
     {
         StdOutput {
             writer: AskedWriter::new(writer),
+            is_awaited: false,
             cause: None,
             failures: ContractCount::new(),
         }
+    }
+
+    /// The same, where somebody may be waiting for what it takes.
+    pub fn awaited(writer: BufWriter<W>) -> Self
+        ensures writer { result.writer.writer ≡ writer }
+        ensures calls { result.writer.calls.count ≡ 0 }
+        ensures awaited { result.is_awaited ≡ true }
+        ensures cause { result.cause ≡ None }
+        ensures failures { ⟦<StdOutput<W> as Output>⟧.failures result ≡ 0 }
+    {
+        let mut output = StdOutput::new(writer);
+        output.is_awaited = true;
+        output
     }
 
     /// The writer, as to flush it, and why it failed last.
@@ -175,6 +193,7 @@ impl<W: Write + Drop> StdOutput<W> {
     {
         let StdOutput {
             writer,
+            is_awaited: _,
             cause,
             failures: _,
         } = self;
@@ -247,6 +266,33 @@ impl<W: Write + Drop> Output for StdOutput<W> {
         match self.write_through(buf) {
             Ok(count) => Ok(count),
             Err(fault) => Err(fault),
+        }
+    }
+
+    fn is_awaited(&self) -> bool
+        ensures { result ≡ self.now.is_awaited }
+    {
+        self.is_awaited
+    }
+
+    /// Writes out what the writer's buffer holds. What couldn't be written stays there.
+    fn release(&mut self) -> bool
+        ensures written { ◌≡◌ {A = List ℕ} [] [] }
+        ensures failures { self.new.failures.count ≡ self.old.failures.count }
+        ensures room { ◌≡◌ {A = ℕ} 0 0 }
+        ensures sure { IsTrue false → result ≡ true }
+        ensures bytes { Keeps (writer_contents W.contents self.old.writer.writer)
+            (writer_contents W.contents self.new.writer.writer) }
+        ensures empty { result ≡ true → writer_buffer self.new.writer.writer ≡ [] }
+        ensures cause { result ≡ true → self.new.cause ≡ self.old.cause }
+        ensures told { result ≡ false → is_some self.new.cause ≡ true }
+    {
+        match self.writer.flush() {
+            Ok(()) => true,
+            Err(error) => {
+                self.cause = Some(error.kind());
+                false
+            }
         }
     }
 

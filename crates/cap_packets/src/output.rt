@@ -1,5 +1,5 @@
 //! Where a job writes.
-ghost use Rattle.std.specs.Prelude.{◌≡◌, ◌+◌, IfErr, IsTrue};
+ghost use Rattle.std.specs.Prelude.{◌≡◌, ◌+◌, IfErr, IsTrue, true};
 ghost use Rattle.cap_octet.specs.Device.{AppendsOrStops, failures_of};
 ghost use Rattle.cap_octet.specs.Packet.{captured};
 ghost use Rattle.cap_print.specs.Rendering.{printed_text};
@@ -79,6 +79,18 @@ impl<O: Output, A: Allocator> JobOutput<O, A> {
             Device::Capture(sink) => sink.put(packet),
             Device::Text(_) => Ok(()),
             Device::Lines(options, text, output) => put_line(text, *options, packet, output),
+        }
+    }
+
+    /// Makes the device pass on what it holds back, and returns whether it could.
+    pub fn release(&mut self) -> bool
+        ensures kept { self.new ≡ self.old }
+        ensures sure { IsTrue O.tells → result ≡ true }
+    {
+        match &mut self.device {
+            Device::Capture(sink) => sink.release(),
+            Device::Text(output) => output.release(),
+            Device::Lines(_, _, output) => output.release(),
         }
     }
 

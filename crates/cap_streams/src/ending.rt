@@ -6,19 +6,19 @@ ghost use Rattle.cap_streams.specs.Ending.{has_failed, is_unread, status_by};
 ghost use Rattle.cap_streams.specs.Streams.{holds_old_bytes};
 
 use crate::FAULT;
-use crate::held::Outlet;
 use crate::message::Shown;
 use crate::opening::Target;
 use crate::stop::Stop;
+use crate::streams::Created;
 use cap_octet::StdOutput;
 use std::alloc::Global;
-use std::io::{self, ErrorKind, Write};
+use std::io::{self, BufWriter, ErrorKind, Write};
 
 /// Writes what is buffered, and tells the run's message and how its output ended.
 pub fn finish<'a, W: Write + Drop>(
     alloc: Global,
     status: u8,
-    target: StdOutput<Outlet<'_>>,
+    target: Target,
     messages: StdOutput<W>,
     output: &'a str,
 ) -> Result<u8, Stop<'a>>
@@ -26,7 +26,7 @@ pub fn finish<'a, W: Write + Drop>(
     ensures within { IfOk result (λ ended. ended ≤ 2) }
 
     // The job told why, so that it isn't told again; and a failed write is no success.
-    ensures exact { is_some target.entry.cause ≡ true → IsOkAnd result (λ ended. 0 < ended) }
+    ensures exact { is_some target.cause ≡ true → IsOkAnd result (λ ended. 0 < ended) }
 {
     let (mut target, cause) = target.into_inner();
     let flushed = settle(status, &mut target).err().map(|error| error.kind());
@@ -44,7 +44,7 @@ fn is_unread(cause: Option<ErrorKind>) -> bool
 }
 
 /// Writes what is buffered, and decides over what the output held before.
-pub fn settle(status: u8, target: &mut Target<'_>) -> io::Result<()> {
+pub fn settle(status: u8, target: &mut BufWriter<Created>) -> io::Result<()> {
     target.get_mut().leave(status)?;
     target.flush()
 }

@@ -4,7 +4,6 @@
 
 pub mod ending;
 pub mod files;
-pub mod held;
 mod hints;
 pub mod message;
 pub mod opening;
@@ -15,6 +14,7 @@ pub mod refusal;
 pub mod runner;
 pub mod stop;
 pub mod streams;
+pub mod waiting;
 pub mod words;
 
 /// The status of a job that a fault ended.

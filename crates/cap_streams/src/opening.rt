@@ -6,17 +6,21 @@ ghost use Rattle.std.specs.IoError.{error_kind};
 ghost use Rattle.cap_command.specs.Command.{is_proper};
 ghost use Rattle.capkit.specs.Line.{has_expression, with_code};
 
-use crate::held::{Buffering, Held, Outlet, buffering_of};
 use crate::progress::{Counted, Progress};
 use crate::stop::Stop;
 use crate::streams::{Created, Opened};
+use crate::waiting::{Buffering, buffering_of};
 use cap_command::Command;
-use cap_octet::StdInput;
+use cap_octet::{StdInput, StdOutput};
 use capkit::with_code;
 use std::io::{self, BufReader, BufWriter, ErrorKind, Read};
 
 /// The bytes of the buffer before each input and the output.
 const BUFFER: usize = 65_536;
+
+/// The bytes of the buffer before an output that is written out before each read. What a full buffer
+/// of an input comes to is a few times as long at most, so that no packet is written in two parts.
+const AWAITED_BUFFER: usize = 1_048_576;
 
 /// How many bytes of a listing are read at most: one more than it may have, by which a longer one
 /// is known.
@@ -26,7 +30,7 @@ const LISTING_ROOM: u64 = 1_048_577;
 pub type Source<'a> = StdInput<Counted<'a, Opened>>;
 
 /// The output as the job writes it, behind its buffer.
-pub type Target<'a> = BufWriter<Outlet<'a>>;
+pub type Target = StdOutput<Created>;
 
 /// The first bytes of the listing of this name. One that can't be read to its end can't be opened.
 pub fn read_listing<'a>(rt: &HostRuntime, name: &'a str) -> Result<Vec<u8>, Stop<'a>> {
@@ -74,7 +78,6 @@ pub fn open<'a, 'p>(
     rt: &HostRuntime,
     names: &'a [String],
     progress: &'p Progress<'p>,
-    held: &'p Held,
 ) -> Result<Vec<Source<'p>>, Stop<'a>>
     ensures { IfOk result (λ inputs. vec_len inputs ≡ length names.entry.now) }
 {
@@ -84,7 +87,7 @@ pub fn open<'a, 'p>(
         let Ok(opened) = Opened::open(rt, name) else {
             return Err(Stop::CannotOpen(name));
         };
-        let counted = Counted::new(opened, progress, held);
+        let counted = Counted::new(opened, progress);
         let reader = buffered(BufReader::with_capacity(rt.alloc(), BUFFER, counted))?;
         inputs.push(StdInput::new(reader))?;
     }
@@ -99,20 +102,17 @@ pub fn create<'a>(rt: &HostRuntime, name: &'a str) -> Result<Created, Stop<'a>> 
     }
 }
 
-/// The output with its buffer. Where a read may wait, it is the one that reads write out.
-pub fn target<'a, 'h>(
-    rt: &HostRuntime,
-    created: Created,
-    may_wait: bool,
-    held: &'h Held,
-) -> Result<Target<'h>, Stop<'a>> {
-    let capacity = match buffering_of(created.is_terminal(), may_wait) {
-        Buffering::AtOnce => 0,
-        Buffering::WhenFull => BUFFER,
+/// The output with its buffer. Where a read may wait, it is one that is waited for.
+pub fn target<'a>(rt: &HostRuntime, created: Created, may_wait: bool) -> Result<Target, Stop<'a>> {
+    let alloc = rt.alloc();
+    Ok(match buffering_of(created.is_terminal(), may_wait) {
+        Buffering::AtOnce => StdOutput::new(buffered(BufWriter::with_capacity(alloc, 0, created))?),
         Buffering::BeforeReads => {
-            held.hold(buffered(BufWriter::with_capacity(rt.alloc(), BUFFER, created))?);
-            return buffered(BufWriter::with_capacity(rt.alloc(), 0, Outlet::Held(held)));
+            let writer = BufWriter::with_capacity(alloc, AWAITED_BUFFER, created);
+            StdOutput::awaited(buffered(writer)?)
         }
-    };
-    buffered(BufWriter::with_capacity(rt.alloc(), capacity, Outlet::Direct(created)))
+        Buffering::WhenFull => {
+            StdOutput::new(buffered(BufWriter::with_capacity(alloc, BUFFER, created))?)
+        }
+    })
 }

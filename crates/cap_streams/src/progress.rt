@@ -1,7 +1,6 @@
 //! How far long work is: shown on a terminal, where the output is a file, from two seconds on, and
 //! erased at the end.
 
-use crate::held::Held;
 use capkit::STANDARD;
 use std::cell::Cell;
 use std::io::{self, IsTerminal, Read};
@@ -199,28 +198,22 @@ impl<'a> Progress<'a> {
     }
 }
 
-/// A reader whose bytes are counted, and before whose reads goes out what is held back.
+/// A reader whose bytes are counted.
 #[derive(Drop)]
 pub struct Counted<'a, R> {
     reader: R,
     progress: &'a Progress<'a>,
-    held: &'a Held,
 }
 
 impl<'a, R: Read> Counted<'a, R> {
     /// Nothing is read yet.
-    pub fn new(reader: R, progress: &'a Progress<'a>, held: &'a Held) -> Self {
-        Counted {
-            reader,
-            progress,
-            held,
-        }
+    pub fn new(reader: R, progress: &'a Progress<'a>) -> Self {
+        Counted { reader, progress }
     }
 }
 
 impl<R: Read> Read for Counted<'_, R> {
     fn read(&mut self, buf: &mut [u8]) -> io::Result<usize> {
-        self.held.release();
         let count = self.reader.read(buf)?;
         self.progress.count(count);
         Ok(count)

@@ -5,10 +5,10 @@ ghost use Rattle.cap_command.specs.Command.{is_proper};
 ghost use Rattle.capkit.specs.Line.{is_ready};
 
 use crate::ending::finish;
-use crate::held::{Held, Outlet, may_wait};
-use crate::opening::{Source, buffered, create, open, target, with_listing};
+use crate::opening::{Source, Target, buffered, create, open, target, with_listing};
 use crate::progress::Progress;
 use crate::stop::{Stop, stopped};
+use crate::waiting::may_wait;
 use cap_command::{Command, Engine};
 use cap_octet::StdOutput;
 use capkit::{Line, STANDARD};
@@ -18,7 +18,7 @@ use std::io::{BufWriter, Stderr};
 /// What a command is run over: its inputs, its output, and the messages' device.
 struct Devices<'p> {
     inputs: Vec<Source<'p>>,
-    output: StdOutput<Outlet<'p>>,
+    output: Target,
     messages: StdOutput<Stderr>,
 }
 
@@ -28,18 +28,17 @@ fn open_devices<'a, 'p>(
     names: &'a [String],
     output: &'a str,
     progress: &'p Progress<'p>,
-    held: &'p Held,
 ) -> Result<Devices<'p>, Stop<'a>>
     ensures { IfOk result (λ devices. vec_len devices.inputs ≡ length names.entry.now) }
 {
-    let inputs = open(rt, names, progress, held)?;
+    let inputs = open(rt, names, progress)?;
     let created = create(rt, output)?;
     let may_wait = may_wait(rt, names);
-    let target = target(rt, created, may_wait, held)?;
+    let output = target(rt, created, may_wait)?;
     let messages = buffered(BufWriter::new(rt.alloc(), rt.stderr()))?;
     Ok(Devices {
         inputs,
-        output: StdOutput::new(target),
+        output,
         messages: StdOutput::new(messages),
     })
 }
@@ -91,7 +90,6 @@ pub fn run_command<J: Engine>(
     names: Vec<String>,
     output: &str,
     progress: &Progress<'_>,
-    held: &Held,
 ) -> u8
     requires { is_proper command (vec_len names) ≡ true }
     ensures { result ≤ 2 }
@@ -100,7 +98,7 @@ pub fn run_command<J: Engine>(
         return stopped(rt, Stop::NoMemory);
     };
     let inputs = &names[..names.len() - 1];
-    match open_devices(rt, inputs, output, progress, held) {
+    match open_devices(rt, inputs, output, progress) {
         Ok(devices) => run_over::<J>(rt, command, names, devices, output, progress),
         Err(stop) => stopped(rt, stop),
     }
@@ -138,5 +136,5 @@ pub fn run<J: Engine>(rt: &HostRuntime, line: Line) -> u8
         Err(stop) => return stopped(rt, stop),
     };
     let progress = Progress::new(rt, names.as_slice(), output);
-    run_command::<J>(rt, command, names, output, &progress, &Held::new())
+    run_command::<J>(rt, command, names, output, &progress)
 }

@@ -7,3 +7,4 @@ mod progress;
 mod runs;
 mod streams;
 mod told;
+mod waits;

@@ -43,6 +43,8 @@ pub struct Job<I: Input, O: Output, E: Output, A: Allocator> {
     inputs: Inputs<I, A>,
     selector: Selector<A>,
     output: JobOutput<O, A>,
+    /// Whether somebody may be waiting for the output.
+    is_awaited: bool,
     messages: Messages<E, A>,
     /// How many packets are decided.
     decided: u128,
@@ -152,6 +154,7 @@ impl<I: Input, O: Output, E: Output, A: Allocator + Copy + Drop> Job<I, O, E, A>
         let Ok(selector) = Selector::new(alloc, policy) else {
             return Err((out, err));
         };
+        let is_awaited = out.is_awaited();
         let output = JobOutput::new(alloc, writing, out);
         Ok(Job {
             alloc,
@@ -159,6 +162,7 @@ impl<I: Input, O: Output, E: Output, A: Allocator + Copy + Drop> Job<I, O, E, A>
             inputs,
             selector,
             output,
+            is_awaited,
             messages: Messages::new(err, names),
             decided: 0,
             turns: 0,
@@ -268,7 +272,7 @@ impl<I: Input, O: Output, E: Output, A: Allocator + Copy + Drop> Job<I, O, E, A>
     {
         match self.inputs.next() {
             Next::Decide(input) => self.decide_next(input),
-            Next::Read(input) => self.read_input(input),
+            Next::Read(input) => self.read_next(input),
             Next::Finish => self.finish(),
         }
     }
@@ -294,6 +298,30 @@ impl<I: Input, O: Output, E: Output, A: Allocator + Copy + Drop> Job<I, O, E, A>
             }
             Err(fault) => Some(unwritten(input, fault)),
         }
+    }
+
+    /// Reads an input on; behind what is decided, where somebody may be waiting for it while the
+    /// input is.
+    fn read_next(&mut self, input: usize) -> Option<JobEnd>
+        requires prepared { self.old.preparing ≡ None }
+        requires next { input_spec.IsNext self.old.machine.inputs (Next.Read input) }
+        requires within { input < length self.old.machine.inputs.cursors }
+        ensures { IsStep I.tells O.tells self.old result self.new }
+    {
+        if self.is_awaited && !self.release_before(input) {
+            return Some(JobEnd::OutputFailed);
+        }
+        self.read_input(input)
+    }
+
+    /// Releases the output before an input is read on, where its next packet isn't at hand; and
+    /// returns whether it could.
+    #[inline(never)]
+    fn release_before(&mut self, input: usize) -> bool
+        ensures kept { self.new ≡ self.old }
+        ensures sure { IsTrue O.tells → result ≡ true }
+    {
+        self.inputs.has_next_at_hand(input) || self.output.release()
     }
 
     /// Reads an input on.

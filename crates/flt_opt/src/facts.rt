@@ -1,7 +1,7 @@
 //! Which numbers a term may be, by what is known of a packet.
 
-ghost use Rattle.std.specs.Prelude.{◌≡◌, ℕ, ◌<◌, true, false, List, length, IfSome, IsTrue};
-ghost use Rattle.flt_opt.specs.Facts.{in_piece};
+ghost use Rattle.std.specs.Prelude.{◌≡◌, ℕ, ◌<◌, true, false, List, length, Some, IfSome, IsTrue};
+ghost use Rattle.flt_opt.specs.Facts.{in_piece, in_either};
 ghost use Rattle.flt_opt.specs.Facts.{before, only, starting, past, outcome, IsWithin, NeverIs};
 ghost use Rattle.flt_opt.specs.Facts.{IsIn, part, HasNumbers, NeverSo, NeverAmong, CannotBe};
 ghost use Rattle.flt_opt.specs.Facts.{IsDecided, AllLearnt, LearntHolds};
@@ -51,10 +51,10 @@ pub(crate) fn facts_in(facts: &[Fact], span: Span) -> &[Fact]
 }
 
 /// How many outcomes of tests a walk keeps.
-pub(crate) const OUTCOMES: usize = 4;
+pub const OUTCOMES: usize = 4;
 
 /// The outcomes of tests as a walk keeps them.
-pub(crate) fn kept_outcomes(learnt: &[Learnt]) -> [Learnt; OUTCOMES]
+pub fn kept_outcomes(learnt: &[Learnt]) -> [Learnt; OUTCOMES]
     ensures { (p : List ℕ) (n : ℕ) → AllLearnt p n learnt.now → AllLearnt p n result }
 {
     let nothing = Learnt {
@@ -66,14 +66,6 @@ pub(crate) fn kept_outcomes(learnt: &[Learnt]) -> [Learnt; OUTCOMES]
         [] => [nothing, nothing, nothing, nothing],
         [first, ..] => [*first, nothing, nothing, nothing],
     }
-}
-
-/// One more outcome in place of the oldest but the first, that with which the walk began.
-pub(crate) fn with_newest(learnt: [Learnt; OUTCOMES], shown: Learnt) -> [Learnt; OUTCOMES]
-    ensures { (p : List ℕ) (n : ℕ) → LearntHolds p n shown → AllLearnt p n learnt
-        → AllLearnt p n result }
-{
-    [learnt[0], shown, learnt[1], learnt[2]]
 }
 
 /// The numbers below one.
@@ -142,12 +134,82 @@ fn overlap(one: Piece, other: Piece) -> Piece
     }
 }
 
+/// A piece in which all numbers of two are that overlap or touch, or of which one is empty.
+fn one_piece(shown: &Learnt) -> Option<Piece>
+    ensures { IfSome result (λ piece. (v : ℕ) → in_either v shown.now ≡ true
+        → in_piece v piece ≡ true) }
+{
+    let (below, above) = (shown.below, shown.above);
+    if below.low > below.high {
+        Some(above)
+    } else if above.low > above.high {
+        Some(below)
+    } else if above.low <= below.high.saturating_add(1) && below.low <= above.low {
+        Some(Piece {
+            low: below.low,
+            high: below.high.max(above.high),
+        })
+    } else {
+        None
+    }
+}
+
+/// What an outcome and a piece show of a term.
+fn cut(shown: &Learnt, piece: Piece) -> Learnt
+    ensures { (p : List ℕ) (n : ℕ) → LearntHolds p n shown.now
+        → ((v : ℕ) → value p n shown.now.term ≡ Some v → in_piece v piece ≡ true)
+        → LearntHolds p n result }
+{
+    Learnt {
+        term: shown.term,
+        below: overlap(piece, shown.below),
+        above: overlap(piece, shown.above),
+    }
+}
+
+/// What two outcomes show of one term, if that is the term of both and two pieces tell it.
+fn shown_by_both(one: &Learnt, other: &Learnt) -> Option<Learnt>
+    ensures { IfSome result (λ both. (p : List ℕ) (n : ℕ) → LearntHolds p n one.now
+        → LearntHolds p n other.now → LearntHolds p n both) }
+{
+    if !same_term(one.term, other.term) {
+        return None;
+    }
+    if let Some(piece) = one_piece(one) {
+        return Some(cut(other, piece));
+    }
+    let piece = one_piece(other)?;
+    Some(cut(one, piece))
+}
+
+/// One more outcome: with another one on its term but the first, that with which the walk began,
+/// or in place of the oldest.
+pub fn with_newest(learnt: [Learnt; OUTCOMES], shown: Learnt) -> [Learnt; OUTCOMES]
+    ensures { (p : List ℕ) (n : ℕ) → LearntHolds p n shown → AllLearnt p n learnt
+        → AllLearnt p n result }
+{
+    let [first, second, third, fourth] = learnt;
+    if let Some(both) = shown_by_both(&second, &shown) {
+        return [first, both, third, fourth];
+    }
+    if let Some(both) = shown_by_both(&third, &shown) {
+        return [first, both, second, fourth];
+    }
+    if let Some(both) = shown_by_both(&fourth, &shown) {
+        return [first, both, second, third];
+    }
+    [first, shown, second, third]
+}
+
 /// A term's value may be in a piece, by what tests have shown.
 fn may_be(piece: Piece, term: Term, learnt: &[Learnt]) -> bool
     ensures { result ≡ false → NeverIs piece term learnt.now }
 {
+    if piece.low > piece.high {
+        return false;
+    }
     match learnt {
-        [] => piece.low <= piece.high,
+        [] => true,
         [first, rest @ ..] => {
             if same_term(first.term, term) {
                 may_be(overlap(piece, first.below), term, rest)
@@ -237,10 +299,28 @@ fn may_be_in(piece: Piece, outcome: &Learnt, learnt: &[Learnt]) -> bool
         || may_be(overlap(piece, outcome.above), outcome.term, learnt)
 }
 
-/// The same, where it is in one of the pieces.
+/// The outcome may be in the first piece, in the last one, or in that where its numbers begin. Where
+/// it may be at all, it mostly is in one of these.
+fn is_likely(pieces: &[Piece], outcome: &Learnt, learnt: &[Learnt]) -> bool {
+    let low = outcome.above.low;
+    let from = pieces.partition_point(|piece| piece.high < low);
+    for at in [0, pieces.len().saturating_sub(1), from] {
+        if let Some(piece) = pieces.get(at)
+            && may_be_in(*piece, outcome, learnt)
+        {
+            return true;
+        }
+    }
+    false
+}
+
+/// The outcome may be, where a term's value is in one of the pieces.
 fn may_be_among(pieces: &[Piece], outcome: &Learnt, learnt: &[Learnt]) -> bool
     ensures { result ≡ false → NeverAmong pieces.now outcome.now learnt.now }
 {
+    if is_likely(pieces, outcome, learnt) {
+        return true;
+    }
     for piece in pieces {
         if may_be_in(*piece, outcome, learnt) {
             return true;

@@ -10,11 +10,12 @@ mod tests;
 mod validator;
 mod walk;
 
-pub use facts::{Knowledge, Learnt, decided, outcome};
+pub use facts::{Knowledge, Learnt, OUTCOMES, decided, kept_outcomes, outcome, with_newest};
 pub use follows::{is_there, same_accumulator, same_index};
 pub use note::{Both, Fact, Load, Note, Notes, Piece, Registers, Span, Term};
 pub use terms::{
-    after, after_both, after_new, after_old, asked, is_jump, is_known, is_sure, masked,
-    reads_accumulator, reads_index, same_term, sets_accumulator, sets_index, test_of,
+    after, after_both, after_loads, after_new, after_old, asked, is_jump, is_known, is_load,
+    is_sure, masked, reads_accumulator, reads_index, same_term, sets_accumulator, sets_index,
+    test_of,
 };
 pub use validator::replaces;

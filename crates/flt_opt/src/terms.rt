@@ -299,7 +299,7 @@ pub(crate) fn returns(operation: Operation) -> bool
 }
 
 /// It loads bytes of the packet into A.
-pub(crate) fn is_load(operation: Operation) -> bool
+pub fn is_load(operation: Operation) -> bool
     ensures { result ≡ is_load operation }
 {
     matches!(
@@ -309,7 +309,7 @@ pub(crate) fn is_load(operation: Operation) -> bool
 }
 
 /// What is known after both runs loaded the same field.
-pub(crate) fn after_loads(field: Term, both: Both) -> Both
+pub fn after_loads(field: Term, both: Both) -> Both
     ensures { result ≡ after_loads field both }
 {
     Both {

@@ -20,12 +20,12 @@ use crate::terms::{
     after_both, after_loads, after_new, after_old, asked, is_known, is_load, leads_on,
     reads_accumulator, reads_index, returns, same_term,
 };
-use crate::walk::{Stage, Start, goes_on, is_rejection, rejects, walk};
+use crate::walk::{MOST_STEPS, Stage, Start, goes_on, is_rejection, rejects, walk};
 use flt_bpf::Wide;
 use flt_bpf::operation::{AluOperation, Operand, Operation, Test, decode};
 
 /// From how many tests, one behind the other, a walk goes both ways at most.
-const MOST_SPLITS: u32 = 3;
+const MOST_SPLITS: u32 = 12;
 
 /// Two programs and the notes on them.
 #[derive(Clone, Copy)]
@@ -79,7 +79,8 @@ fn leads_to(programs: &Programs, facts: &[Fact], learnt: &[Learnt], way: &Way, t
         met: None,
     };
     let pieces = knowledge.pieces;
-    let Some(both) = walk(programs.old, facts, pieces, from, note.old, MOST_SPLITS) else {
+    let (old, mut fuel) = (programs.old, MOST_STEPS);
+    let Some(both) = walk(old, facts, pieces, from, note.old, MOST_SPLITS, &mut fuel) else {
         return false;
     };
     fits(&both, &note.registers) && facts_follow(facts_of(programs, note), &knowledge, &way.both)

@@ -17,8 +17,8 @@ use crate::terms::{after, after_old, asked, is_jump, is_sure, leads_on, test_of}
 use flt_bpf::Wide;
 use flt_bpf::operation::{Operation, Test, decode};
 
-/// How many instructions a walk passes at most.
-const MOST_STEPS: usize = 8192;
+/// How many instructions a walk passes at most, on all its ways together.
+pub(crate) const MOST_STEPS: u32 = 8192;
 
 /// A run that has these registers goes on behind an operation, which changes no word.
 pub(crate) fn goes_on(
@@ -90,6 +90,7 @@ pub(crate) fn walk(
     from: Stage,
     goal: usize,
     splits: u32,
+    fuel: &mut u32,
 ) -> Option<Both>
     ensures { IfSome result (λ known. Reaches old.now goal facts.now pieces.now from known) }
 {
@@ -98,7 +99,8 @@ pub(crate) fn walk(
         if stage.at == goal {
             return Some(joined(&stage.met, &stage.known));
         }
-        stage = advance(old, facts, pieces, stage, goal, splits)?;
+        *fuel = fuel.checked_sub(1)?;
+        stage = advance(old, facts, pieces, stage, goal, splits, fuel)?;
     }
     None
 }
@@ -112,6 +114,7 @@ fn advance(
     stage: Stage,
     goal: usize,
     splits: u32,
+    fuel: &mut u32,
 ) -> Option<Stage>
     ensures { IfSome result (λ next. Advances old.now goal facts.now pieces.now stage next) }
 {
@@ -129,7 +132,7 @@ fn advance(
             met: stage.met,
         });
     }
-    fork(old, facts, pieces, stage, insn, goal, splits)
+    fork(old, facts, pieces, stage, insn, goal, splits, fuel)
 }
 
 /// From a test that isn't decided one way leads to the goal; the walk goes on along the other one.
@@ -142,6 +145,7 @@ fn fork(
     insn: Wide,
     goal: usize,
     splits: u32,
+    fuel: &mut u32,
 ) -> Option<Stage>
     requires bound { stage.at < 2 ^ 62 }
     requires there { slice_get old.now stage.at ≡ Some insn }
@@ -153,10 +157,10 @@ fn fork(
     let test = test_of(decode(insn.code)?)?;
     let hit = way_of(&stage, insn, test, true);
     let miss = way_of(&stage, insn, test, false);
-    if let Some(one) = walk(old, facts, pieces, hit, goal, splits - 1) {
+    if let Some(one) = walk(old, facts, pieces, hit, goal, splits - 1, fuel) {
         return Some(met_by(&miss, &stage.met, &one));
     }
-    let one = walk(old, facts, pieces, miss, goal, splits - 1)?;
+    let one = walk(old, facts, pieces, miss, goal, splits - 1, fuel)?;
     Some(met_by(&hit, &stage.met, &one))
 }
 

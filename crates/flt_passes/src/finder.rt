@@ -9,7 +9,8 @@ use crate::walk::{Arrival, both_in_both, walked};
 use flt_bpf::Wide;
 use flt_bpf::operation::{Operation, decode};
 use flt_opt::{
-    Both, Fact, Note, Notes, Piece, Registers, Span, Term, after_both, after_new, outcome, test_of,
+    Both, Fact, Note, Notes, Piece, Registers, Span, Term, after_both, after_loads, after_new,
+    asked, outcome, test_of,
 };
 use std::alloc::{AllocError, Allocator};
 
@@ -152,12 +153,12 @@ impl<A: Allocator + Clone> Finder<'_, A> {
     }
 
     /// Where the old run is once the new one does its next instruction.
-    fn placed(&self, way: &Way, new: Wide) -> Result<Option<Arrival>, AllocError> {
+    fn placed(&self, way: &Way, new: Wide) -> Option<Arrival> {
         let pieces = &self.found.pieces;
-        let (alloc, facts) = (self.alloc.clone()?, &way.facts);
-        let arrival = walked(alloc, new, self.old, facts, pieces, &way.old)?;
+        let facts = &way.facts;
+        let arrival = walked(new, self.old, facts, pieces, &way.old);
         let is_own = may_be_own(new, &way.old.both, facts.as_slice());
-        Ok(arrival.or(is_own.then_some(way.old)))
+        arrival.or(is_own.then_some(way.old))
     }
 
     /// The index of the note where a way leads, if one is found.
@@ -165,7 +166,7 @@ impl<A: Allocator + Clone> Finder<'_, A> {
         let Some(new) = self.new.get(way.new).copied() else {
             return Ok(None);
         };
-        let Some(old) = self.placed(way, new)? else {
+        let Some(old) = self.placed(way, new) else {
             return Ok(None);
         };
         let facts = if returns(new) { NO_FACTS } else { way.facts };
@@ -192,7 +193,7 @@ impl<A: Allocator + Clone> Finder<'_, A> {
     fn old_behind(&self, rule: Rule, old: usize, holds: bool) -> usize {
         match rule {
             Rule::Own => old,
-            Rule::Same => self.skipped(old, holds),
+            Rule::Same | Rule::Load => self.skipped(old, holds),
             Rule::Bits => self.skipped(behind(old, 0), !holds),
         }
     }
@@ -211,6 +212,7 @@ impl<A: Allocator + Clone> Finder<'_, A> {
     fn way_on(&self, way: &Way, insn: Wide, operation: Operation, rule: Rule) -> Way {
         let both = match rule {
             Rule::Own => after_new(operation, insn.k, way.old.both),
+            Rule::Load => after_loads(asked(operation, insn.k, way.old.both.new), way.old.both),
             Rule::Same | Rule::Bits => after_both(operation, insn.k, way.old.both),
         };
         Way {
@@ -358,7 +360,7 @@ impl<A: Allocator + Clone> Finder<'_, A> {
 /// What is known of both runs behind a test that the new one does by a rule.
 fn both_behind(rule: Rule, both: &Both) -> Both {
     match rule {
-        Rule::Same | Rule::Own => *both,
+        Rule::Same | Rule::Load | Rule::Own => *both,
         Rule::Bits => Both {
             old: Registers {
                 accumulator: Term::Anything,

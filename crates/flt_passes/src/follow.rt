@@ -11,7 +11,7 @@ use flt_opt::{
 use std::alloc::{AllocError, Allocator};
 
 /// How many nodes are passed at most.
-const FUEL: usize = 4000;
+const FUEL: usize = 32;
 
 /// How many tests that aren't decided are passed, one on a side of the other.
 const SPLITS: usize = 2;

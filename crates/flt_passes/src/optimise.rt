@@ -65,7 +65,7 @@ fn after_pass<A: Allocator + Clone>(
         changes,
     } = from;
     if let Some(new) = passed(alloc.clone()?, &code, pass)? {
-        if is_same(&new, &code) {
+        if is_same(&new, &code) || pass.is_for_length() && new.len() > code.len() {
             return Ok(Improved {
                 code,
                 refusals,

@@ -25,6 +25,13 @@ pub enum Pass {
     Share,
 }
 
+impl Pass {
+    /// What it makes is of use only where it is no longer.
+    pub(crate) fn is_for_length(self) -> bool {
+        matches!(self, Pass::Gather)
+    }
+}
+
 /// What a pass makes of code, if it makes something.
 pub fn passed<A: Allocator + Clone>(
     alloc: A,

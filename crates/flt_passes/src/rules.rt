@@ -1,10 +1,9 @@
 //! The rules by which an instruction of new code stands for some of the old code.
 
-use crate::known::loads;
 use flt_bpf::Wide;
 use flt_bpf::operation::{AluOperation, Operand, Operation, Test, decode};
 use flt_opt::{
-    Both, Fact, asked, is_known, is_sure, is_there, reads_accumulator, reads_index,
+    Both, Fact, asked, is_known, is_load, is_sure, is_there, reads_accumulator, reads_index,
     same_accumulator, same_index,
 };
 
@@ -13,6 +12,8 @@ use flt_opt::{
 pub(crate) enum Rule {
     /// What the old one does.
     Same,
+    /// A load of the field that the old one loads.
+    Load,
     /// A test of bits, where the old one has a mask and a test for 0.
     Bits,
     /// Something of its own; the old run waits.
@@ -25,24 +26,22 @@ fn operands_agree(operation: Operation, both: &Both) -> bool {
         && (!reads_index(operation) || same_index(both))
 }
 
-/// Both load the same, as what is in their registers says.
-fn loads_same(new: Operation, new_k: u32, old: Operation, old_k: u32, both: &Both) -> bool {
-    let term = asked(new, new_k, both.new);
-    let is_length = matches!(new, Operation::LoadHeaderLength);
-    let is_other_length = matches!(old, Operation::LoadHeaderLength);
-    loads(new)
-        && loads(old)
-        && is_length == is_other_length
-        && is_known(term)
-        && term == asked(old, old_k, both.old)
-}
-
-fn does_same(new: Wide, old: Wide, both: &Both) -> bool {
+/// Both load the same field, as what is in their registers says.
+fn loads_same(new: Wide, old: Wide, both: &Both) -> bool {
     let (Some(operation), Some(old_operation)) = (decode(new.code), decode(old.code)) else {
         return false;
     };
-    new.code == old.code && new.k == old.k && operands_agree(operation, both)
-        || loads_same(operation, new.k, old_operation, old.k, both)
+    let field = asked(operation, new.k, both.new);
+    is_load(operation)
+        && is_load(old_operation)
+        && is_known(field)
+        && field == asked(old_operation, old.k, both.old)
+}
+
+fn does_same(new: Wide, old: Wide, both: &Both) -> bool {
+    new.code == old.code
+        && new.k == old.k
+        && decode(new.code).is_some_and(|operation| operands_agree(operation, both))
 }
 
 /// The old code has a mask and a test for 0 in place of a test of bits.
@@ -70,6 +69,9 @@ pub(crate) fn rule_at(new: Wide, old: &[Wide], at: usize, both: &Both) -> Option
     let insn = *old.get(at)?;
     if does_same(new, insn, both) {
         return Some(Rule::Same);
+    }
+    if loads_same(new, insn, both) {
+        return Some(Rule::Load);
     }
     let behind = old.get(at.saturating_add(1)).copied();
     if does_bits(new, insn, behind, both) {

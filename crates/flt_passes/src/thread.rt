@@ -114,6 +114,27 @@ impl<A: Allocator + Clone> Threading<A> {
         Ok(())
     }
 
+    /// Leads the edge of a node on that isn't a test, where a run with this knowledge leaves it. What
+    /// just goes on must be next, and may have to stand there once more: no edge is led to it.
+    fn lead_on(&mut self, at: usize, node: Node, known: Known) -> Result<(), AllocError> {
+        let mut to = self.led(&known, node.yes)?;
+        if self
+            .nodes
+            .get(to)
+            .is_some_and(|next| next.flow() == Flow::Goes)
+        {
+            to = node.yes;
+        }
+        if let Some(place) = self.nodes.get_mut(at) {
+            *place = Node {
+                yes: to,
+                no: to,
+                ..node
+            };
+        }
+        self.arrive(to, known)
+    }
+
     /// Leads the edges of a node on, if a run comes to it.
     fn lead(&mut self, at: usize) -> Result<(), AllocError> {
         let Some(node) = self.nodes.get(at).copied() else {
@@ -124,7 +145,7 @@ impl<A: Allocator + Clone> Threading<A> {
         };
         match node.flow() {
             Flow::Ends => Ok(()),
-            Flow::Goes => self.arrive(node.yes, known.behind(node)),
+            Flow::Goes => self.lead_on(at, node, known.behind(node)),
             Flow::Branches => self.lead_test(at, node, &known),
         }
     }

@@ -6,19 +6,29 @@ use crate::rules::rule_at;
 use flt_bpf::Wide;
 use flt_bpf::operation::{Operation, decode};
 use flt_opt::{
-    Both, Knowledge, Learnt, Piece, after_old, asked, decided, is_sure, is_there, outcome,
-    same_accumulator, same_index, test_of,
+    Both, Knowledge, Learnt, OUTCOMES, Piece, after_old, asked, decided, is_sure, is_there,
+    kept_outcomes, outcome, same_accumulator, same_index, test_of, with_newest,
 };
-use std::alloc::{AllocError, Allocator};
+use std::alloc::Allocator;
 
 /// How many instructions are passed at most.
-const FUEL: usize = 8192;
+const FUEL: usize = 2048;
 
 /// How many tests that aren't decided are passed, one on a side of the other.
-const SPLITS: usize = 3;
+const SPLITS: usize = 12;
 
-/// Of so many tests at most the outcomes are looked at.
-const MOST_LEARNT: usize = 3;
+/// The same on the way to a test, which may as well be the new code's own.
+const FEW_SPLITS: usize = 3;
+
+/// How many instructions are passed on that way from a test on that isn't decided.
+const LITTLE_FUEL: usize = 64;
+
+/// On which sides of the first tests a goal is looked for: a bit for a test, from the last one. Then
+/// it goes on along the side that comes last.
+const SIDES: [u8; 8] = [7, 0, 5, 2, 1, 6, 3, 4];
+
+/// How many bits these have.
+const BITS: u32 = 3;
 
 /// The old run at a place, and what is known of both.
 #[derive(Clone, Copy)]
@@ -33,6 +43,8 @@ struct Way {
     here: Arrival,
     /// Something was loaded that may not be there, so it may have been rejected.
     may_fail: bool,
+    /// What the last tests have shown.
+    learnt: [Learnt; OUTCOMES],
 }
 
 /// How the old run goes on.
@@ -49,8 +61,7 @@ struct Walker<'a, A: Allocator> {
     new: Wide,
     old: &'a [Wide],
     facts: &'a Facts,
-    pieces: &'a [Piece],
-    learnt: Vec<Learnt, A>,
+    pieces: &'a Vec<Piece, A>,
     /// The place where it has to come, if that is known.
     goal: Option<usize>,
     fuel: usize,
@@ -64,12 +75,6 @@ pub(crate) fn both_in_both(one: &Both, other: &Both) -> Both {
         same_accumulator: same_accumulator(one) && same_accumulator(other),
         same_index: same_index(one) && same_index(other),
     }
-}
-
-/// What the last tests have shown.
-fn newest(learnt: &[Learnt]) -> &[Learnt] {
-    let from = learnt.len().saturating_sub(MOST_LEARNT);
-    learnt.get(from..).unwrap_or(&[])
 }
 
 impl<A: Allocator> Walker<'_, A> {
@@ -96,6 +101,7 @@ impl<A: Allocator> Walker<'_, A> {
                 both: after_old(operation, k, here.both),
             },
             may_fail: way.may_fail || !succeeds,
+            ..*way
         })
     }
 
@@ -112,8 +118,8 @@ impl<A: Allocator> Walker<'_, A> {
     fn behind_test(&self, way: &Way, insn: Wide, operation: Operation) -> Step {
         let knowledge = Knowledge {
             facts: self.facts.as_slice(),
-            pieces: self.pieces,
-            learnt: newest(&self.learnt),
+            pieces: self.pieces.as_slice(),
+            learnt: &way.learnt,
         };
         let Some(test) = test_of(operation) else {
             return Step::Either;
@@ -157,109 +163,107 @@ impl<A: Allocator> Walker<'_, A> {
         None
     }
 
-    /// A way on a side of a test that isn't decided, and what the test shows there.
-    fn learn(&mut self, way: &Way, holds: bool) -> Result<Way, AllocError> {
+    /// A way on a side of a test that isn't decided, with what the test shows there.
+    fn learn(&self, way: &Way, holds: bool) -> Way {
         let Some(insn) = self.old.get(way.here.old).copied() else {
-            return Ok(*way);
+            return *way;
         };
-        if let Some(test) = decode(insn.code).and_then(|operation| test_of(operation)) {
-            let term = way.here.both.old.accumulator;
-            self.learnt.push(outcome(test, insn.k, term, holds))?;
+        let side = self.on_side(way, insn, holds);
+        match decode(insn.code).and_then(|operation| test_of(operation)) {
+            None => side,
+            Some(test) => {
+                let shown = outcome(test, insn.k, way.here.both.old.accumulator, holds);
+                Way {
+                    learnt: with_newest(way.learnt, shown),
+                    ..side
+                }
+            }
         }
-        Ok(self.on_side(way, insn, holds))
     }
 
-    /// Walks on a side of a test that isn't decided, past so many more of them.
-    #[cycle(splits)]
-    fn walk_side(
-        &mut self,
-        way: &Way,
-        holds: bool,
-        splits: usize,
-    ) -> Result<Option<Arrival>, AllocError> {
-        let len = self.learnt.len();
-        let side = self.learn(way, holds)?;
-        let arrival = self.walk_all(side, splits)?;
-        self.learnt.truncate(len);
-        Ok(arrival)
+    /// The first place from a test on that may be the goal, on these sides of the next ones.
+    fn find_goal(&mut self, from: Way, sides: u8) -> Option<usize> {
+        let mut way = from;
+        let mut tests = 0;
+        for _ in 0..self.fuel {
+            let side = sides >> BITS.saturating_sub(1).min(tests);
+            tests = tests.saturating_add(1);
+            let (next, is_goal) = self.walk(self.learn(&way, side & 1 != 0))?;
+            if is_goal {
+                return Some(next.here.old);
+            }
+            way = next;
+        }
+        None
     }
 
-    /// Walks from a test on, one side after the other of which leads to the goal.
+    /// The new code's instruction is a test.
+    fn is_to_test(&self) -> bool {
+        matches!(decode(self.new.code), Some(Operation::JumpIf(_, _)))
+    }
+
+    /// Walks from a test on to a place that is found on the sides of the next ones.
+    fn go_somewhere(&mut self, way: Way) -> Option<Arrival> {
+        let mut missed = None;
+        let mut splits = SPLITS;
+        if self.is_to_test() {
+            splits = FEW_SPLITS;
+            self.fuel = self.fuel.min(LITTLE_FUEL);
+        }
+        for sides in SIDES {
+            let goal = self.find_goal(way, sides);
+            if goal.is_none() || goal == missed {
+                continue;
+            }
+            self.goal = goal;
+            let arrival = self.go_on(way, splits);
+            self.goal = None;
+            if arrival.is_some() {
+                return arrival;
+            }
+            missed = goal;
+        }
+        None
+    }
+
+    /// Walks from a test on to the goal, one side after the other of which leads there.
     #[cycle(splits)]
-    fn go_on(&mut self, from: Way, splits: usize) -> Result<Option<Arrival>, AllocError> {
+    fn go_on(&mut self, from: Way, splits: usize) -> Option<Arrival> {
         let mut way = from;
         let mut met: Option<Arrival> = None;
         for _ in 0..self.fuel {
-            let Some((other, one)) = self.one_side(&way, splits)? else {
-                return Ok(None);
-            };
+            let (other, one) = self.one_side(&way, splits)?;
             let joined = met_by(met, &one);
-            let Some((next, is_goal)) = self.walk(other) else {
-                return Ok(None);
-            };
+            let (next, is_goal) = self.walk(other)?;
             if is_goal {
-                return Ok(Some(met_by(Some(joined), &next.here)));
+                return Some(met_by(Some(joined), &next.here));
             }
             way = next;
             met = Some(joined);
         }
-        Ok(None)
+        None
     }
 
     /// Walks on that side of a test which leads to the goal. Returns the other one, and what is
     /// known at the goal.
     #[cycle(splits)]
-    fn one_side(&mut self, way: &Way, splits: usize) -> Result<Option<(Way, Arrival)>, AllocError> {
-        let Some(fewer) = splits.checked_sub(1) else {
-            return Ok(None);
-        };
-        if let Some(one) = self.walk_side(way, true, fewer)? {
-            return Ok(Some((self.learn(way, false)?, one)));
+    fn one_side(&mut self, way: &Way, splits: usize) -> Option<(Way, Arrival)> {
+        let fewer = splits.checked_sub(1)?;
+        if let Some(one) = self.walk_side(way, true, fewer) {
+            return Some((self.learn(way, false), one));
         }
-        match self.walk_side(way, false, fewer)? {
-            None => Ok(None),
-            Some(one) => Ok(Some((self.learn(way, true)?, one))),
-        }
+        let one = self.walk_side(way, false, fewer)?;
+        Some((self.learn(way, true), one))
     }
 
-    /// Walks past tests that aren't decided, where all sides lead to one place.
+    /// Walks to the goal on a side of a test that isn't decided, past so many more of them.
     #[cycle(splits)]
-    fn walk_all(&mut self, from: Way, splits: usize) -> Result<Option<Arrival>, AllocError> {
-        let Some((way, is_goal)) = self.walk(from) else {
-            return Ok(None);
-        };
+    fn walk_side(&mut self, way: &Way, holds: bool, splits: usize) -> Option<Arrival> {
+        let (way, is_goal) = self.walk(self.learn(way, holds))?;
         if is_goal {
-            return Ok(Some(way.here));
+            return Some(way.here);
         }
-        if self.goal.is_some() {
-            return self.go_on(way, splits);
-        }
-        match self.walk_to_side(&way, true, splits)? {
-            None => self.walk_to_side(&way, false, splits),
-            found => Ok(found),
-        }
-    }
-
-    /// The same to a place that is found on one side of a test.
-    #[cycle(splits)]
-    fn walk_to_side(
-        &mut self,
-        way: &Way,
-        holds: bool,
-        splits: usize,
-    ) -> Result<Option<Arrival>, AllocError> {
-        let Some(fewer) = splits.checked_sub(1) else {
-            return Ok(None);
-        };
-        let Some(one) = self.walk_side(way, holds, fewer)? else {
-            return Ok(None);
-        };
-        let len = self.learnt.len();
-        self.goal = Some(one.old);
-        let arrival = self.go_on(*way, splits)?;
-        self.goal = None;
-        self.learnt.truncate(len);
-        Ok(arrival)
+        self.go_on(way, splits)
     }
 }
 
@@ -276,25 +280,28 @@ fn met_by(met: Option<Arrival>, one: &Arrival) -> Arrival {
 
 /// Where the old run comes to what an instruction of the new code stands for.
 pub(crate) fn walked<A: Allocator>(
-    alloc: A,
     new: Wide,
     old: &[Wide],
     facts: &Facts,
-    pieces: &[Piece],
+    pieces: &Vec<Piece, A>,
     from: &Arrival,
-) -> Result<Option<Arrival>, AllocError> {
+) -> Option<Arrival> {
     let mut walker = Walker {
         new,
         old,
         facts,
         pieces,
-        learnt: Vec::new(alloc),
         goal: None,
         fuel: FUEL,
     };
-    let way = Way {
+    let start = Way {
         here: *from,
         may_fail: false,
+        learnt: kept_outcomes(&[]),
     };
-    walker.walk_all(way, SPLITS)
+    let (way, is_goal) = walker.walk(start)?;
+    if is_goal {
+        return Some(way.here);
+    }
+    walker.go_somewhere(way)
 }

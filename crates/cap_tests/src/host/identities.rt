@@ -2,8 +2,8 @@
 
 use super::folder::{CAPTURE, enter, leave, line_of, words_of};
 use cap_streams::files::{Identify, Identity, is_plain};
-use cap_streams::held::may_wait;
 use cap_streams::overwrites::overwrites_input;
+use cap_streams::waiting::may_wait;
 use cap_streams::words;
 use capkit::Usage;
 use std::alloc::Global;

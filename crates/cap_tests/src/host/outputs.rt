@@ -2,25 +2,18 @@
 ghost use Rattle.std.specs.Prelude.{◌≤◌};
 
 use super::folder::{enter, leave};
-use cap_octet::StdOutput;
+use cap_octet::{Output, StdOutput};
 use cap_streams::ending::{finish, settle};
-use cap_streams::held::{Held, Outlet};
 use cap_streams::opening::{Target, create, target};
-use cap_streams::progress::{Counted, Progress};
 use cap_streams::stop::Stop;
 use cap_streams::streams::Created;
 use std::fs;
-use std::io::{self, BufWriter, Error, ErrorKind, IsTerminal, Read, Write};
+use std::io::{self, BufWriter, Error, ErrorKind, IsTerminal, Write};
 
 /// The buffer before the output of that name.
-fn target_of<'h>(
-    rt: &HostRuntime,
-    name: &str,
-    may_wait: bool,
-    held: &'h Held,
-) -> Option<Target<'h>> {
+fn target_of(rt: &HostRuntime, name: &str, may_wait: bool) -> Option<Target> {
     let created = create(rt, name).ok()?;
-    target(rt, created, may_wait, held).ok()
+    target(rt, created, may_wait).ok()
 }
 
 /// Whether this is the failure of a device that takes nothing.
@@ -33,13 +26,13 @@ fn makes_last_write(rt: &HostRuntime, status: u8) -> io::Result<bool>
     requires { status ≤ 2 }
 {
     let messages = BufWriter::new(rt.alloc(), Vec::new(rt.alloc()))?;
-    let held = Held::new();
-    let Some(mut target) = target_of(rt, "/dev/full", false, &held) else {
+    let Some(mut target) = target_of(rt, "/dev/full", false) else {
         return Ok(false);
     };
     let is_buffered = matches!(target.write(b"a"), Ok(1));
-    let is_written = is_full(settle(status, &mut target).err());
-    let (out, err) = (StdOutput::new(target), StdOutput::new(messages));
+    let (mut writer, _) = target.into_inner();
+    let is_written = is_full(settle(status, &mut writer).err());
+    let (out, err) = (StdOutput::new(writer), StdOutput::new(messages));
     let ended = finish(rt.alloc(), status, out, err, "out");
     Ok(is_buffered && is_written && matches!(ended, Err(Stop::WriteFailed("out"))))
 }
@@ -58,21 +51,19 @@ fn last_writes_are_made(rt: HostRuntime) {
 
 /// Whether an output is written before a read if one may wait, and else when it is flushed.
 fn is_written_in_time(rt: &HostRuntime, may_wait: bool) -> bool {
-    let progress = Progress::since(rt, None, 0);
-    let held = Held::new();
-    let Some(mut target) = target_of(rt, "/dev/full", may_wait, &held) else {
+    let Some(mut target) = target_of(rt, "/dev/full", may_wait) else {
         return false;
     };
     let is_buffered = matches!(target.write(b"a"), Ok(1));
-    let mut reader = Counted::new(b"cd".as_slice(), &progress, &held);
-    let is_read = matches!(reader.read(&mut [0u8; 2]), Ok(2));
-    let is_failed = is_full(target.write(b"b").err());
-    let is_flushed = is_full(target.flush().err());
-    is_buffered && is_read && is_failed == may_wait && is_flushed
+    let is_awaited = target.is_awaited() == may_wait;
+    let is_failed = !target.release();
+    let (mut writer, cause) = target.into_inner();
+    let is_told = cause == Some(ErrorKind::StorageFull);
+    is_buffered && is_awaited && is_failed && is_told && is_full(writer.flush().err())
 }
 
-/// Where a read may wait, an output is written before each, whose failure is told to the next write.
-/// Else it is written where its buffer is full.
+/// Where a read may wait, an output is one that is written before each. What can't be written then
+/// is told, and stays.
 #[test]
 fn failures_before_reads_are_told(rt: HostRuntime) {
     assert!(rt; is_written_in_time(&rt, true));
@@ -106,23 +97,22 @@ fn passes_on() -> bool {
     is_written && is_full(stream.flush().err()) && stream.is_terminal()
 }
 
-/// An output, whether a read may wait, the room of its buffer, and whether that is its own.
+/// An output, whether a read may wait, the room of its buffer, and whether it is awaited.
 type Buffer = (&'static str, bool, usize, bool);
 
 const BUFFERS: [Buffer; 4] = [
-    ("out", false, 65_536, true),
-    ("out", true, 0, false),
-    ("/dev/ptmx", false, 0, true),
-    ("/dev/ptmx", true, 0, true),
+    ("out", false, 65_536, false),
+    ("out", true, 1_048_576, true),
+    ("/dev/ptmx", false, 0, false),
+    ("/dev/ptmx", true, 0, false),
 ];
 
 /// Whether an output has this buffer.
 fn has_buffer(rt: &HostRuntime, row: Buffer) -> bool {
-    let (name, may_wait, room, is_direct) = row;
-    let held = Held::new();
-    match target_of(rt, name, may_wait, &held) {
-        Some(mut target) => {
-            target.capacity() == room && matches!(target.get_mut(), Outlet::Direct(_)) == is_direct
+    let (name, may_wait, room, is_awaited) = row;
+    match target_of(rt, name, may_wait) {
+        Some(target) => {
+            target.is_awaited() == is_awaited && target.into_inner().0.capacity() == room
         }
         None => false,
     }

@@ -2,13 +2,13 @@
 
 use super::folder::{CAPTURE, LISTING, enter, leave, line_of, words_of};
 use super::streams::Streams;
-use cap_streams::held::{Held, Outlet};
 use cap_streams::progress::{Progress, can_write_over, is_in_foreground, start_of, total_size};
 use cap_streams::runner::run_command;
 use cap_tools::Jobs;
 use capkit::Line;
 use std::alloc::{AllocError, Global};
-use std::io::{IsTerminal, Write};
+use std::fs;
+use std::io::{self, IsTerminal};
 use std::time::Instant;
 
 /// The bytes of a MiB.
@@ -117,10 +117,21 @@ fn progress_is_of_plain_files(rt: HostRuntime) {
     assert!(rt; leave(&rt).is_ok());
 }
 
-/// Whether a run counts what it reads, erases the line that stands, and holds back what is waited
-/// for.
-fn counts_and_holds_back(rt: &HostRuntime) -> bool {
-    let Some(line) = line_of(rt.alloc(), "merge -w - in /dev/null") else {
+/// Writes a capture of more than twice the bytes that are read at once.
+fn write_long(rt: &HostRuntime) -> io::Result<()> {
+    let mut bytes = Vec::new(rt.alloc());
+    bytes.extend_from_slice(&CAPTURE[..24])?;
+    for _ in 0..5000 {
+        bytes.extend_from_slice(&CAPTURE[24..54])?;
+    }
+    fs::write(rt, "long", &bytes)
+}
+
+/// Whether a run counts what it reads, writes out what is waited for before it reads on, and erases
+/// the line that stands. What can't be written ends it there.
+fn counts_up_to_failed_write(rt: &HostRuntime) -> bool {
+    let words = "merge -a -F pcap -w - long /dev/null";
+    let (Ok(()), Some(line)) = (write_long(rt), line_of(rt.alloc(), words)) else {
         return false;
     };
     let Line {
@@ -129,25 +140,24 @@ fn counts_and_holds_back(rt: &HostRuntime) -> bool {
         output: _,
         code: _,
     } = line;
-    let progress = Progress::since(rt, Instant::now(rt).ok(), 2 * CAPTURE.len() as u64);
-    let held = Held::new();
+    let progress = Progress::since(rt, Instant::now(rt).ok(), 655_360);
     let streams = Streams::new(rt.alloc(), None);
     progress.count_at(&streams, 0, 2);
     let is_begun = streams.have("", "\r\x1b[K0% read, 0 MiB/s");
-    let is_fault = run_command::<Jobs>(rt, command, inputs, "/dev/full", &progress, &held) == 1;
+    let is_fault = run_command::<Jobs>(rt, command, inputs, "/dev/full", &progress) == 1;
     let streams = Streams::new(rt.alloc(), None);
     progress.erase(&streams);
     let is_erased = streams.have("", "");
     progress.count_at(&streams, 0, 3);
-    let is_counted = streams.have("", "\r\x1b[K50% read, 0 MiB/s");
-    let is_held = matches!(Outlet::Held(&held).write(b"a"), Ok(1));
-    is_begun && is_fault && is_erased && is_counted && is_held
+    let is_counted = streams.have("", "\r\x1b[K10% read, 0 MiB/s");
+    is_begun && is_fault && is_erased && is_counted
 }
 
-/// A run counts what it reads, erases the line that stands, and holds back what is waited for.
+/// A run counts what it reads, writes out what is waited for before it reads on, and erases the line
+/// that stands.
 #[test]
-fn runs_count_and_hold_back(rt: HostRuntime) {
+fn runs_count_up_to_failed_writes(rt: HostRuntime) {
     assert!(rt; enter(&rt, "counted").is_ok());
-    assert!(rt; counts_and_holds_back(&rt));
+    assert!(rt; counts_up_to_failed_write(&rt));
     assert!(rt; leave(&rt).is_ok());
 }

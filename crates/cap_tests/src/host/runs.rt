@@ -1,7 +1,6 @@
 //! Runs over files: what is opened, read, created and left alone.
 
 use super::folder::{CAPTURE, enter, leave, line_of, words_of};
-use cap_streams::held::Held;
 use cap_streams::opening::{create, open, read_listing};
 use cap_streams::progress::Progress;
 use cap_streams::runner::run;
@@ -161,8 +160,7 @@ fn tells(alloc: Global, stop: Option<Stop<'_>>, text: &str) -> bool {
 fn tells_second_input(rt: &HostRuntime) -> Result<bool, AllocError> {
     let names = words_of(rt.alloc(), "/dev/null none/none")?;
     let progress = Progress::since(rt, None, 0);
-    let held = Held::new();
-    let opened = open(rt, names.as_slice(), &progress, &held).err();
+    let opened = open(rt, names.as_slice(), &progress).err();
     Ok(tells(rt.alloc(), opened, "none/none: cannot open"))
 }
 

@@ -1,0 +1,38 @@
+//! What is waited for: what a run has decided goes out before a read that may wait, so that it is
+//! read as it comes, and is there if the run is stopped while it waits.
+ghost use Rattle.std.specs.Prelude.{◌≡◌, false, true};
+
+use crate::files::{Identify, is_plain};
+use crate::overwrites::input_path;
+
+/// Whether a read of some input may wait: it is no plain file.
+pub fn may_wait(files: &impl Identify, names: &[String]) -> bool {
+    for name in names {
+        if !is_plain(files, input_path(name)) {
+            return true;
+        }
+    }
+    false
+}
+
+/// When what a run writes leaves its buffer.
+#[derive(Drop)]
+pub(crate) enum Buffering {
+    /// At once: a terminal shows each line, report or listing as it is written.
+    AtOnce,
+    BeforeReads,
+    WhenFull,
+}
+
+/// When an output's buffer is written out.
+pub(crate) fn buffering_of(is_terminal: bool, may_wait: bool) -> Buffering
+    ensures terminal { is_terminal ≡ true → result ≡ Buffering.AtOnce }
+    ensures read { is_terminal ≡ false → may_wait ≡ true → result ≡ Buffering.BeforeReads }
+    ensures full { is_terminal ≡ false → may_wait ≡ false → result ≡ Buffering.WhenFull }
+{
+    match (is_terminal, may_wait) {
+        (true, _) => Buffering::AtOnce,
+        (false, true) => Buffering::BeforeReads,
+        (false, false) => Buffering::WhenFull,
+    }
+}
