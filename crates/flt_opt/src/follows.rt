@@ -12,7 +12,7 @@ use crate::note::{Both, Fact, Load, Piece, Registers, Span, Term};
 use crate::terms::{is_known, same_term};
 
 /// What has to be there for a term to have a value.
-fn source(term: Term) -> Term
+pub fn source(term: Term) -> Term
     ensures { result ≡ source term }
 {
     match term {

@@ -11,7 +11,7 @@ mod validator;
 mod walk;
 
 pub use facts::{Knowledge, Learnt, OUTCOMES, decided, kept_outcomes, outcome, with_newest};
-pub use follows::{is_there, same_accumulator, same_index};
+pub use follows::{is_there, same_accumulator, same_index, source};
 pub use note::{Both, Fact, Load, Note, Notes, Piece, Registers, Span, Term};
 pub use terms::{
     after, after_both, after_loads, after_new, after_old, asked, is_jump, is_known, is_load,

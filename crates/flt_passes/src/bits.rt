@@ -12,44 +12,44 @@ fn next(nodes: &[Node], node: Node) -> Option<Node> {
 
 fn is_mask(node: Node) -> bool {
     matches!(
-        node.operation(),
-        Some(Operation::Compute(AluOperation::And, Operand::Constant))
+        node.operation,
+        Operation::Compute(AluOperation::And, Operand::Constant)
     )
 }
 
 fn is_test_for_zero(node: Node) -> bool {
     matches!(
-        node.operation(),
-        Some(Operation::JumpIf(Test::Equal, Operand::Constant))
+        node.operation,
+        Operation::JumpIf(Test::Equal, Operand::Constant)
     ) && node.k == 0
 }
 
 fn is_number(node: Node) -> bool {
     matches!(
-        node.operation(),
-        Some(Operation::Load(Register::Accumulator, Source::Immediate))
+        node.operation,
+        Operation::Load(Register::Accumulator, Source::Immediate)
     )
 }
 
 fn is_header_length(node: Node) -> bool {
-    matches!(node.operation(), Some(Operation::LoadHeaderLength))
+    matches!(node.operation, Operation::LoadHeaderLength)
 }
 
 fn is_sum(node: Node) -> bool {
     matches!(
-        node.operation(),
-        Some(Operation::Compute(AluOperation::Add, Operand::IndexRegister))
+        node.operation,
+        Operation::Compute(AluOperation::Add, Operand::IndexRegister)
     )
 }
 
 fn is_copy(node: Node) -> bool {
-    matches!(node.operation(), Some(Operation::CopyToIndex))
+    matches!(node.operation, Operation::CopyToIndex)
 }
 
 /// How wide a load behind X is.
 fn indirect_width(node: Node) -> Option<Width> {
-    match node.operation() {
-        Some(Operation::LoadIndirect(width)) => Some(width),
+    match node.operation {
+        Operation::LoadIndirect(width) => Some(width),
         _ => None,
     }
 }
@@ -62,7 +62,7 @@ fn bits(nodes: &[Node], lives: &[Live], mask: Node) -> Option<Node> {
         return None;
     }
     Some(Node {
-        code: Operation::JumpIf(Test::AnyBit, Operand::Constant).code(),
+        operation: Operation::JumpIf(Test::AnyBit, Operand::Constant),
         k: mask.k,
         yes: test.no,
         no: test.yes,
@@ -78,7 +78,7 @@ fn load(nodes: &[Node], lives: &[Live], number: Node) -> Option<Node> {
         return None;
     }
     Some(Node {
-        code: Operation::LoadAbsolute(indirect_width(load)?).code(),
+        operation: Operation::LoadAbsolute(indirect_width(load)?),
         k: number.k.wrapping_add(load.k),
         ..load
     })
@@ -102,28 +102,32 @@ fn header_load(nodes: &[Node], lives: &[Live], number: Node) -> Option<(Node, No
     Some((length, Node { k, ..load }))
 }
 
-/// A node in place of the one with an index, and those that it joins. A node behind it is put last.
+/// A node in place of another one and of those that it joins, if there is one. A node behind it is
+/// put last.
 fn joined<A: Allocator>(
     nodes: &mut Vec<Node, A>,
     lives: &[Live],
     node: Node,
-) -> Result<Node, AllocError> {
-    if let Some(test) = bits(nodes, lives, node) {
-        return Ok(test);
+) -> Result<Option<Node>, AllocError> {
+    if is_mask(node) {
+        return Ok(bits(nodes, lives, node));
+    }
+    if !is_number(node) {
+        return Ok(None);
     }
     if let Some(load) = load(nodes, lives, node) {
-        return Ok(load);
+        return Ok(Some(load));
     }
-    if let Some((length, load)) = header_load(nodes, lives, node) {
-        let yes = nodes.len();
-        nodes.push(load)?;
-        return Ok(Node {
-            yes,
-            no: yes,
-            ..length
-        });
-    }
-    Ok(node)
+    let Some((length, load)) = header_load(nodes, lives, node) else {
+        return Ok(None);
+    };
+    let yes = nodes.len();
+    nodes.push(load)?;
+    Ok(Some(Node {
+        yes,
+        no: yes,
+        ..length
+    }))
 }
 
 /// The graph with one node, or two, for several. Its edges lead on.
@@ -131,14 +135,22 @@ pub(crate) fn with_bits<A: Allocator + Clone>(
     alloc: A,
     mut nodes: Vec<Node, A>,
 ) -> Result<Vec<Node, A>, AllocError> {
+    if !nodes.iter().any(|node| is_mask(*node) || is_number(*node)) {
+        return Ok(nodes);
+    }
     let lives = lives(alloc.clone()?, &nodes)?;
+    let mut is_changed = false;
     for at in 0..nodes.len() {
-        if let Some(node) = nodes.get(at).copied() {
-            let node = joined(&mut nodes, &lives, node)?;
-            if let Some(place) = nodes.get_mut(at) {
-                *place = node;
-            }
+        if let Some(node) = nodes.get(at).copied()
+            && let Some(other) = joined(&mut nodes, &lives, node)?
+            && let Some(place) = nodes.get_mut(at)
+        {
+            *place = other;
+            is_changed = true;
         }
+    }
+    if !is_changed {
+        return Ok(nodes);
     }
     ordered(alloc, &nodes, 0)
 }

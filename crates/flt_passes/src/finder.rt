@@ -3,6 +3,7 @@
 
 use crate::graph::behind;
 use crate::known::{Facts, NO_FACTS, facts_after, facts_behind, facts_in_both};
+use crate::live::{Live, Reads, is_of_use, live_at, lives_in};
 use crate::rules::{Rule, may_be_own, rule_at};
 use crate::sets::pieces_for_all;
 use crate::walk::{Arrival, both_in_both, walked};
@@ -76,6 +77,8 @@ struct Finder<'a, A: Allocator> {
     alloc: A,
     new: &'a [Wide],
     old: &'a [Wide],
+    new_lives: Vec<Live, A>,
+    old_lives: Vec<Live, A>,
     found: Found<A>,
     drafts: Vec<Draft, A>,
     /// The drafts that are done.
@@ -94,13 +97,6 @@ fn draft_note(new: usize, old: usize) -> Note {
         yes: 0,
         no: 0,
     }
-}
-
-fn returns(insn: Wide) -> bool {
-    matches!(
-        decode(insn.code),
-        None | Some(Operation::ReturnConstant | Operation::ReturnAccumulator)
-    )
 }
 
 impl<A: Allocator + Clone> Finder<'_, A> {
@@ -161,6 +157,21 @@ impl<A: Allocator + Clone> Finder<'_, A> {
         arrival.or(is_own.then_some(way.old))
     }
 
+    /// What both runs read that are on a way.
+    fn reads(&self, way: &Way) -> [Reads; 2] {
+        let both = &way.old.both;
+        [
+            Reads {
+                live: live_at(&self.new_lives, way.new),
+                accumulator: both.new.accumulator,
+            },
+            Reads {
+                live: live_at(&self.old_lives, way.old.old),
+                accumulator: both.old.accumulator,
+            },
+        ]
+    }
+
     /// The index of the note where a way leads, if one is found.
     fn arrive(&mut self, way: &Way) -> Result<Option<usize>, AllocError> {
         let Some(new) = self.new.get(way.new).copied() else {
@@ -169,8 +180,9 @@ impl<A: Allocator + Clone> Finder<'_, A> {
         let Some(old) = self.placed(way, new) else {
             return Ok(None);
         };
-        let facts = if returns(new) { NO_FACTS } else { way.facts };
-        let way = Way { old, facts, ..*way };
+        let mut way = Way { old, ..*way };
+        let reads = self.reads(&way);
+        way.facts.keep_of_use(&reads);
         match self.draft_at(way.new, old.old) {
             None => self.add_draft(&way).map(Some),
             Some(index) => self.join(index, &way).map(Some),
@@ -234,19 +246,22 @@ impl<A: Allocator + Clone> Finder<'_, A> {
         holds: bool,
     ) -> Result<Way, AllocError> {
         let both = &way.old.both;
-        let mut facts = way.facts;
-        if let Some(test) = decode(insn.code).and_then(|operation| test_of(operation)) {
-            let learnt = outcome(test, insn.k, both.new.accumulator, holds);
-            facts = facts_behind(&mut self.found.pieces, &facts, &learnt)?;
-        }
-        Ok(Way {
+        let mut on_side = Way {
             new: behind(way.new, if holds { insn.yes } else { insn.no }),
             old: Arrival {
                 old: self.old_behind(rule, way.old.old, holds),
                 both: both_behind(rule, both),
             },
-            facts,
-        })
+            facts: way.facts,
+        };
+        if let Some(test) = decode(insn.code).and_then(|operation| test_of(operation)) {
+            let learnt = outcome(test, insn.k, both.new.accumulator, holds);
+            if is_of_use(learnt.term, &self.reads(&on_side)) {
+                let pieces = &mut self.found.pieces;
+                on_side.facts = facts_behind(pieces, &way.facts, &learnt)?;
+            }
+        }
+        Ok(on_side)
     }
 
     /// The index of the note on a side of a test, if it is found.
@@ -382,6 +397,8 @@ pub(crate) fn find_notes<A: Allocator + Clone>(
         alloc: alloc.clone()?,
         new,
         old,
+        new_lives: lives_in(alloc.clone()?, new)?,
+        old_lives: lives_in(alloc.clone()?, old)?,
         found: Found {
             notes: Vec::new(alloc.clone()?),
             facts: Vec::new(alloc.clone()?),

@@ -3,7 +3,7 @@
 use crate::graph::{Flow, Node};
 use crate::known::{Known, loads};
 use crate::live::{Live, live_at};
-use flt_bpf::operation::{Operation, decode};
+use flt_bpf::operation::Operation;
 use flt_opt::{
     Both, Knowledge, Learnt, Piece, Registers, Term, after, asked, decided, is_known, is_sure,
     is_there, outcome, sets_accumulator, sets_index,
@@ -12,9 +12,6 @@ use std::alloc::{AllocError, Allocator};
 
 /// How many nodes are passed at most.
 const FUEL: usize = 32;
-
-/// How many tests that aren't decided are passed, one on a side of the other.
-const SPLITS: usize = 2;
 
 /// A run at a node.
 #[derive(Clone, Copy)]
@@ -93,9 +90,7 @@ impl<A: Allocator> Follower<'_, A> {
 
     /// Behind a node that isn't a test.
     fn behind(&self, way: &Way, node: Node) -> Step {
-        let Some(operation) = decode(node.code) else {
-            return Step::Ends;
-        };
+        let operation = node.operation;
         let succeeds = self.succeeds(operation, node.k, way.registers);
         if !succeeds && !loads(operation) {
             return Step::Ends;
@@ -209,7 +204,29 @@ impl<A: Allocator> Follower<'_, A> {
     }
 }
 
-/// The farthest node where a run may go on in place of one, by what is known of it.
+impl<A: Allocator> Follower<'_, A> {
+    /// The farthest node where a run may go on in place of one, as far as all tests are decided.
+    fn straight(&self, from: Way) -> usize {
+        let mut way = from;
+        let mut farthest = from.at;
+        for _ in 0..FUEL {
+            let Some(node) = self.nodes.get(way.at).copied() else {
+                break;
+            };
+            if self.fits(&way, node) {
+                farthest = way.at;
+            }
+            match self.step(&way, node) {
+                Step::To(next) => way = next,
+                Step::Ends | Step::Either => break,
+            }
+        }
+        farthest
+    }
+}
+
+/// The farthest node where a run may go on in place of one, by what is known of it. So many tests
+/// that aren't decided are passed, one on a side of the other.
 pub(crate) fn followed<A: Allocator + Clone>(
     alloc: A,
     nodes: &[Node],
@@ -217,6 +234,7 @@ pub(crate) fn followed<A: Allocator + Clone>(
     pieces: &[Piece],
     known: &Known,
     from: usize,
+    splits: usize,
 ) -> Result<usize, AllocError> {
     let mut follower = Follower {
         nodes,
@@ -234,6 +252,9 @@ pub(crate) fn followed<A: Allocator + Clone>(
         keeps_index: true,
         may_fail: false,
     };
-    follower.follow_all(way, SPLITS)?;
+    if splits == 0 {
+        return Ok(follower.straight(way));
+    }
+    follower.follow_all(way, splits)?;
     Ok(follower.trail.last().copied().unwrap_or(from))
 }

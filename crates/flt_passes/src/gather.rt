@@ -5,8 +5,11 @@ use crate::graph::Node;
 use crate::held::{Field, Held, field_of, held_at};
 use crate::live::{Live, live_at, lives};
 use crate::order::ordered;
-use flt_bpf::operation::{Operand, Operation, Test};
+use flt_bpf::operation::{Operand, Operation, Test, decode};
 use std::alloc::{AllocError, Allocator};
+
+/// So many tests can be put in another order.
+const LEAST: usize = 3;
 
 /// A test of a chain: whether a field is a number.
 #[derive(Clone, Copy)]
@@ -39,8 +42,8 @@ struct Sorted<A: Allocator> {
 
 fn is_equality(node: Node) -> bool {
     matches!(
-        node.operation(),
-        Some(Operation::JumpIf(Test::Equal, Operand::Constant))
+        node.operation,
+        Operation::JumpIf(Test::Equal, Operand::Constant)
     )
 }
 
@@ -178,10 +181,10 @@ impl<A: Allocator + Clone> Gathering<A> {
         held: Field,
         no: usize,
     ) -> Result<usize, AllocError> {
-        let code = Operation::JumpIf(Test::Equal, Operand::Constant).code();
+        let operation = Operation::JumpIf(Test::Equal, Operand::Constant);
         let yes = chain.target;
         let test = self.push(Node {
-            code,
+            operation,
             k: link.number,
             yes,
             no,
@@ -189,8 +192,11 @@ impl<A: Allocator + Clone> Gathering<A> {
         if link.field == held {
             return Ok(test);
         }
+        let Some(operation) = decode(link.field.code) else {
+            return Ok(test);
+        };
         self.push(Node {
-            code: link.field.code,
+            operation,
             k: link.field.k,
             yes: test,
             no: test,
@@ -246,6 +252,9 @@ pub(crate) fn gathered<A: Allocator + Clone>(
     alloc: A,
     nodes: Vec<Node, A>,
 ) -> Result<Vec<Node, A>, AllocError> {
+    if nodes.iter().filter(|node| is_equality(**node)).count() < LEAST {
+        return Ok(nodes);
+    }
     let count = nodes.len();
     let mut gathering = Gathering {
         alloc: alloc.clone()?,
@@ -257,6 +266,9 @@ pub(crate) fn gathered<A: Allocator + Clone>(
     };
     for head in 0..count {
         gathering.gather(head)?;
+    }
+    if gathering.nodes.len() == count {
+        return Ok(gathering.nodes);
     }
     ordered(alloc, &gathering.nodes, 0)
 }

@@ -19,12 +19,12 @@ pub(crate) enum Flow {
     Branches,
 }
 
-/// How a run goes on behind an instruction with a code. A jump is no node.
-fn flow_of(code: u16) -> Flow {
-    match decode(code) {
-        None | Some(Operation::ReturnConstant | Operation::ReturnAccumulator) => Flow::Ends,
-        Some(Operation::JumpIf(_, _)) => Flow::Branches,
-        Some(_) => Flow::Goes,
+/// How a run goes on behind an operation. A jump is no node.
+fn flow_of(operation: Operation) -> Flow {
+    match operation {
+        Operation::ReturnConstant | Operation::ReturnAccumulator => Flow::Ends,
+        Operation::JumpIf(_, _) => Flow::Branches,
+        _ => Flow::Goes,
     }
 }
 
@@ -78,9 +78,9 @@ impl Indices<'_> {
 }
 
 /// An instruction of a graph, whose nodes are named by their indices.
-#[derive(Clone, Copy, PartialEq, Eq, Hash)]
+#[derive(Clone, Copy)]
 pub(crate) struct Node {
-    pub code: u16,
+    pub operation: Operation,
     pub k: u32,
     /// Where a run goes on; behind a test, if it holds.
     pub yes: usize,
@@ -95,52 +95,51 @@ pub(crate) fn behind(at: usize, skipped: u32) -> usize {
 
 impl Node {
     /// The node of an instruction, where runs come to the nodes with these indices.
-    fn new(at: usize, insn: Wide, indices: &Indices) -> Node {
-        let (yes, no) = match flow_of(insn.code) {
+    fn new(at: usize, insn: Wide, operation: Operation, indices: &Indices) -> Node {
+        let (yes, no) = match flow_of(operation) {
             Flow::Ends => (NOWHERE, NOWHERE),
             Flow::Goes => (indices.behind(at, 0), indices.behind(at, 0)),
             Flow::Branches => (indices.behind(at, insn.yes), indices.behind(at, insn.no)),
         };
         Node {
-            code: insn.code,
+            operation,
             k: insn.k,
             yes,
             no,
         }
     }
 
-    pub(crate) fn operation(&self) -> Option<Operation> {
-        decode(self.code)
-    }
-
     /// What it asks of A and a number, if it is a test of that kind.
     pub(crate) fn test(&self) -> Option<Test> {
-        test_of(self.operation()?)
+        test_of(self.operation)
     }
 
     pub(crate) fn flow(&self) -> Flow {
-        flow_of(self.code)
+        flow_of(self.operation)
     }
 
     /// It returns 0.
     pub(crate) fn rejects(&self) -> bool {
-        matches!(self.operation(), Some(Operation::ReturnConstant)) && self.k == 0
+        matches!(self.operation, Operation::ReturnConstant) && self.k == 0
     }
 }
 
-/// The graph of some code. A run begins at its first node. A jump is no node: what leads to it leads
-/// on to where it goes.
+/// The graph of some code, unless an instruction has an unknown code. A run begins at its first node.
+/// A jump is no node: what leads to it leads on to where it goes.
 pub(crate) fn nodes_of<A: Allocator + Clone>(
     alloc: A,
     code: &[Wide],
-) -> Result<Vec<Node, A>, AllocError> {
+) -> Result<Option<Vec<Node, A>>, AllocError> {
     let places = places_of(alloc.clone()?, code)?;
     let indices = Indices { places: &places };
     let mut nodes = Vec::with_capacity(alloc, indices.count())?;
     for (at, insn) in code.iter().enumerate() {
-        if !jumps(insn.code) && indices.index(at) < indices.count() {
-            nodes.push(Node::new(at, *insn, &indices))?;
+        let Some(operation) = decode(insn.code) else {
+            return Ok(None);
+        };
+        if !is_jump(operation) && indices.index(at) < indices.count() {
+            nodes.push(Node::new(at, *insn, operation, &indices))?;
         }
     }
-    Ok(nodes)
+    Ok(Some(nodes))
 }

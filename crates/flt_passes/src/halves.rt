@@ -8,7 +8,7 @@ use std::alloc::{AllocError, Allocator};
 /// A test of a number with a constant.
 pub(crate) fn test_node(test: Test, k: u32, yes: usize, no: usize) -> Node {
     Node {
-        code: Operation::JumpIf(test, Operand::Constant).code(),
+        operation: Operation::JumpIf(test, Operand::Constant),
         k,
         yes,
         no,

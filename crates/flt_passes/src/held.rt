@@ -23,9 +23,9 @@ pub(crate) enum Held {
 
 /// The field that a node loads into A.
 pub(crate) fn field_of(node: Node) -> Option<Field> {
-    match node.operation() {
-        Some(Operation::LoadAbsolute(_) | Operation::LoadIndirect(_)) => Some(Field {
-            code: node.code,
+    match node.operation {
+        Operation::LoadAbsolute(_) | Operation::LoadIndirect(_) => Some(Field {
+            code: node.operation.code(),
             k: node.k,
         }),
         _ => None,

@@ -1,15 +1,16 @@
 //! What is known of a run where it comes to a node.
 
 use crate::graph::Node;
+use crate::live::{Reads, is_of_use};
 use crate::sets::{ALL, narrowed, united};
 use flt_bpf::operation::{Operation, Test};
 use flt_opt::{
-    Fact, Knowledge, Learnt, Piece, Registers, Span, Term, after, asked, decided, is_known,
+    Fact, Knowledge, Learnt, Piece, Registers, Span, Term, after, asked, decided, is_known, source,
 };
 use std::alloc::{AllocError, Allocator};
 
 /// The most facts that are known at once. The oldest one goes.
-const MOST_FACTS: usize = 8;
+const MOST_FACTS: usize = 4;
 
 const NO_FACT: Fact = Fact {
     term: Term::Anything,
@@ -50,6 +51,9 @@ impl Facts {
         k: u32,
         term: Term,
     ) -> Option<bool> {
+        if !self.may_tell(term) {
+            return None;
+        }
         let knowledge = Knowledge {
             facts: self.as_slice(),
             pieces,
@@ -58,12 +62,47 @@ impl Facts {
         decided(test?, k, term, &knowledge)
     }
 
+    /// Something may be known of a term's numbers.
+    fn may_tell(&self, term: Term) -> bool {
+        let is_bounded = match term {
+            Term::Anything => return false,
+            Term::Number(_) => true,
+            Term::Field(load) => load.mask.is_some(),
+            _ => false,
+        };
+        let field = source(term);
+        is_bounded
+            || self
+                .as_slice()
+                .iter()
+                .any(|fact| source(fact.term) == field)
+    }
+
     /// One more fact, on a term that no other one is on.
     fn push(&mut self, fact: Fact) {
         if let Some(place) = self.list.get_mut(self.len) {
             *place = fact;
             self.len = self.len.saturating_add(1);
         }
+    }
+
+    pub(crate) fn is_empty(&self) -> bool {
+        self.len == 0
+    }
+
+    /// Drops the facts that are of no use where a run reads so much and A holds a term.
+    pub(crate) fn keep_of_use(&mut self, reads: &[Reads]) {
+        let mut kept: usize = 0;
+        for at in 0..self.len {
+            if let Some(fact) = self.list.get(at).copied()
+                && is_of_use(fact.term, reads)
+                && let Some(place) = self.list.get_mut(kept)
+            {
+                *place = fact;
+                kept = kept.saturating_add(1);
+            }
+        }
+        self.len = kept;
     }
 
     /// The facts with this one, in place of another one on its term, or of the oldest one.
@@ -173,12 +212,9 @@ impl Known {
 
     /// What is known behind a node that is no test.
     pub(crate) fn behind(&self, node: Node) -> Known {
-        match node.operation() {
-            None => *self,
-            Some(operation) => Known {
-                registers: after(operation, node.k, self.registers),
-                facts: facts_after(&self.facts, operation, node.k, self.registers),
-            },
+        Known {
+            registers: after(node.operation, node.k, self.registers),
+            facts: facts_after(&self.facts, node.operation, node.k, self.registers),
         }
     }
 

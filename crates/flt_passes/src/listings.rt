@@ -37,7 +37,7 @@ fn rows_of(alloc: Global, code: &[Wide]) -> Result<Vec<Row>, AllocError> {
 /// The rows that a pass makes of others.
 fn made(alloc: Global, rows: &[Row], pass: Pass) -> Result<Vec<Row>, AllocError> {
     let code = code_of(alloc, rows)?;
-    let made = passed(alloc, &code, pass)?.unwrap_or(Vec::new(alloc));
+    let made = passed(alloc, &code, &[pass])?.unwrap_or(Vec::new(alloc));
     rows_of(alloc, &made)
 }
 

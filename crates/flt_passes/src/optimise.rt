@@ -14,6 +14,24 @@ use std::alloc::{AllocError, Allocator};
 /// How often all passes are made, unless nothing changes before.
 const TURNS: usize = 4;
 
+/// The passes of the first turn, in the order in which they are made.
+const FIRST: [Pass; 5] = [
+    Pass::Thread,
+    Pass::Gather,
+    Pass::Bits,
+    Pass::Search,
+    Pass::Share,
+];
+
+/// Those of later turns.
+const LATER: [Pass; 5] = [
+    Pass::ThreadFar,
+    Pass::Gather,
+    Pass::Bits,
+    Pass::Search,
+    Pass::Share,
+];
+
 /// Code that passes made of other code.
 #[derive(Drop)]
 pub struct Improved<A: Allocator> {
@@ -51,11 +69,24 @@ fn is_same(one: &[Wide], other: &[Wide]) -> bool {
             .all(|(insn, other)| is_same_insn(insn, other))
 }
 
-/// Code after one more pass.
-fn after_pass<A: Allocator + Clone>(
+/// What passes make of code, if it is of use.
+fn useful<A: Allocator + Clone>(
+    alloc: A,
+    code: &[Wide],
+    passes: &[Pass],
+) -> Result<Option<Vec<Wide, A>>, AllocError> {
+    let Some(new) = passed(alloc, code, passes)? else {
+        return Ok(None);
+    };
+    let is_useful = new.len() <= code.len() && !is_same(&new, code);
+    Ok(is_useful.then_some(new))
+}
+
+/// Code after these passes, if they make something of use that is seen to do the same.
+fn after_passes<A: Allocator + Clone>(
     alloc: A,
     from: Improved<A>,
-    pass: Pass,
+    passes: &[Pass],
 ) -> Result<Improved<A>, AllocError>
     ensures { IfOk result (λ made. Improves made.code.items from.code.items) }
 {
@@ -64,21 +95,19 @@ fn after_pass<A: Allocator + Clone>(
         refusals,
         changes,
     } = from;
-    if let Some(new) = passed(alloc.clone()?, &code, pass)? {
-        if is_same(&new, &code) || pass.is_for_length() && new.len() > code.len() {
-            return Ok(Improved {
-                code,
-                refusals,
-                changes,
-            });
-        }
-        if is_replaced(alloc, &code, &new)? {
-            return Ok(Improved {
-                code: new,
-                refusals,
-                changes: changes.saturating_add(1),
-            });
-        }
+    let Some(new) = useful(alloc.clone()?, &code, passes)? else {
+        return Ok(Improved {
+            code,
+            refusals,
+            changes,
+        });
+    };
+    if is_replaced(alloc, &code, &new)? {
+        return Ok(Improved {
+            code: new,
+            refusals,
+            changes: changes.saturating_add(1),
+        });
     }
     Ok(Improved {
         code,
@@ -87,17 +116,45 @@ fn after_pass<A: Allocator + Clone>(
     })
 }
 
-/// Code after one more turn of all passes.
+/// Code after these passes, one after the other.
 #[tactic(auto, using(crate::proofs::Improving::improves_over))]
-fn after_turn<A: Allocator + Clone>(alloc: A, from: Improved<A>) -> Result<Improved<A>, AllocError>
+fn after_each<A: Allocator + Clone>(
+    alloc: A,
+    from: Improved<A>,
+    passes: &[Pass],
+) -> Result<Improved<A>, AllocError>
     ensures { IfOk result (λ made. Improves made.code.items from.code.items) }
 {
-    let threaded = after_pass(alloc.clone()?, from, Pass::Thread)?;
-    let gathered = after_pass(alloc.clone()?, threaded, Pass::Gather)?;
-    let joined = after_pass(alloc.clone()?, gathered, Pass::Bits)?;
-    let searched = after_pass(alloc.clone()?, joined, Pass::Search)?;
-    let shared = after_pass(alloc, searched, Pass::Share)?;
-    Ok(shared)
+    let mut made = from;
+    // The label names the loop in its proof.
+    'passes: for pass in passes {
+        made = after_passes(alloc.clone()?, made, &[*pass])?;
+    }
+    Ok(made)
+}
+
+/// Code after one more turn: by all of its passes at once, or by one after the other where what
+/// they make of it isn't seen to do the same.
+#[tactic(auto, using(crate::proofs::Improving::improves_over))]
+fn after_turn<A: Allocator + Clone>(
+    alloc: A,
+    from: Improved<A>,
+    passes: &[Pass],
+) -> Result<Improved<A>, AllocError>
+    ensures { IfOk result (λ made. Improves made.code.items from.code.items) }
+{
+    let refusals = from.refusals;
+    let made = after_passes(alloc.clone()?, from, passes)?;
+    if made.refusals == refusals {
+        return Ok(made);
+    }
+    let Improved { code, changes, .. } = made;
+    let from = Improved {
+        code,
+        refusals,
+        changes,
+    };
+    after_each(alloc, from, passes)
 }
 
 /// Code that returns what this code returns, with fewer instructions or on shorter ways, and how
@@ -115,10 +172,11 @@ pub fn optimised_counted<A: Allocator + Clone>(
         changes: 0,
     };
     // The label names the loop in its proof.
-    'turns: for _ in 0..TURNS {
+    'turns: for turn in 0..TURNS {
         let before = made.changes;
-        made = after_turn(alloc.clone()?, made)?;
-        if made.changes == before {
+        let passes = if turn == 0 { &FIRST } else { &LATER };
+        made = after_turn(alloc.clone()?, made, passes)?;
+        if made.changes == before && turn > 0 {
             break;
         }
     }

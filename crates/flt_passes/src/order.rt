@@ -3,87 +3,76 @@
 use crate::graph::{NOWHERE, Node};
 use std::alloc::{AllocError, Allocator};
 
-/// What a search of a graph has to do with a node.
+/// How far a search of a graph is with a node.
 #[derive(Clone, Copy)]
-enum Work {
-    Enter(usize),
-    Leave(usize),
+enum Mark {
+    Unseen,
+    /// What is behind it is searched.
+    Entered,
+    /// Its place from the end.
+    Left(usize),
 }
 
 /// A search of a graph by depth.
 #[derive(Drop)]
 struct Search<'a, A: Allocator> {
     nodes: &'a [Node],
-    seen: Vec<bool, A>,
-    work: Vec<Work, A>,
-    /// The nodes behind which all is done.
-    left: Vec<usize, A>,
+    marks: Vec<Mark, A>,
+    /// The nodes that are entered, and those to be entered, the next one last.
+    work: Vec<usize, A>,
+    /// How many nodes are left.
+    left: usize,
 }
 
 impl<A: Allocator> Search<'_, A> {
-    /// Marks a node. Returns it if it wasn't marked.
-    fn newly_seen(&mut self, at: usize) -> Option<Node> {
-        let seen = self.seen.get_mut(at)?;
-        if *seen {
-            return None;
+    fn mark(&mut self, at: usize, mark: Mark) {
+        if let Some(place) = self.marks.get_mut(at) {
+            *place = mark;
         }
-        *seen = true;
-        self.nodes.get(at).copied()
     }
 
     /// The side of a test that doesn't hold comes first, so the other one is nearer to the test.
     fn enter(&mut self, at: usize) -> Result<(), AllocError> {
-        if let Some(node) = self.newly_seen(at) {
-            self.work.push(Work::Leave(at))?;
-            self.work.push(Work::Enter(node.yes))?;
-            self.work.push(Work::Enter(node.no))?;
+        self.mark(at, Mark::Entered);
+        if let Some(node) = self.nodes.get(at) {
+            self.work.push(node.yes)?;
+            self.work.push(node.no)?;
         }
         Ok(())
     }
 
+    /// All behind a node is searched.
+    fn leave(&mut self, at: usize) {
+        self.mark(at, Mark::Left(self.left));
+        self.left = self.left.saturating_add(1);
+        self.work.pop();
+    }
+
     fn search(&mut self, entry: usize) -> Result<(), AllocError> {
-        self.work.push(Work::Enter(entry))?;
-        let steps = self.nodes.len().saturating_mul(3).saturating_add(1);
+        self.work.push(entry)?;
+        let steps = self.nodes.len().saturating_mul(4).saturating_add(1);
         for _ in 0..steps {
-            match self.work.pop() {
-                None => break,
-                Some(Work::Enter(at)) => self.enter(at)?,
-                Some(Work::Leave(at)) => self.left.push(at)?,
+            let Some(at) = self.work.last().copied() else {
+                break;
+            };
+            match self.marks.get(at) {
+                Some(Mark::Unseen) => self.enter(at)?,
+                Some(Mark::Entered) => self.leave(at),
+                _ => {
+                    self.work.pop();
+                }
             }
         }
         Ok(())
     }
-}
 
-/// The nodes that runs from an entry come to, the last one first.
-fn backwards<A: Allocator + Clone>(
-    alloc: A,
-    nodes: &[Node],
-    entry: usize,
-) -> Result<Vec<usize, A>, AllocError> {
-    let mut search = Search {
-        nodes,
-        seen: vec![in alloc.clone()?; false; nodes.len()]?,
-        work: Vec::new(alloc.clone()?),
-        left: Vec::new(alloc),
-    };
-    search.search(entry)?;
-    Ok(search.left)
-}
-
-/// Where each node goes in the new order.
-fn places<A: Allocator>(
-    alloc: A,
-    count: usize,
-    backwards: &[usize],
-) -> Result<Vec<usize, A>, AllocError> {
-    let mut places = vec![in alloc; NOWHERE; count]?;
-    for (place, at) in backwards.iter().rev().enumerate() {
-        if let Some(moved) = places.get_mut(*at) {
-            *moved = place;
+    /// Where a node goes in the new order.
+    fn place(&self, at: usize) -> usize {
+        match self.marks.get(at) {
+            Some(Mark::Left(from_end)) => { self.left.saturating_sub(1).saturating_sub(*from_end) }
+            _ => NOWHERE,
         }
     }
-    Ok(places)
 }
 
 /// A list's entry for a node, or nowhere.
@@ -97,13 +86,22 @@ pub(crate) fn ordered<A: Allocator + Clone>(
     nodes: &[Node],
     entry: usize,
 ) -> Result<Vec<Node, A>, AllocError> {
-    let backwards = backwards(alloc.clone()?, nodes, entry)?;
-    let places = places(alloc.clone()?, nodes.len(), &backwards)?;
-    let mut moved = Vec::with_capacity(alloc, backwards.len())?;
-    for at in backwards.iter().rev() {
-        if let Some(node) = nodes.get(*at) {
-            let (yes, no) = (entry_at(&places, node.yes), entry_at(&places, node.no));
-            moved.push(Node { yes, no, ..*node })?;
+    let count = nodes.len();
+    let mut search = Search {
+        nodes,
+        marks: vec![in alloc.clone()?; Mark::Unseen; count]?,
+        work: Vec::with_capacity(alloc.clone()?, count)?,
+        left: 0,
+    };
+    search.search(entry)?;
+    let Some(first) = nodes.first().copied() else {
+        return Ok(Vec::new(alloc));
+    };
+    let mut moved = vec![in alloc; first; search.left]?;
+    for (at, node) in nodes.iter().enumerate() {
+        if let Some(place) = moved.get_mut(search.place(at)) {
+            let (yes, no) = (search.place(node.yes), search.place(node.no));
+            *place = Node { yes, no, ..*node };
         }
     }
     Ok(moved)

@@ -2,7 +2,7 @@
 
 use crate::bits::with_bits;
 use crate::gather::gathered;
-use crate::graph::nodes_of;
+use crate::graph::{Node, nodes_of};
 use crate::search::with_searches;
 use crate::share::shared;
 use crate::thread::threaded;
@@ -10,11 +10,16 @@ use crate::write::written;
 use flt_bpf::Wide;
 use std::alloc::{AllocError, Allocator};
 
+/// How many tests that aren't decided are passed, one on a side of the other.
+const MOST_SPLITS: usize = 2;
+
 /// What is done to code.
 #[derive(Clone, Copy)]
 pub enum Pass {
-    /// Each test goes on as far as what is known decides.
+    /// Each edge goes on as far as what is known decides.
     Thread,
+    /// The same, also past tests that aren't decided, where both sides come together.
+    ThreadFar,
     /// Chains of tests go field by field.
     Gather,
     /// One instruction for several that do the same, one after the other.
@@ -25,27 +30,34 @@ pub enum Pass {
     Share,
 }
 
-impl Pass {
-    /// What it makes is of use only where it is no longer.
-    pub(crate) fn is_for_length(self) -> bool {
-        matches!(self, Pass::Gather)
+/// What a pass makes of a graph whose edges lead on.
+fn after<A: Allocator + Clone>(
+    alloc: A,
+    nodes: Vec<Node, A>,
+    pass: Pass,
+) -> Result<Vec<Node, A>, AllocError> {
+    match pass {
+        Pass::Thread => threaded(alloc, nodes, 0),
+        Pass::ThreadFar => threaded(alloc, nodes, MOST_SPLITS),
+        Pass::Gather => gathered(alloc, nodes),
+        Pass::Bits => with_bits(alloc, nodes),
+        Pass::Search => with_searches(alloc, nodes),
+        Pass::Share => shared(alloc, nodes),
     }
 }
 
-/// What a pass makes of code, if it makes something.
+/// What passes make of code, one after the other, if they make something.
 pub fn passed<A: Allocator + Clone>(
     alloc: A,
     code: &[Wide],
-    pass: Pass,
+    passes: &[Pass],
 ) -> Result<Option<Vec<Wide, A>>, AllocError> {
-    let nodes = nodes_of(alloc.clone()?, code)?;
-    let nodes = match pass {
-        Pass::Thread => threaded(alloc.clone()?, nodes)?,
-        Pass::Gather => gathered(alloc.clone()?, nodes)?,
-        Pass::Bits => with_bits(alloc.clone()?, nodes)?,
-        Pass::Search => with_searches(alloc.clone()?, nodes)?,
-        Pass::Share => shared(alloc.clone()?, nodes)?,
+    let Some(mut nodes) = nodes_of(alloc.clone()?, code)? else {
+        return Ok(None);
     };
+    for pass in passes {
+        nodes = after(alloc.clone()?, nodes, *pass)?;
+    }
     let most = code.len().saturating_mul(2);
     written(alloc, &nodes, most)
 }

@@ -295,6 +295,14 @@ pub(crate) fn with_searches<A: Allocator + Clone>(
     alloc: A,
     nodes: Vec<Node, A>,
 ) -> Result<Vec<Node, A>, AllocError> {
+    if nodes
+        .iter()
+        .filter(|node| searched(**node).is_some())
+        .count()
+        < LEAST
+    {
+        return Ok(nodes);
+    }
     let count = nodes.len();
     let mut searching = Searching {
         alloc: alloc.clone()?,
@@ -304,6 +312,9 @@ pub(crate) fn with_searches<A: Allocator + Clone>(
     };
     for head in 0..count {
         searching.search(head)?;
+    }
+    if searching.nodes.len() == count {
+        return Ok(searching.nodes);
     }
     ordered(alloc, &searching.nodes, 0)
 }

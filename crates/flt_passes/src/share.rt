@@ -5,6 +5,20 @@ use crate::order::{entry_at, ordered};
 use std::alloc::{AllocError, Allocator};
 use std::collections::HashMap;
 
+/// What a node does. Those are equal that do the same.
+#[derive(Clone, Copy, PartialEq, Eq, Hash)]
+struct Deeds {
+    does: u64,
+    leads: u64,
+}
+
+fn deeds_of(node: Node) -> Deeds {
+    Deeds {
+        does: u64::from(node.operation.code()) << 32 | u64::from(node.k),
+        leads: (node.yes as u64) << 32 ^ node.no as u64,
+    }
+}
+
 /// A node whose edges lead to what stands for their targets.
 fn turned(node: Node, stands: &[usize]) -> Node {
     Node {
@@ -20,20 +34,30 @@ pub(crate) fn shared<A: Allocator + Clone>(
     mut nodes: Vec<Node, A>,
 ) -> Result<Vec<Node, A>, AllocError> {
     let mut stands = vec![in alloc.clone()?; NOWHERE; nodes.len()]?;
-    let mut seen = HashMap::new(alloc.clone()?);
+    let mut seen = HashMap::with_capacity(alloc.clone()?, nodes.len())?;
+    let mut is_changed = false;
     for at in (0..nodes.len()).rev() {
         let Some(place) = nodes.get_mut(at) else {
             break;
         };
         let node = turned(*place, &stands);
         *place = node;
-        let other = seen.get(&node).copied();
-        if other.is_none() {
-            seen.insert(node, at)?;
+        let mut stand = at;
+        match seen.get(&deeds_of(node)) {
+            None => {
+                seen.insert(deeds_of(node), at)?;
+            }
+            Some(other) => {
+                stand = *other;
+                is_changed = true;
+            }
         }
-        if let Some(stand) = stands.get_mut(at) {
-            *stand = other.unwrap_or(at);
+        if let Some(stands) = stands.get_mut(at) {
+            *stands = stand;
         }
+    }
+    if !is_changed {
+        return Ok(nodes);
     }
     ordered(alloc, &nodes, entry_at(&stands, 0))
 }

@@ -1,10 +1,10 @@
 //! Each edge goes on as far as what is known on every way to it decides.
 
 use crate::follow::followed;
-use crate::graph::{Flow, Node};
+use crate::graph::{Flow, NOWHERE, Node};
 use crate::known::{AT_START, Known};
-use crate::live::{Live, lives};
-use crate::order::ordered;
+use crate::live::{Live, Reads, is_of_use, live_at, lives};
+use crate::order::{entry_at, ordered};
 use crate::sets::pieces_for_all;
 use flt_opt::{Piece, outcome};
 use std::alloc::{AllocError, Allocator};
@@ -16,38 +16,75 @@ struct Threading<A: Allocator> {
     nodes: Vec<Node, A>,
     lives: Vec<Live, A>,
     pieces: Vec<Piece, A>,
-    /// What is known where a run comes to each node, if one was seen to.
-    waiting: Vec<Option<Box<Known, A>>, A>,
+    /// What is known where a run comes to nodes that wait.
+    waiting: Vec<Known, A>,
+    /// Where that is of each node, if a run was seen to come there.
+    slots: Vec<usize, A>,
+    /// The places that no node has.
+    free: Vec<usize, A>,
+    /// How many tests that aren't decided are passed, one on a side of the other.
+    splits: usize,
+    is_changed: bool,
 }
 
 impl<A: Allocator + Clone> Threading<A> {
     /// A run comes to a node with this knowledge.
-    fn arrive(&mut self, at: usize, known: Known) -> Result<(), AllocError> {
-        let ends = self
-            .nodes
-            .get(at)
-            .is_none_or(|node| node.flow() == Flow::Ends);
-        let Some(slot) = self.waiting.get_mut(at) else {
+    fn arrive(&mut self, at: usize, mut known: Known) -> Result<(), AllocError> {
+        let reads = self.reads(&known, at);
+        known.facts.keep_of_use(&reads);
+        let Some(node) = self.nodes.get(at) else {
             return Ok(());
         };
-        if ends {
+        if node.flow() == Flow::Ends {
             return Ok(());
         }
-        match slot {
-            None => *slot = Some(Box::new(self.alloc.clone()?, known)?),
-            Some(held) => **held = held.in_both(&known, &mut self.pieces)?,
+        let slot = entry_at(&self.slots, at);
+        match self.waiting.get_mut(slot) {
+            None => self.wait(at, known),
+            Some(held) => {
+                *held = held.in_both(&known, &mut self.pieces)?;
+                Ok(())
+            }
+        }
+    }
+
+    /// A node waits with this knowledge.
+    fn wait(&mut self, at: usize, known: Known) -> Result<(), AllocError> {
+        let slot = match self.free.pop() {
+            Some(slot) => slot,
+            None => self.waiting.len(),
+        };
+        match self.waiting.get_mut(slot) {
+            Some(place) => *place = known,
+            None => self.waiting.push(known)?,
+        }
+        if let Some(place) = self.slots.get_mut(at) {
+            *place = slot;
         }
         Ok(())
     }
 
-    /// What is known at a node, if a run comes there.
-    fn take(&mut self, at: usize) -> Option<Known> {
-        let held = self.waiting.get_mut(at)?.take()?;
-        Some(Box::into_inner(held))
+    /// What is known at a node, if a run comes there. It waits no more.
+    fn take(&mut self, at: usize) -> Result<Option<Known>, AllocError> {
+        let slot = entry_at(&self.slots, at);
+        let Some(known) = self.waiting.get(slot).copied() else {
+            return Ok(None);
+        };
+        self.free.push(slot)?;
+        Ok(Some(known))
+    }
+
+    /// What a run reads that goes on at a node.
+    fn reads(&self, known: &Known, at: usize) -> [Reads; 1] {
+        let (live, accumulator) = (live_at(&self.lives, at), known.registers.accumulator);
+        [Reads { live, accumulator }]
     }
 
     /// Where a run with this knowledge goes on in place of a node.
     fn led(&self, known: &Known, to: usize) -> Result<usize, AllocError> {
+        if known.facts.is_empty() {
+            return Ok(to);
+        }
         followed(
             self.alloc.clone()?,
             &self.nodes,
@@ -55,6 +92,7 @@ impl<A: Allocator + Clone> Threading<A> {
             &self.pieces,
             known,
             to,
+            self.splits,
         )
     }
 
@@ -83,13 +121,16 @@ impl<A: Allocator + Clone> Threading<A> {
         node: Node,
         holds: bool,
     ) -> Result<Known, AllocError> {
-        match node.test() {
-            None => Ok(*known),
-            Some(test) => {
-                let learnt = outcome(test, node.k, known.registers.accumulator, holds);
-                known.with(&learnt, &mut self.pieces)
+        let reads = self.reads(known, if holds { node.yes } else { node.no });
+        let mut on_side = *known;
+        on_side.facts.keep_of_use(&reads);
+        if let Some(test) = node.test() {
+            let learnt = outcome(test, node.k, known.registers.accumulator, holds);
+            if is_of_use(learnt.term, &reads) {
+                return on_side.with(&learnt, &mut self.pieces);
             }
         }
+        Ok(on_side)
     }
 
     /// Leads both sides of a test on, where a run with this knowledge comes to it.
@@ -104,19 +145,29 @@ impl<A: Allocator + Clone> Threading<A> {
             let on_no = self.known_on_side(known, node, false)?;
             no = self.lead_side(&on_no, node.no)?;
         }
-        if let Some(place) = self.nodes.get_mut(at) {
-            *place = Node {
-                yes: if can_hold { yes } else { no },
-                no: if can_fail { no } else { yes },
-                ..node
-            };
-        }
+        let (yes, no) = (
+            if can_hold { yes } else { no },
+            if can_fail { no } else { yes },
+        );
+        self.turn(at, node, yes, no);
         Ok(())
+    }
+
+    /// Turns the edges of a node to other ones.
+    fn turn(&mut self, at: usize, node: Node, yes: usize, no: usize) {
+        if let Some(place) = self.nodes.get_mut(at)
+            && (yes != node.yes || no != node.no)
+        {
+            *place = Node { yes, no, ..node };
+            self.is_changed = true;
+        }
     }
 
     /// Leads the edge of a node on that isn't a test, where a run with this knowledge leaves it. What
     /// just goes on must be next, and may have to stand there once more: no edge is led to it.
-    fn lead_on(&mut self, at: usize, node: Node, known: Known) -> Result<(), AllocError> {
+    fn lead_on(&mut self, at: usize, node: Node, mut known: Known) -> Result<(), AllocError> {
+        let reads = self.reads(&known, node.yes);
+        known.facts.keep_of_use(&reads);
         let mut to = self.led(&known, node.yes)?;
         if self
             .nodes
@@ -125,13 +176,7 @@ impl<A: Allocator + Clone> Threading<A> {
         {
             to = node.yes;
         }
-        if let Some(place) = self.nodes.get_mut(at) {
-            *place = Node {
-                yes: to,
-                no: to,
-                ..node
-            };
-        }
+        self.turn(at, node, to, to);
         self.arrive(to, known)
     }
 
@@ -140,7 +185,7 @@ impl<A: Allocator + Clone> Threading<A> {
         let Some(node) = self.nodes.get(at).copied() else {
             return Ok(());
         };
-        let Some(known) = self.take(at) else {
+        let Some(known) = self.take(at)? else {
             return Ok(());
         };
         match node.flow() {
@@ -160,30 +205,27 @@ impl<A: Allocator + Clone> Threading<A> {
     }
 }
 
-/// A list of nothing for so many nodes.
-fn nothing<A: Allocator + Clone>(
-    alloc: A,
-    count: usize,
-) -> Result<Vec<Option<Box<Known, A>>, A>, AllocError> {
-    let mut waiting = Vec::with_capacity(alloc, count)?;
-    for _ in 0..count {
-        waiting.push(None)?;
-    }
-    Ok(waiting)
-}
-
-/// The graph with each edge led on past what is decided. Its edges lead on.
+/// The graph with each edge led on past what is decided, and past so many tests that aren't. Its
+/// edges lead on.
 pub(crate) fn threaded<A: Allocator + Clone>(
     alloc: A,
     nodes: Vec<Node, A>,
+    splits: usize,
 ) -> Result<Vec<Node, A>, AllocError> {
     let mut threading = Threading {
         alloc: alloc.clone()?,
         lives: lives(alloc.clone()?, &nodes)?,
         pieces: pieces_for_all(alloc.clone()?)?,
-        waiting: nothing(alloc.clone()?, nodes.len())?,
+        waiting: Vec::new(alloc.clone()?),
+        slots: vec![in alloc.clone()?; NOWHERE; nodes.len()]?,
+        free: Vec::new(alloc.clone()?),
+        splits,
         nodes,
+        is_changed: false,
     };
     let entry = threading.lead_all()?;
+    if entry == 0 && !threading.is_changed {
+        return Ok(threading.nodes);
+    }
     ordered(alloc, &threading.nodes, entry)
 }

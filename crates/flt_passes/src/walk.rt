@@ -286,6 +286,9 @@ pub(crate) fn walked<A: Allocator>(
     pieces: &Vec<Piece, A>,
     from: &Arrival,
 ) -> Option<Arrival> {
+    if rule_at(new, old, from.old, &from.both).is_some() {
+        return Some(*from);
+    }
     let mut walker = Walker {
         new,
         old,

@@ -50,7 +50,7 @@ impl<A: Allocator + Clone> Writer<'_, A> {
             ),
         };
         Some(Wide {
-            code: node.code,
+            code: node.operation.code(),
             yes,
             no,
             k: node.k,
