@@ -12,6 +12,7 @@ use Rattle.flt_tree.specs.Tree.{TruthTree, Expression, empty, truth}
 use Rattle.flt_tree.specs.Counts.{words_of, bound_of, truth_tests, truth_size}
 use Rattle.flt_tree.specs.Resolved.{is_unfilled, any_primitive, some_primitive}
 use Rattle.flt_short.specs.Alike.{Replaces}
+use Rattle.flt_make.specs.Betters.{Betters}
 use Rattle.cap_octet.specs.declared.link.Link.{Link}
 use Rattle.flt_code.specs.declared.elementary.Elementary.TheVariants.{Outcome}
 use Rattle.flt_code.specs.Elementary.{Reading, Yes, No, Rejected}
@@ -213,3 +214,20 @@ replaced_decides new old e link r o =
 
 pub replaced_short : (new old : List Insn) (most : ℕ) → Replaces new old → IsShort old most → IsShort new most
 replaced_short new old most r s = record { no_jump = r.no_jump s.no_jump; short = omega (arith, r.shorter, s.short) }
+
+-- a program that is better than one for an expression is one for it too
+pub better_decides : (new old : List Insn) (e : Expression) (link : Link) → Betters new old → IsProgramOf old e link → IsProgramOf new e link
+better_decides new old e link r o =
+    record {
+      bounded = omega (arith, r.no_longer, o.bounded);
+      decides = λ p n.
+          let d = o.decides p n in
+          let c = r.runs p n d.answer d.count d.answered in
+          record { answer = d.answer; count = c.count; answered = c.answered; upper_bound = c.upper_bound; right = d.right };
+    }
+
+pub better_short : (new old : List Insn) (most : ℕ) → Betters new old → most ≤ 256 → IsShort old most → IsShort new most
+better_short new old most r few s = record {
+  no_jump = r.no_jump (omega (arith, few, s.short)) s.no_jump;
+  short = omega (arith, r.no_longer, s.short);
+}

@@ -11,6 +11,7 @@ use crate::walk::Walk;
 use cap_octet::Link;
 use flt_bpf::insn::Insn;
 use flt_bpf::program::{Program, check};
+use flt_make::best_of;
 use flt_short::{pass_loads, shortened};
 use flt_tree::{Checked, Node};
 use std::alloc::{AllocError, Allocator};
@@ -56,8 +57,9 @@ pub fn generate<A: Allocator + Clone, B: Allocator>(
     let nodes = folded_nodes(alloc.clone()?, expr.expr.nodes())?;
     let insns = program_insns(alloc.clone()?, &nodes, link)?;
     let turned = pass_loads(alloc.clone()?, insns)?;
-    let short = shortened(alloc, turned)?;
-    match check(short) {
+    let short = shortened(alloc.clone()?, turned)?;
+    let best = best_of(alloc, short)?;
+    match check(best) {
         Ok(program) => Ok(program),
         Err(_) => unreachable!(),
     }

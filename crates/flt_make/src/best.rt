@@ -15,6 +15,10 @@ const JUMP: u16 = 5;
 /// As many instructions aren't laid out.
 const TOO_MANY: usize = 0x4000_0000;
 
+/// So few instructions stay as they are: they seldom become fewer, and that takes longer than all
+/// else that makes a program.
+const FEW: usize = 32;
+
 /// The same instruction.
 fn wide_insn(insn: Insn) -> Wide
     ensures { result ≡ insn }
@@ -44,8 +48,8 @@ fn has_no_jump(code: &[Wide]) -> bool
     code.iter().all(|insn| insn.code != JUMP)
 }
 
-/// A program that returns what a plain one returns, and is no longer. It is the plain one where the
-/// optimiser finds no such program.
+/// A program that returns what a plain one returns, and is no longer. It is the plain one where that
+/// has few instructions, and where the optimiser finds no such program.
 ///
 /// An error is a failed allocation, or an allocator that cannot be cloned.
 #[tactic(auto, using(crate::proofs::Bettering::betters_itself))]
@@ -55,6 +59,9 @@ pub fn best_of<A: Allocator + Clone>(
 ) -> Result<Vec<Insn, A>, AllocError>
     ensures { IfOk result (λ best. Betters best.items plain.items) }
 {
+    if plain.len() <= FEW {
+        return Ok(plain);
+    }
     let wide = wide_of(alloc.clone()?, &plain)?;
     let wide = optimised(alloc.clone()?, wide)?;
     if wide.len() >= TOO_MANY || !has_no_jump(&wide) {
