@@ -10,7 +10,7 @@ use flt_opt::{
 use std::alloc::{AllocError, Allocator};
 
 /// The most facts that are known at once. The oldest one goes.
-const MOST_FACTS: usize = 4;
+const MOST_FACTS: usize = 8;
 
 const NO_FACT: Fact = Fact {
     term: Term::Anything,
