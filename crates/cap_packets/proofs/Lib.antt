@@ -5,5 +5,8 @@ pub mod Growing
 pub mod Selectors
 pub mod Lines
 pub mod Lists
+pub mod Wholes
+pub mod Denials
+pub mod Prefixes
 pub mod Rows
 pub mod EditRules

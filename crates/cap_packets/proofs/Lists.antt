@@ -77,7 +77,7 @@ least-behind (q ∷ ps) p = rw (not-none (length ps)) (sym (least-next q.time (t
 tally : ℕ → ℕ → ℕ → ℕ → ℕ → ℕ → Bool → Tally
 tally a b c d e f g = record { count = a; data_size = b; captured_size = c; least = d; greatest = e; last = f; strict = g }
 
-counted-next : (ps : List Captured) (p : Captured) → tally_with (tally_of ps) p ≡ tally_of (ps ++ p ∷ [])
+pub counted-next : (ps : List Captured) (p : Captured) → tally_with (tally_of ps) p ≡ tally_of (ps ++ p ∷ [])
 counted-next ps p =
     let a = length-next ps p in
     let b = sum-next (λ (q : Captured). q.orig) ps p in
