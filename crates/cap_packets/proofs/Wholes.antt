@@ -1,5 +1,5 @@
 -- What whole commands write: the verdicts on packets make a list, of which the form refuses the rest.
-use Rattle.std.proofs.Common.{◌≡◌, ℕ, zero, suc, ◌+◌, ◌^◌, ◌<◌, ◌&&◌, Bool, true, false, if◌then◌else◌, nat_le, max, List, [], ◌∷◌, ◌++◌, length, Option, None, Some, refl, sym, ◌∙◌, ap, arith, subst}
+use Rattle.std.proofs.Common.{◌≡◌, ℕ, zero, suc, ◌+◌, ◌-◌, ◌^◌, ◌<◌, ◌&&◌, Bool, true, false, if◌then◌else◌, nat_le, max, List, [], ◌∷◌, ◌++◌, length, take, Option, None, Some, refl, sym, ◌∙◌, ap, arith, subst}
 use Rattle.std.proofs.lemmas.List.{append_assoc, append-nil}
 use Rattle.std.specs.Option.{IfSome}
 use Rattle.std.specs.Prelude.{nat_lt, nat_eq}
@@ -15,7 +15,7 @@ use Rattle.cap_io.specs.RoundTrip.{Carries, ItemsBack}
 use Rattle.cap_io.specs.Text.{text}
 use Rattle.cap_print.specs.declared.print.Options.{Options}
 use Rattle.cap_filter.specs.FilterRules.{Rule}
-use Rattle.cap_inputs.specs.Sequence.{Event, Packet, InputEnd, SequenceEnd, Complete, FaultIn, Sequence, PacketOrder, InputItems, whole_input, Entry, packet_events, input_sequence, sequence_in_turn, sequence_of, end_of, end_behind, end_at, entries_of, input_entries, comes_before, insert_entry, sort_entries, end_or_more, sequence_of_entries, sequence_by_time, first_end, unless_fault, with_front}
+use Rattle.cap_inputs.specs.Sequence.{Event, Packet, InputEnd, SequenceEnd, Complete, FaultIn, Sequence, PacketOrder, InTurn, ByTime, InputItems, whole_input, Entry, packet_events, input_sequence, sequence_in_turn, sequence_of, end_of, end_behind, end_at, entries_of, input_entries, comes_before, insert_entry, sort_entries, end_or_more, sequence_of_entries, sequence_by_time, first_end, unless_fault, with_front}
 use Rattle.cap_packets.specs.Verdict.{Policy, Edit, EditRule, Filter, KeepAll, Count, Judgement, SelectorState, initial_state, Verdict, Pass, PassLast, Skip, Refuse, edited_packet_with, judge, judge_by, passes, refuses}
 use Rattle.cap_packets.specs.Reports.{Report, Tally, nothing_counted, tally_with, reports_text}
 use Rattle.cap_packets.specs.Outcome.{Form, AsCapture, AsReports, AsLines, JobProgress, Work, no_progress, form_refuses, decide_unless, decide, end_with, apply_verdict, apply_event, apply_events, next_progress, end_input, unless_ended, end_unless_ended, final_progress, output_text, closing_text, text_at_end, first_link, lines_text, status, outcome_at, outcome}
@@ -32,14 +32,14 @@ use Rattle.cap_packets.proofs.Selectors.{upper_bound}
 
 -- ---- the verdicts
 
-judged_by : Verdict → List Captured → List Captured
+abbrev judged_by : Verdict → List Captured → List Captured
 judged_by (Pass p) rest = p ∷ rest
 judged_by (PassLast p) rest = p ∷ []
 judged_by Skip rest = rest
 judged_by (Refuse fault) rest = []
 
 -- the packets that pass, of these behind so many that were decided
-judged : Policy → ℕ → SelectorState → List Captured → List Captured
+abbrev judged : Policy → ℕ → SelectorState → List Captured → List Captured
 judged a k state [] = []
 judged a k state (p ∷ ps) = judged_by (judge a state (k + 1) p).verdict (judged a (k + 1) (judge a state (k + 1) p).state ps)
 
@@ -239,7 +239,7 @@ print_lines rule count options names file some less =
 
 pub merge_writes : MergeWrites
 merge_writes order format names rs less =
-    command-writes (merge_work order format) names rs (packets_in_order order rs) refl (capture-of-packets format) (judged-all 0 initial_state (packets_in_order order rs) less)
+    command-writes (merge_work order format) names rs (packets_in_order order rs) refl (capture-of-packets format) (judged-all 0 initial_state (packets_in_order order rs) (omega (arith, less)))
 
 -- ---- reports
 
@@ -321,7 +321,9 @@ infos_reports names rs =
 -- ---- edits without options
 
 same-packet : (p : Captured) → edited_packet_with unchanged p p.time ≡ p
-same-packet p = ap (λ (bytes : List ℕ). record { link = p.link; snap = p.snap; name = p.name; time = p.time; orig = p.orig; bytes = bytes; comment = p.comment }) (take-length p.bytes)
+same-packet p =
+    let all : length p.bytes - 0 ≡ length p.bytes = omega arith in
+    ap (λ (bytes : List ℕ). record { link = p.link; snap = p.snap; name = p.name; time = p.time; orig = p.orig; bytes = bytes; comment = p.comment }) (ap (λ (n : ℕ). take n p.bytes) all ∙ take-length p.bytes)
 
 same-judge : (state : SelectorState) (number : ℕ) (p : Captured) → judge KeepAll state number p ≡ judge (Edit unchanged) state number p
 same-judge state number p = by_number (nat_le (2 ^ 63) number)
@@ -346,7 +348,7 @@ and-false : (b : Bool) → b && false ≡ false
 and-false true = refl
 and-false false = refl
 
-entry : ℕ → Ending → ℕ → Placed → List Placed → Entry
+abbrev entry : ℕ → Ending → ℕ → Placed → List Placed → Entry
 entry input ending greatest p ps = record { key = max greatest p.packet.time; input = input; p = p; last = end_behind input ending ps }
 
 not-before : (input : ℕ) (ending : Ending) (greatest : ℕ) (p q : Placed) (ps : List Placed) → comes_before (entry input ending (max greatest p.packet.time) q ps) (entry input ending greatest p (q ∷ ps)) ≡ false
