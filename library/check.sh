@@ -19,12 +19,17 @@ for name in big-endian.pcap cooked.pcap damaged.pcap day.pcap four.pcap mirror.p
     out/filter tcp "../samples/$name" 2>&1 || true
 done >out/filter.txt
 cmp out/filter.txt tests/filter.txt || bad=1
-test "$(nm -D --defined-only out/libcapkit.so.0 | grep -vc ' T capkit_')" = 0 || { echo 'other names are visible'; bad=1; }
+# The names that are visible are those of the package's symbols file.
+nm -D --defined-only out/libcapkit.so.0 | sed 's/.* T \(.*\)/ \1@Base/' | sort >out/symbols.txt
+sed 1d ../packaging/libcapkit0.symbols | cut -d ' ' -f 1-2 | sort | cmp - out/symbols.txt || { echo 'other names are visible'; bad=1; }
 if have c++; then
     printf '#include <capkit.h>\nint main() { size_t most; return capkit_bound("tcp", 3, &most) != CAPKIT_OK; }\n' >out/plus.cc
     c++ -std=c++11 -Wall -Wextra -pedantic -Werror -Iinclude -o out/plus out/plus.cc out/libcapkit.a && out/plus || bad=1
 fi
 grep -q "CAPKIT_VERSION \"$(cat ../packaging/version)\"" include/capkit.h || { echo 'another version'; bad=1; }
+# shellcheck disable=SC2046  # three numbers
+grep -q "CAPKIT_VERSION_NUMBER $(printf '0x%02x%02x%02x' $(tr . ' ' <../packaging/version))u" include/capkit.h ||
+    { echo 'another number of the version'; bad=1; }
 
 # What keep writes reads back, and is what capkit writes.
 for name in day.pcap mirror.pcap nanoseconds.pcap comments.pcapng; do
@@ -49,6 +54,15 @@ if [ -e /usr/include/pcap/pcap.h ]; then
     for name in day.pcap cooked.pcap four.pcap truncated.pcap; do
         want=$(out/filter 'tcp or udp' "../samples/$name" 2>/dev/null | sed -n 's/^\([0-9]*\) of .*/\1 packets match/p')
         test "$(out/pcap_filter 'tcp or udp' "../samples/$name" 2>/dev/null)" = "$want" || { echo "libpcap: $name"; bad=1; }
+    done
+    # capkit_line gives the lines that capkit prints.
+    for name in big-endian.pcap cooked.pcap day.pcap four.pcap nanoseconds.pcap two-sections.pcapng damaged.pcap; do
+        if have capkit; then
+            capkit print "../samples/$name" >out/printed.txt 2>/dev/null || true
+            out/lines 0 "../samples/$name" | cmp - out/printed.txt || { echo "lines: $name"; bad=1; }
+            capkit print -e "../samples/$name" >out/printed.txt 2>/dev/null || true
+            out/lines 1 "../samples/$name" | cmp - out/printed.txt || { echo "lines with links: $name"; bad=1; }
+        fi
     done
     out/fuzz 1 "$rounds" ../samples/*.pcap ../samples/*.pcapng || bad=1
     out/writes 1 "$rounds" || bad=1

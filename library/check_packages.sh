@@ -197,7 +197,7 @@ else
 fi
 check_trace() {
     expect 0 '' 'it returns 262144' trace 'tcp port 80' "$samples/day.pcap" 7
-    grep -q '^(010) 21 7 8 80 *A is 0x50$' "$packages/out.txt" || wrong 'Python: trace: A is something else'
+    grep -q '^(010) jeq  *#0x50  *jt 18 jf 19  *A is 0x50, X is 0x14$' "$packages/out.txt" || wrong 'Python: trace: A is something else'
     expect 0 '' 'it returns 0' trace 'tcp port 80' "$samples/day.pcap" 1
     expect 1 'no packet 99' '' trace tcp "$samples/day.pcap" 99
     expect 1 'too long' '' trace tcp "$samples/damaged.pcap" 40

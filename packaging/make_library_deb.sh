@@ -30,6 +30,7 @@ done
 mv "$work/all/$libraries/libcapkit.so.$release" "$work/all/$libraries/libcapkit.so.0" "$shared/$libraries/"
 strip --strip-unneeded --remove-section=.comment --remove-section=.note "$shared/$libraries/libcapkit.so.$release"
 printf 'libcapkit 0 libcapkit0 (>= %s)\n' "$release" >"$shared/DEBIAN/shlibs"
+install -m 644 "$root/packaging/libcapkit0.symbols" "$shared/DEBIAN/symbols"
 printf 'activate-noawait ldconfig\n' >"$shared/DEBIAN/triggers"
 mkdir "$work/debian"
 : >"$work/debian/control"

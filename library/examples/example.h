@@ -13,9 +13,10 @@
 static inline void report_status(const char *program, uint32_t status, size_t place)
 {
     char text[64];
-    size_t length = capkit_status_text(status, text, sizeof text);
-    fprintf(stderr, "%s: %.*s", program, (int)length, text);
-    if (status >= CAPKIT_UNKNOWN_CHARACTER && status <= CAPKIT_NUMBER_TOO_LARGE)
+    capkit_text(status, text, sizeof text);
+    fprintf(stderr, "%s: %s", program, text);
+    if ((status >= CAPKIT_UNKNOWN_CHARACTER && status <= CAPKIT_NUMBER_TOO_LARGE) ||
+        status == CAPKIT_NOT_UTF8)
         fprintf(stderr, " (at byte %zu)", place);
     fputc('\n', stderr);
 }
@@ -25,8 +26,8 @@ static inline void report_found(const char *program, const char *name, uint32_t 
                                 size_t offset)
 {
     char text[64];
-    size_t length = capkit_found_text(found, text, sizeof text);
-    fprintf(stderr, "%s: %s: offset %zu: %.*s\n", program, name, offset, (int)length, text);
+    capkit_text(found, text, sizeof text);
+    fprintf(stderr, "%s: %s: offset %zu: %s\n", program, name, offset, text);
 }
 
 /* Memory for the program of an expression, which is checked before anything else is done; null, and

@@ -16,7 +16,7 @@ static struct capkit_interface interfaces[CAPKIT_MOST_INTERFACES];
 static struct capkit_interface written[MOST_OUTPUT_INTERFACES];
 static uint32_t written_count;
 static uint8_t unit[CAPKIT_MOST_UNIT];
-static char comment[65535];
+static char comment[65536]; /* and a NUL */
 
 /* The programs for the link types that were met; no expression is compiled for a fourth one. */
 static struct program {
@@ -89,9 +89,9 @@ static void keep(const uint8_t *capture, size_t size, const struct capkit_packet
 {
     const struct program *program = program_for(p->link_type);
     const uint8_t *bytes = capture + p->at;
-    uint32_t number, result, steps;
+    uint32_t number, result;
     size_t length;
-    if (!capkit_run(program->insns, program->count, bytes, p->captured, p->original, &steps))
+    if (!capkit_matches(program->insns, program->count, bytes, p->captured, p->original))
         return;
     number = interface_for(p);
     length = capkit_comment(&reader, capture, size, p, comment, sizeof comment);

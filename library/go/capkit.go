@@ -27,24 +27,9 @@ func start(bytes []byte) unsafe.Pointer {
 	return unsafe.Pointer(&bytes[0])
 }
 
-// A textOf puts what a number is called into a buffer.
-type textOf func(number C.uint32_t, buffer *C.char, room C.size_t) C.size_t
-
 // text is what a number is called.
-func text(of textOf, number uint32) string {
+func text(number uint32) string {
 	var buffer [64]C.char
-	length := of(C.uint32_t(number), &buffer[0], C.size_t(len(buffer)))
-	return C.GoStringN(&buffer[0], C.int(length))
-}
-
-func statusText(number C.uint32_t, buffer *C.char, room C.size_t) C.size_t {
-	return C.capkit_status_text(number, buffer, room)
-}
-
-func ruleText(number C.uint32_t, buffer *C.char, room C.size_t) C.size_t {
-	return C.capkit_rule_text(number, buffer, room)
-}
-
-func foundText(number C.uint32_t, buffer *C.char, room C.size_t) C.size_t {
-	return C.capkit_found_text(number, buffer, room)
+	C.capkit_text(C.uint32_t(number), &buffer[0], C.size_t(len(buffer)))
+	return C.GoString(&buffer[0])
 }

@@ -10,9 +10,9 @@ type CompileError struct {
 
 func (e *CompileError) Error() string {
 	if e.Place == 0 {
-		return text(statusText, e.Status)
+		return text(e.Status)
 	}
-	return fmt.Sprintf("%s (at byte %d)", text(statusText, e.Status), e.Place)
+	return fmt.Sprintf("%s (at byte %d)", text(e.Status), e.Place)
 }
 
 // ProgramError is the first rule that instructions break.
@@ -22,7 +22,7 @@ type ProgramError struct {
 }
 
 func (e *ProgramError) Error() string {
-	return fmt.Sprintf("%s (instruction %d)", text(ruleText, e.Rule), e.Index)
+	return fmt.Sprintf("%s (instruction %d)", text(e.Rule), e.Index)
 }
 
 // Check is a check that a unit of a capture fails, or for which a packet can't be written: a number
@@ -31,29 +31,29 @@ type Check uint32
 
 // Checks of a capture and of packets, as capkit.h has them.
 const (
-	NotACaptureFile         Check = 1
-	Truncated               Check = 2
-	BadVersion              Check = 3
-	TooLong                 Check = 4
-	BadBlockLength          Check = 5
-	BadByteOrderMagic       Check = 6
-	UnknownInterface        Check = 7
-	BadOption               Check = 8
-	BadBody                 Check = 9
-	TimeOutOfRange          Check = 10
-	TooManyInterfaces       Check = 11
-	BadTimeResolution       Check = 12
-	BadLinkTypeField        Check = 13
-	ObsoletePacketBlock     Check = 14
-	LinkTypesDiffer         Check = 18
-	TooManyOutputInterfaces Check = 21
+	NotACaptureFile         Check = 201
+	Truncated               Check = 202
+	BadVersion              Check = 203
+	TooLong                 Check = 204
+	BadBlockLength          Check = 205
+	BadByteOrderMagic       Check = 206
+	UnknownInterface        Check = 207
+	BadOption               Check = 208
+	BadBody                 Check = 209
+	TimeOutOfRange          Check = 210
+	TooManyInterfaces       Check = 211
+	BadTimeResolution       Check = 212
+	BadLinkTypeField        Check = 213
+	ObsoletePacketBlock     Check = 214
+	LinkTypesDiffer         Check = 218
+	TooManyOutputInterfaces Check = 221
 )
 
 func (c Check) String() string {
 	if c == LinkTypesDiffer {
 		return "link types differ"
 	}
-	return text(foundText, uint32(c))
+	return text(uint32(c))
 }
 
 // Fault is where a capture ends with a fault, and the check that the unit at this offset fails.

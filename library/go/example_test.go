@@ -6,6 +6,7 @@ import (
 	"fmt"
 	"io"
 	"log"
+	"strings"
 	"time"
 
 	"capkit"
@@ -73,6 +74,29 @@ func ExampleFromInstructions() {
 	// Output:
 	// no return at the end (instruction 0)
 	// 1500
+}
+
+func ExampleFilter_Trace() {
+	filter, err := capkit.Compile("arp", capkit.LinkEthernet)
+	if err != nil {
+		log.Fatal(err)
+	}
+	for _, step := range filter.Trace(arp(), 42) {
+		fmt.Printf("%s A is %#x\n", strings.ReplaceAll(filter.Text(step.Index), "\t", " "), step.A)
+	}
+	// Output:
+	// (000) ldh      [12] A is 0x0
+	// (001) jeq      #0x806           jt 2 jf 3 A is 0x806
+	// (002) ret      #262144 A is 0x806
+}
+
+func ExamplePacket_Line() {
+	packet := capkit.Packet{Time: time.Unix(1, 7), LinkType: capkit.LinkRaw, Data: []byte{0x45}, OriginalLength: 60}
+	fmt.Println(packet.Line(false))
+	fmt.Println(packet.Line(true))
+	// Output:
+	// 1970-01-01 00:00:01.000000007 IP [short], length 60
+	// 1970-01-01 00:00:01.000000007 raw, IP [short], length 60
 }
 
 func ExampleReader() {

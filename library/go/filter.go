@@ -15,6 +15,13 @@ type Instruction struct {
 	K      uint32
 }
 
+// Step is what a run is before one of its instructions.
+type Step struct {
+	Index  int // that of the instruction, from 0
+	A, X   uint32
+	Memory [16]uint32
+}
+
 // Filter is the program of an expression for packets of one link type. Compile and FromInstructions
 // make one, and its program is valid.
 type Filter struct{ insns []C.struct_capkit_insn }
@@ -32,10 +39,8 @@ func bound(source []byte) (C.size_t, error) {
 func compileError(status C.uint32_t, number C.size_t) error {
 	place := 0
 	switch status {
-	case C.CAPKIT_UNKNOWN_CHARACTER, C.CAPKIT_UNKNOWN_WORD, C.CAPKIT_NUMBER_TOO_LARGE:
+	case C.CAPKIT_UNKNOWN_CHARACTER, C.CAPKIT_UNKNOWN_WORD, C.CAPKIT_NUMBER_TOO_LARGE, C.CAPKIT_NOT_UTF8:
 		place = int(number)
-	case C.CAPKIT_NOT_UTF8: // counts from 0
-		place = int(number) + 1
 	}
 	return &CompileError{uint32(status), place}
 }
@@ -75,9 +80,30 @@ func FromInstructions(instructions []Instruction) (*Filter, error) {
 // Run is what the program returns on a packet, given the bytes that were captured of it and how many
 // it had on the wire; 0 rejects it.
 func (f *Filter) Run(data []byte, originalLength uint32) uint32 {
-	var steps C.uint32_t
-	return uint32(C.capkit_run(&f.insns[0], C.size_t(len(f.insns)), (*C.uint8_t)(start(data)),
-		C.size_t(len(data)), C.uint32_t(originalLength), &steps))
+	return uint32(C.capkit_matches(&f.insns[0], C.size_t(len(f.insns)), (*C.uint8_t)(start(data)),
+		C.size_t(len(data)), C.uint32_t(originalLength)))
+}
+
+// Trace is what a run on a packet is before each instruction that it meets; see Run.
+func (f *Filter) Trace(data []byte, originalLength uint32) []Step {
+	found := make([]C.struct_capkit_step, len(f.insns))
+	count := C.capkit_trace(&f.insns[0], C.size_t(len(f.insns)), (*C.uint8_t)(start(data)),
+		C.size_t(len(data)), C.uint32_t(originalLength), &found[0], C.size_t(len(found)))
+	steps := make([]Step, count)
+	for i := range steps {
+		steps[i] = Step{Index: int(found[i].index), A: uint32(found[i].a), X: uint32(found[i].x)}
+		for word, number := range found[i].memory {
+			steps[i].Memory[word] = uint32(number)
+		}
+	}
+	return steps
+}
+
+// Text is an instruction of the program as tcpdump -d prints it, by its index.
+func (f *Filter) Text(index int) string {
+	var buffer [96]C.char
+	C.capkit_insn_text(&f.insns[index], C.uint32_t(index), &buffer[0], C.size_t(len(buffer)))
+	return C.GoString(&buffer[0])
 }
 
 // Matches is whether a packet matches; see Run.

@@ -6,6 +6,7 @@ import "C"
 import (
 	"io"
 	"os"
+	"strings"
 	"syscall"
 	"time"
 	"unsafe"
@@ -104,6 +105,19 @@ func (r *Reader) Next() (Packet, error) {
 // Offset is how far the capture was read, in bytes.
 func (r *Reader) Offset() int {
 	return int(r.reader.offset)
+}
+
+// Line is what capkit print prints of a packet, or with the link header capkit print -e, without its
+// line feed.
+func (p *Packet) Line(withLink bool) string {
+	var buffer [256]C.char
+	flag := C.uint32_t(0)
+	if withLink {
+		flag = 1
+	}
+	C.capkit_line(C.uint16_t(p.LinkType), C.uint64_t(p.Time.UnixNano()), C.uint32_t(p.OriginalLength),
+		(*C.uint8_t)(start(p.Data)), C.size_t(len(p.Data)), flag, &buffer[0], C.size_t(len(buffer)))
+	return strings.TrimSuffix(C.GoString(&buffer[0]), "\n")
 }
 
 func (r *Reader) packet(found *C.struct_capkit_packet) Packet {

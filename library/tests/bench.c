@@ -36,7 +36,7 @@ static int compile_theirs(const char *text)
     static void NAME(void)                                                                         \
     {                                                                                              \
         size_t i, n = 0;                                                                           \
-        uint32_t steps;                                                                            \
+        size_t steps;                                                                              \
         (void)steps;                                                                               \
         for (i = 0; i < sets[0].count; i++) {                                                      \
             const struct packet *p = &sets[0].packets[i];                                          \

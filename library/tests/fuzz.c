@@ -15,7 +15,64 @@ static const uint16_t codes[] = {32, 40, 48, 64,  72,  80,  0,   96,  128, 1,   
 
 static size_t valid, runs, wrong, apart, texts, files, packets, other, answered, unchecked,
     portable, cut_captures;
-static uint8_t *first, *second;
+static size_t steps_seen, printed;
+static uint8_t *first, *second, *third;
+
+/* An instruction is printed as libpcap prints it, but for what capkit.h says. */
+static void print(const struct capkit_insn *p, uint32_t index)
+{
+    size_t room = rnd() % 100, length;
+    char *buffer = place(third, room), *theirs = bpf_image((const struct bpf_insn *)p, index);
+    int has_name = (p->code == 32 || p->code == 40 || p->code == 48) && p->k >= 0xfffff000;
+    length = capkit_insn_text(p, index, buffer, room);
+    wrong += length > 80 || (room && strlen(buffer) != (length < room ? length : room - 1));
+    if (p->code == 129 || has_name || (p->code == 5 && p->k >= 0x7fffff00) ||
+        (p->code % 8 == 5 && strncmp(theirs + 6, "unimp", 5) == 0))
+        return;
+    printed++;
+    wrong += length != strlen(theirs) || (room && strncmp(buffer, theirs, room - 1));
+}
+
+/* What a program returns that has other instructions at a place and behind it, the second a return
+ * of A. A run comes to a place once at most, and then to no place before it. */
+static uint32_t returned(const struct capkit_insn *p, size_t n, const uint8_t *packet, size_t len,
+                         size_t at, uint16_t code, uint32_t k)
+{
+    struct capkit_insn changed[16];
+    struct capkit_insn now = {code, 0, 0, k}, then = {22, 0, 0, 0};
+    size_t any;
+    memcpy(changed, p, n * sizeof *p);
+    changed[at] = now;
+    if (at + 1 < n)
+        changed[at + 1] = then;
+    return capkit_run_any(changed, n, packet, len, len, &any);
+}
+
+/* The steps of a run are those of the runs of programs that return what a step shows, and as many
+ * are written as there is room for. */
+static void trace(const struct capkit_insn *p, size_t n, const uint8_t *packet, size_t len,
+                  size_t count)
+{
+    size_t room = rnd() % 8 ? 16 : rnd() % 16, i, word;
+    struct capkit_step *steps = place(third, room * sizeof *steps);
+    memset(steps, 0xa5, room * sizeof *steps);
+    wrong += capkit_trace(p, n, packet, len, len, steps, room) != count;
+    for (i = 0; i < room && i < count; i++) {
+        const struct capkit_step *s = steps + i;
+        steps_seen++;
+        wrong += s->index >= n || (i && s->index <= steps[i - 1].index);
+        if (s->index >= n)
+            continue;
+        wrong += returned(p, n, packet, len, s->index, 22, 0) != s->a;
+        if (s->index + 1 == n)
+            continue;
+        wrong += returned(p, n, packet, len, s->index, 135, 0) != s->x;
+        for (word = 0; word < 16; word++)
+            wrong += returned(p, n, packet, len, s->index, 96, word) != s->memory[word];
+    }
+    for (; i < room; i++)
+        wrong += steps[i].index != 0xa5a5a5a5 || steps[i].memory[15] != 0xa5a5a5a5;
+}
 
 static void random_programs(size_t rounds)
 {
@@ -35,15 +92,20 @@ static void random_programs(size_t rounds)
             p[n - 1].code = rnd() % 2 ? 6 : 22;
         for (i = 0; i < len; i++)
             packet[i] = rnd();
+        for (i = 0; i < n; i++)
+            print(p + i, i);
         rule = capkit_check(p, n, &index);
         answer = capkit_run_any(p, n, packet, len, len, &any);
         runs++;
         answered += any != 0;
         unchecked += any != 0 && rule != 0;
         if (rule == 0) {
-            uint32_t steps, again = capkit_run(p, n, packet, len, len, &steps);
+            size_t steps;
+            uint32_t again = capkit_run(p, n, packet, len, len, &steps);
             valid++;
             wrong += again != answer || steps != any;
+            wrong += capkit_matches(p, n, packet, len, len) != answer;
+            trace(p, n, packet, len, any);
             if (bpf_validate((struct bpf_insn *)p, n)) {
                 int differs = bpf_filter((struct bpf_insn *)p, packet, len, len) != again;
                 apart += differs;
@@ -76,7 +138,7 @@ static void random_texts(size_t rounds)
         wrong += status > CAPKIT_NO_ROOM ||
                  (status == 0 && (number > room || capkit_check(insns, number, &i))) ||
                  (status == CAPKIT_NO_ROOM && number <= room) ||
-                 (status && !capkit_status_text(status, name, sizeof name));
+                 (status && !capkit_text(status, name, sizeof name));
         uint32_t again = capkit_bound(text, len, &bound);
         wrong += (again == 0) != (status == 0 || status == CAPKIT_NO_ROOM) ||
                  (again == 0 && number > bound) || (again && (again != status || bound != number));
@@ -119,10 +181,11 @@ static void captures(const char *name, size_t rounds)
         theirs = pcap_fopen_offline_with_tstamp_precision(again, PCAP_TSTAMP_PRECISION_NANO, why);
         if (!theirs && again)
             fclose(again);
-        while ((found = capkit_next(&reader, table, 256, capture, size, &p)) == 0 || found == 23) {
+        while ((found = capkit_next(&reader, table, 256, capture, size, &p)) == 0 ||
+               found == CAPKIT_NO_PACKET) {
             if (reader.offset > size)
                 wrong++;
-            if (found == 23)
+            if (found == CAPKIT_NO_PACKET)
                 continue;
             if (p.options_at + p.options_length > size ||
                 capkit_comment(&reader, capture, size, &p, comment, sizeof comment) >
@@ -149,7 +212,7 @@ static void captures(const char *name, size_t rounds)
                 }
             }
         }
-        wrong += found > 24 || capkit_found_text(found, comment, 0) == 0;
+        wrong += found < 201 || found > 224 || capkit_text(found, comment, 0) == 0;
         if (theirs)
             pcap_close(theirs);
     }
@@ -169,7 +232,8 @@ static void cuts(const char *name)
         struct capkit_packet p;
         size_t seen = 0;
         uint32_t found;
-        while ((found = capkit_next(&reader, table, 256, capture, cut, &p)) == 0 || found == 23) {
+        while ((found = capkit_next(&reader, table, 256, capture, cut, &p)) == 0 ||
+               found == CAPKIT_NO_PACKET) {
             seen += found == 0;
             wrong += reader.offset > cut || (found == 0 && p.at + p.captured > reader.offset);
         }
@@ -186,7 +250,7 @@ static void nothing(void)
     struct capkit_reader reader = {0};
     struct capkit_packet p = {0};
     size_t number, index, any;
-    uint32_t steps;
+    size_t steps;
     wrong += capkit_compile(NULL, 0, CAPKIT_LINK_RAW, NULL, 0, &number) != CAPKIT_NO_ROOM;
     wrong += capkit_bound(NULL, 0, &index) != CAPKIT_OK || number > index;
     wrong += capkit_check(NULL, 0, &index) != CAPKIT_EMPTY;
@@ -195,7 +259,12 @@ static void nothing(void)
     wrong += capkit_next(&reader, NULL, 0, NULL, 0, &p) != CAPKIT_NOT_A_CAPTURE_FILE;
     wrong += capkit_comment(&reader, NULL, 0, &p, NULL, 0) != 0;
     wrong += capkit_write_section(NULL, 0, &number) != CAPKIT_NO_ROOM_IN_BUFFER;
-    wrong += capkit_status_text(CAPKIT_NO_ROOM, NULL, 0) == 0;
+    wrong += capkit_matches(&accept, 1, NULL, 0, 0) != 7;
+    wrong += capkit_trace(&accept, 1, NULL, 0, 0, NULL, 0) != 1;
+    wrong += capkit_insn_text(&accept, 0, NULL, 0) != 17;
+    wrong += capkit_line(CAPKIT_LINK_RAW, 0, 0, NULL, 0, 0, NULL, 0) == 0;
+    wrong += capkit_text(CAPKIT_NO_ROOM, NULL, 0) == 0;
+    wrong += capkit_version() != CAPKIT_VERSION_NUMBER;
 }
 
 int main(int argc, char **argv)
@@ -205,6 +274,7 @@ int main(int argc, char **argv)
     seed = argc > 1 ? atol(argv[1]) * 0x9e3779b97f4a7c15u + 1 : 1;
     first = guarded();
     second = guarded();
+    third = guarded();
     random_programs(rounds);
     random_texts(rounds);
     nothing();
@@ -219,6 +289,8 @@ int main(int argc, char **argv)
            "files: %zu; bpf_filter other on %zu\n",
            texts, files, packets, other, apart);
     printf("%zu runs of programs that capkit_is_portable takes\n", portable);
+    printf("%zu steps of runs; %zu instructions printed as libpcap prints them\n", steps_seen,
+           printed);
     printf("%zu captures that were cut behind each of their bytes\n", cut_captures);
     printf("broken promises: %zu\n", wrong);
     return wrong != 0;

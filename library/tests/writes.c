@@ -179,7 +179,7 @@ static void in_room(const struct unit *u, uint32_t refuses, size_t room)
                  !is_filled(buffer + size, room - size);
         whole++;
     }
-    wrong += status && !capkit_found_text(status, name, sizeof name);
+    wrong += status && !capkit_text(status, name, sizeof name);
 }
 
 /* Mostly small, at times at a limit. */

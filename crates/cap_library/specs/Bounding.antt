@@ -1,11 +1,10 @@
 -- What asking for the bound of an expression leaves.
 use Rattle.std.specs.Prelude.{◌≡◌, ◌≤◌, ℕ, List, length}
-use Rattle.std.specs.Str.{IsUtf8, IsValidUpTo}
 use Rattle.flt_bpf.specs.declared.insn.Insn.{Insn}
 use Rattle.flt_tree.specs.Counts.{bound_of}
 use Rattle.flt_tree.specs.Tree.{Expression}
 use Rattle.cap_filter.specs.Expressions.{IsExpression, IsTextFault}
-use Rattle.cap_library.specs.Compiling.{IsFor, failure_number, failure_status}
+use Rattle.cap_library.specs.Compiling.{IsFor, IsNotUtf8, failure_number, failure_status}
 use Rattle.cap_library.specs.declared.compiling.Failure.{Failure}
 use Rattle.cap_library.specs.declared.compiling.Failure.TheVariants.{Text, NotUtf8, LinkType, NoRoom}
 
@@ -20,7 +19,7 @@ pub record IsBound (text : List ℕ) (number : ℕ) : Type 0 where
 -- why a text has none
 abbrev pub IsTextFailure : List ℕ → Failure → Type 0
 IsTextFailure text (Text refusal) = IsTextFault text refusal
-IsTextFailure text (NotUtf8 at) = (¬ IsUtf8 text) × IsValidUpTo text at
+IsTextFailure text (NotUtf8 at) = IsNotUtf8 text at
 IsTextFailure text LinkType = ⊥
 IsTextFailure text (NoRoom needed) = ⊥
 

@@ -1,9 +1,10 @@
 -- What a compilation for C leaves.
-use Rattle.std.specs.Prelude.{◌≡◌, ℕ, ◌<◌, ◌≤◌, List, length, take, drop, None, Some, unwrap_or}
+use Rattle.std.specs.Prelude.{◌≡◌, ℕ, ◌+◌, ◌<◌, ◌≤◌, ◌==◌, if◌then◌else◌, List, length, take, drop, None, Some, unwrap_or}
 use Rattle.std.specs.Str.{IsUtf8, IsValidUpTo}
 use Rattle.flt_bpf.specs.declared.insn.Insn.{Insn}
 use Rattle.flt_words.specs.declared.fault.ExprFault.TheVariants as fault
 use Rattle.flt_words.specs.Messages as messages
+use Rattle.cap_octet.specs.Assigned.{LINKTYPE_RAW}
 use Rattle.cap_octet.specs.declared.link.Link.{Link}
 use Rattle.cap_filter.specs.Compilation.{IsCompiled}
 use Rattle.cap_filter.specs.Expressions.{IsTextFault}
@@ -11,11 +12,19 @@ use Rattle.cap_filter.specs.Links.{link_of}
 use Rattle.cap_library.specs.declared.compiling.Failure.{Failure}
 use Rattle.cap_library.specs.declared.compiling.Failure.TheVariants.{Text, NotUtf8, LinkType, NoRoom}
 
+-- what libpcap's pcap_datalink() calls raw IP
+abbrev pub DLT_RAW : ℕ
+DLT_RAW = 12
+
+-- the link type as files have it: that of raw IP is libpcap's too
+abbrev pub file_link_type : ℕ → ℕ
+file_link_type n = if n == DLT_RAW then LINKTYPE_RAW else n
+
 -- a program for the expression that a text is, on packets of a link type: it is valid, accepts
 -- exactly the packets that match, and has at most as many instructions as the expression's bound
 pub record IsFor (text : List ℕ) (link_type : ℕ) (prog : List Insn) : Type 0 where
   pub link : Link
-  pub read : link_of link_type ≡ Some link
+  pub read : link_of (file_link_type link_type) ≡ Some link
   pub compiled : IsCompiled text link prog
 
 -- so many instructions at the start are such a program, and those behind them are as they were
@@ -26,11 +35,18 @@ pub record WritesProgram (text : List ℕ) (link_type : ℕ) (old new : List Ins
   pub fits : count ≤ length old
   pub rest : drop count new ≡ drop count old
 
+-- a text isn't UTF-8 from a byte on, which is counted from 1
+pub record IsNotUtf8 (text : List ℕ) (at : ℕ) : Type 0 where
+  pub not_utf8 : ¬ IsUtf8 text
+  pub before : ℕ
+  pub valid : IsValidUpTo text before
+  pub counted : at ≡ before + 1
+
 -- why there is none; memory may be refused whatever the text is
 abbrev pub IsFailure : List ℕ → ℕ → ℕ → Failure → Type 0
 IsFailure text link_type room (Text refusal) = IsTextFault text refusal
-IsFailure text link_type room (NotUtf8 at) = (¬ IsUtf8 text) × IsValidUpTo text at
-IsFailure text link_type room LinkType = link_of link_type ≡ None
+IsFailure text link_type room (NotUtf8 at) = IsNotUtf8 text at
+IsFailure text link_type room LinkType = link_of (file_link_type link_type) ≡ None
 IsFailure text link_type room (NoRoom needed) =
     (room < needed) × ((prog : List Insn) × IsFor text link_type prog × (length prog ≡ needed))
 
@@ -53,8 +69,7 @@ failure_status (NotUtf8 at) = 14
 failure_status LinkType = 15
 failure_status (NoRoom needed) = 16
 
--- where the text is wrong, from 1, or from 0 where it isn't UTF-8; how many instructions are
--- needed; else 0
+-- where the text is wrong, in bytes from 1; how many instructions are needed; else 0
 abbrev pub failure_number : Failure → ℕ
 failure_number (Text refusal) = unwrap_or (messages.place_of refusal) 0
 failure_number (NotUtf8 at) = at

@@ -9,37 +9,37 @@ use Rattle.cap_memory.specs.declared.layout.Reader.{Reader}
 use Rattle.cap_memory.specs.declared.reader.Found.{Found}
 use Rattle.cap_memory.specs.declared.reader.Found.TheVariants as found
 
--- the number of a fault, 1 to 21
+-- the number of a fault, 201 to 221
 abbrev pub fault_number : Fault → ℕ
-fault_number fault.NotACaptureFile = 1
-fault_number fault.Truncated = 2
-fault_number fault.BadVersion = 3
-fault_number fault.TooLong = 4
-fault_number fault.BadBlockLength = 5
-fault_number fault.BadByteOrderMagic = 6
-fault_number fault.UnknownInterface = 7
-fault_number fault.BadOption = 8
-fault_number fault.BadBody = 9
-fault_number fault.TimeOutOfRange = 10
-fault_number fault.TooManyInterfaces = 11
-fault_number fault.BadTimeResolution = 12
-fault_number fault.BadLinkTypeField = 13
-fault_number fault.ObsoletePacketBlock = 14
-fault_number fault.ReadFailed = 15
-fault_number fault.NoMemory = 16
-fault_number fault.WriteFailed = 17
-fault_number fault.LinkTypesDiffer = 18
-fault_number fault.LinkTypeNotFiltered = 19
-fault_number fault.TooManyPackets = 20
-fault_number fault.TooManyOutputInterfaces = 21
+fault_number fault.NotACaptureFile = 201
+fault_number fault.Truncated = 202
+fault_number fault.BadVersion = 203
+fault_number fault.TooLong = 204
+fault_number fault.BadBlockLength = 205
+fault_number fault.BadByteOrderMagic = 206
+fault_number fault.UnknownInterface = 207
+fault_number fault.BadOption = 208
+fault_number fault.BadBody = 209
+fault_number fault.TimeOutOfRange = 210
+fault_number fault.TooManyInterfaces = 211
+fault_number fault.BadTimeResolution = 212
+fault_number fault.BadLinkTypeField = 213
+fault_number fault.ObsoletePacketBlock = 214
+fault_number fault.ReadFailed = 215
+fault_number fault.NoMemory = 216
+fault_number fault.WriteFailed = 217
+fault_number fault.LinkTypesDiffer = 218
+fault_number fault.LinkTypeNotFiltered = 219
+fault_number fault.TooManyPackets = 220
+fault_number fault.TooManyOutputInterfaces = 221
 
 -- the number of what a call found
 abbrev pub found_number : Found → ℕ
 found_number found.Packet = 0
 found_number (found.Fault fault) = fault_number fault
-found_number found.End = 22
-found_number found.Unit = 23
-found_number found.NoRoom = 24
+found_number found.End = 222
+found_number found.Unit = 223
+found_number found.NoRoom = 224
 
 -- something is found, and the number is its own
 pub record UnitLeaves (capture : List ℕ) (r r' : Reader) (t t' : List Interface) (p p' : Packet)

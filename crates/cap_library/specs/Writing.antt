@@ -9,7 +9,7 @@ use Rattle.cap_library.specs.Reading.{fault_number}
 -- the number of what became of the bytes
 abbrev pub written_number : Written → ℕ
 written_number (written.Whole count) = 0
-written_number (written.NoRoom count) = 25
+written_number (written.NoRoom count) = 225
 written_number (written.Refused fault) = fault_number fault
 
 -- how many bytes they are; 0 where they are refused

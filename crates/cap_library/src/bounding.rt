@@ -2,7 +2,7 @@
 ghost use Rattle.std.specs.Prelude.{IfOk, IfErr};
 ghost use Rattle.cap_library.specs.Bounding.{BoundLeaves, IsBound, IsTextFailure};
 
-use crate::compiling::Failure;
+use crate::compiling::{Failure, utf8};
 use cap_filter::expression::read_expression;
 use flt_lang::bound;
 use std::alloc::Global;
@@ -12,9 +12,9 @@ fn bound_in(alloc: Global, text: &[u8]) -> Result<usize, Failure>
     ensures bounded { IfOk result (IsBound text.now) }
     ensures failed { IfErr result (IsTextFailure text.now) }
 {
-    let text = match std::str::from_utf8(text) {
+    let text = match utf8(text) {
         Ok(text) => text,
-        Err(fault) => return Err(Failure::NotUtf8(fault.valid_up_to())),
+        Err(at) => return Err(Failure::NotUtf8(at)),
     };
     match read_expression(alloc, text) {
         Ok(checked) => Ok(bound(&checked) as usize),

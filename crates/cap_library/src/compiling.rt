@@ -2,8 +2,8 @@
 ghost use Rattle.std.specs.Prelude.{◌≡◌, ◌≤◌, IfOk, IfErr, OnErr, length};
 ghost use Rattle.cap_filter.specs.Links.{link_of};
 ghost use Rattle.cap_library.specs.Compiling.{CompilesText, IsFailure, WritesProgram};
-ghost use Rattle.cap_library.specs.Compiling.{failure_number};
-ghost use Rattle.cap_library.specs.Compiling.{failure_status};
+ghost use Rattle.cap_library.specs.Compiling.{IsNotUtf8, failure_number};
+ghost use Rattle.cap_library.specs.Compiling.{failure_status, file_link_type};
 
 use cap_filter::compile::compile_text;
 use cap_octet::Link;
@@ -12,12 +12,15 @@ use flt_bpf::Insn;
 use flt_words::ExprFault;
 use std::alloc::Global;
 
+/// What libpcap's pcap_datalink() calls raw IP.
+const DLT_RAW: u16 = 12;
+
 /// Why nothing was compiled.
 #[derive(Clone, Copy)]
 pub enum Failure {
     /// The text is refused, or there was no memory.
     Text(ExprFault),
-    /// The text isn't UTF-8 from this byte on, from 0.
+    /// The text isn't UTF-8 from this byte on, from 1.
     NotUtf8(usize),
     /// Expressions aren't read on packets of this link type.
     LinkType,
@@ -38,6 +41,28 @@ fn link_of(number: u16) -> Option<Link>
     }
 }
 
+/// The link type as files have it, of one that libpcap's pcap_datalink() may give.
+pub(crate) fn file_link_type(number: u16) -> u16
+    ensures { result ≡ file_link_type number }
+{
+    if number == DLT_RAW {
+        LINKTYPE_RAW
+    } else {
+        number
+    }
+}
+
+/// The bytes as text, or the first byte, from 1, from which on they aren't UTF-8.
+pub(crate) fn utf8(bytes: &[u8]) -> Result<&str, usize>
+    ensures text { IfOk result (λ text. text.now ≡ bytes.now) }
+    ensures failed { IfErr result (IsNotUtf8 bytes.now) }
+{
+    match std::str::from_utf8(bytes) {
+        Ok(text) => Ok(text),
+        Err(fault) => Err(fault.valid_up_to() + 1),
+    }
+}
+
 /// Compiles a text, and writes the program.
 fn compile_into(
     alloc: Global,
@@ -50,12 +75,12 @@ fn compile_into(
     ensures failed { IfErr result (IsFailure text.now link_type (length insns.old)) }
     ensures kept { OnErr result (insns.new ≡ insns.old) }
 {
-    let Some(link) = link_of(link_type) else {
+    let Some(link) = link_of(file_link_type(link_type)) else {
         return Err(Failure::LinkType);
     };
-    let text = match std::str::from_utf8(text) {
+    let text = match utf8(text) {
         Ok(text) => text,
-        Err(fault) => return Err(Failure::NotUtf8(fault.valid_up_to())),
+        Err(at) => return Err(Failure::NotUtf8(at)),
     };
     let program = match compile_text(alloc, text, link) {
         Ok(program) => program,

@@ -1,9 +1,10 @@
 //! The units of a capture that lies in memory, pcap or pcapng.
-ghost use Rattle.std.specs.Prelude.{◌≡◌, List, length, min, take, drop, ◌++◌};
+ghost use Rattle.std.specs.Prelude.{◌≡◌, List, length, take, drop};
 ghost use Rattle.cap_memory.specs.Layout.{declared_in};
 ghost use Rattle.cap_memory.specs.Units.{comment_by};
 ghost use Rattle.cap_memory.specs.declared.layout.Interface.{Interface};
 ghost use Rattle.cap_library.specs.Reading.{UnitLeaves, fault_number, found_number};
+ghost use Rattle.cap_library.specs.Texts.{put_text};
 
 use crate::texts::put;
 use cap_memory::{Found, Interface, Packet, Reader, comment_of, next_unit};
@@ -14,27 +15,27 @@ pub(crate) fn fault_number(fault: Fault) -> u32
     ensures { result ≡ fault_number fault }
 {
     match fault {
-        Fault::NotACaptureFile => 1,
-        Fault::Truncated => 2,
-        Fault::BadVersion => 3,
-        Fault::TooLong => 4,
-        Fault::BadBlockLength => 5,
-        Fault::BadByteOrderMagic => 6,
-        Fault::UnknownInterface => 7,
-        Fault::BadOption => 8,
-        Fault::BadBody => 9,
-        Fault::TimeOutOfRange => 10,
-        Fault::TooManyInterfaces => 11,
-        Fault::BadTimeResolution => 12,
-        Fault::BadLinkTypeField => 13,
-        Fault::ObsoletePacketBlock => 14,
-        Fault::ReadFailed => 15,
-        Fault::NoMemory => 16,
-        Fault::WriteFailed => 17,
-        Fault::LinkTypesDiffer => 18,
-        Fault::LinkTypeNotFiltered => 19,
-        Fault::TooManyPackets => 20,
-        Fault::TooManyOutputInterfaces => 21,
+        Fault::NotACaptureFile => 201,
+        Fault::Truncated => 202,
+        Fault::BadVersion => 203,
+        Fault::TooLong => 204,
+        Fault::BadBlockLength => 205,
+        Fault::BadByteOrderMagic => 206,
+        Fault::UnknownInterface => 207,
+        Fault::BadOption => 208,
+        Fault::BadBody => 209,
+        Fault::TimeOutOfRange => 210,
+        Fault::TooManyInterfaces => 211,
+        Fault::BadTimeResolution => 212,
+        Fault::BadLinkTypeField => 213,
+        Fault::ObsoletePacketBlock => 214,
+        Fault::ReadFailed => 215,
+        Fault::NoMemory => 216,
+        Fault::WriteFailed => 217,
+        Fault::LinkTypesDiffer => 218,
+        Fault::LinkTypeNotFiltered => 219,
+        Fault::TooManyPackets => 220,
+        Fault::TooManyOutputInterfaces => 221,
     }
 }
 
@@ -45,15 +46,15 @@ fn found_number(found: Found) -> u32
     match found {
         Found::Packet => 0,
         Found::Fault(fault) => fault_number(fault),
-        Found::End => 22,
-        Found::Unit => 23,
-        Found::NoRoom => 24,
+        Found::End => 222,
+        Found::Unit => 223,
+        Found::NoRoom => 224,
     }
 }
 
-/// Reads the unit at the reader's place. By 0 it has a packet, by 23 none, and the reader is behind
-/// it; 22 is the clean end; by 24 the table has no room for its interface; any other number is that
-/// of the first check that it fails. By these nothing is written.
+/// Reads the unit at the reader's place. By 0 it has a packet, by 223 none, and the reader is after
+/// it; 222 is the clean end; by 224 the table has no room for its interface; any other number is
+/// that of the first check that it fails. By these nothing is written.
 #[unsafe(no_mangle)]
 pub extern "C" fn capkit_next(
     reader: &mut Reader,
@@ -79,10 +80,9 @@ pub extern "C" fn capkit_comment(
     ensures count { (table : List Interface) → result ≡ length (comment_by
         (declared_in reader.now table) (take packet.now.options_length
         (drop packet.now.options_at capture.now))) }
-    ensures put { (table : List Interface) → let comment = comment_by (declared_in reader.now table)
-        (take packet.now.options_length (drop packet.now.options_at capture.now)) in
-        let count = min (length comment) (length buffer.old) in
-        buffer.new ≡ take count comment ++ drop count buffer.old }
+    ensures put { (table : List Interface) → buffer.new ≡ put_text (comment_by
+        (declared_in reader.now table) (take packet.now.options_length
+        (drop packet.now.options_at capture.now))) buffer.old }
 {
     put(comment_of(reader, capture, packet), buffer)
 }

@@ -1,24 +1,26 @@
 //! The check of the caller's instructions, and their runs.
-ghost use Rattle.std.specs.Prelude.{◌≡◌, length};
+ghost use Rattle.std.specs.Prelude.{◌≡◌, ℕ, length};
 ghost use Rattle.flt_bpf.specs.Machine.{machine, Answered};
 ghost use Rattle.flt_bpf.specs.Valid.{IsValid};
+ghost use Rattle.flt_trace.specs.Trace.{Traces};
 ghost use Rattle.cap_library.specs.Running.{CheckLeaves, RunLeaves, rule_number};
 
 use flt_bpf::{CheckFault, Insn, check_insns, run_any, run_insns};
+use flt_trace::{Step, trace};
 
 /// The number of a rule.
 fn rule_number(fault: CheckFault) -> u32
     ensures { result ≡ rule_number fault }
 {
     match fault {
-        CheckFault::Empty => 1,
-        CheckFault::TooLong => 2,
-        CheckFault::UnknownCode => 3,
-        CheckFault::JumpOut => 4,
-        CheckFault::NoSuchWord => 5,
-        CheckFault::DivisionByZero => 6,
-        CheckFault::ShiftTooFar => 7,
-        CheckFault::NoReturn => 8,
+        CheckFault::Empty => 101,
+        CheckFault::TooLong => 102,
+        CheckFault::UnknownCode => 103,
+        CheckFault::JumpOut => 104,
+        CheckFault::NoSuchWord => 105,
+        CheckFault::DivisionByZero => 106,
+        CheckFault::ShiftTooFar => 107,
+        CheckFault::NoReturn => 108,
     }
 }
 
@@ -43,13 +45,33 @@ pub extern "C" fn capkit_check(insns: &[Insn], index: &mut usize) -> u32
 /// What a valid program returns on a packet of original length `len`. C sees to it that the
 /// instructions passed the check, or were compiled.
 #[unsafe(no_mangle)]
-pub extern "C" fn capkit_run(insns: &[Insn], packet: &[u8], len: u32, steps: &mut u32) -> u32
+pub extern "C" fn capkit_run(insns: &[Insn], packet: &[u8], len: u32, steps: &mut usize) -> u32
     requires { IsValid insns.now }
     ensures { machine insns.now packet.now len (length insns.now) ≡ Answered result steps.new }
 {
     let (answer, count) = run_insns(insns, packet, len);
-    *steps = count;
+    *steps = count as usize;
     answer
+}
+
+/// The same where the steps aren't asked for.
+#[unsafe(no_mangle)]
+pub extern "C" fn capkit_matches(insns: &[Insn], packet: &[u8], len: u32) -> u32
+    requires { IsValid insns.now }
+    ensures { (steps : ℕ) × (machine insns.now packet.now len (length insns.now)
+        ≡ Answered result steps) }
+{
+    run_insns(insns, packet, len).0
+}
+
+/// What a run of a valid program is before each instruction that it meets, as far as there is room;
+/// gives how many it meets.
+#[unsafe(no_mangle)]
+pub extern "C" fn capkit_trace(insns: &[Insn], packet: &[u8], len: u32, steps: &mut [Step]) -> usize
+    requires { IsValid insns.now }
+    ensures { (answer : ℕ) × Traces insns.now packet.now len steps.old steps.new answer result }
+{
+    trace(insns, packet, len, steps).1
 }
 
 /// The same for any instructions. Where a run meets one that breaks a rule, or goes past the end,

@@ -2,6 +2,7 @@
 
 mod captures;
 mod portable;
+mod printing;
 mod programs;
 mod texts;
 mod units;

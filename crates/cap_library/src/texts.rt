@@ -1,8 +1,18 @@
-//! What the statuses are called.
-ghost use Rattle.std.specs.Prelude.{◌≡◌, length, min, take, drop, ◌++◌};
-ghost use Rattle.cap_library.specs.Texts.{found_text, rule_text, status_text};
+//! What the numbers are called, and how a text is put into a buffer.
+ghost use Rattle.std.specs.Prelude.{◌≡◌, ◌+◌, ◌<◌, ◌∷◌, ◌++◌, drop, length};
+ghost use Rattle.cap_library.specs.Texts.{found_text, number_text, put_text, rule_text};
+ghost use Rattle.cap_library.specs.Texts.{status_text, version};
 
 use cap_octet::Fault;
+
+/// The numbers of rules begin behind this one.
+pub(crate) const RULES: u32 = 100;
+
+/// The numbers of readings and writes begin behind this one.
+pub(crate) const FOUND: u32 = 200;
+
+/// The version of the library.
+const VERSION: [u8; 3] = [0, 1, 0];
 
 /// What a status of a compilation is called; nothing where none has the number.
 fn status_text(status: u32) -> &'static str
@@ -29,7 +39,7 @@ fn status_text(status: u32) -> &'static str
     }
 }
 
-/// What a broken rule is called; nothing where none has the number.
+/// What the rule is called that has this number behind `RULES`.
 fn rule_text(rule: u32) -> &'static str
     ensures { result.now ≡ rule_text rule }
 {
@@ -46,18 +56,30 @@ fn rule_text(rule: u32) -> &'static str
     }
 }
 
-/// Puts as many bytes into a buffer as fit, and gives how many there are.
+/// Puts as many bytes into a buffer as there is room for in front of a NUL, and the NUL; gives how
+/// many bytes there are.
 pub(crate) fn put(bytes: &[u8], buffer: &mut [u8]) -> usize
     ensures count { result ≡ length bytes.now }
-    ensures put { let count = min (length bytes.now) (length buffer.old) in
-        buffer.new ≡ take count bytes.now ++ drop count buffer.old }
+    ensures put { buffer.new ≡ put_text bytes.now buffer.old }
 {
-    let count = bytes.len().min(buffer.len());
-    buffer[..count].copy_from_slice(&bytes[..count]);
+    if !buffer.is_empty() {
+        let count = bytes.len().min(buffer.len() - 1);
+        put_front(&bytes[..count], buffer);
+    }
     bytes.len()
 }
 
-/// What a number of a reading or a write is called; nothing where none has it.
+/// Puts bytes into a buffer that has room for them, and a NUL behind them.
+fn put_front(bytes: &[u8], buffer: &mut [u8])
+    requires { length bytes.now < length buffer.old }
+    ensures { buffer.new ≡ bytes.now ++ 0 ∷ drop (length bytes.now + 1) buffer.old }
+{
+    let count = bytes.len();
+    buffer[..count].copy_from_slice(bytes);
+    buffer[count] = 0;
+}
+
+/// What a number behind `FOUND` is called, of a reading or a write.
 fn found_text(number: u32) -> &'static str
     ensures { result.now ≡ found_text number }
 {
@@ -85,32 +107,31 @@ fn found_text(number: u32) -> &'static str
     }
 }
 
-/// Puts what a status of a compilation is called into a buffer, and gives its length.
-#[unsafe(no_mangle)]
-pub extern "C" fn capkit_status_text(status: u32, buffer: &mut [u8]) -> usize
-    ensures count { result ≡ length (status_text status) }
-    ensures put { let count = min (length (status_text status)) (length buffer.old) in
-        buffer.new ≡ take count (status_text status) ++ drop count buffer.old }
+/// What any number is called; nothing where none has it.
+fn number_text(number: u32) -> &'static str
+    ensures { result.now ≡ number_text number }
 {
-    put(status_text(status).as_bytes(), buffer)
+    match number {
+        0..RULES => status_text(number),
+        RULES..FOUND => rule_text(number - RULES),
+        _ => found_text(number - FOUND),
+    }
 }
 
-/// Puts what a broken rule is called into a buffer, and gives its length.
+/// Puts what a number of any call is called into a buffer, and gives its length.
 #[unsafe(no_mangle)]
-pub extern "C" fn capkit_rule_text(rule: u32, buffer: &mut [u8]) -> usize
-    ensures count { result ≡ length (rule_text rule) }
-    ensures put { let count = min (length (rule_text rule)) (length buffer.old) in
-        buffer.new ≡ take count (rule_text rule) ++ drop count buffer.old }
+pub extern "C" fn capkit_text(number: u32, buffer: &mut [u8]) -> usize
+    ensures count { result ≡ length (number_text number) }
+    ensures put { buffer.new ≡ put_text (number_text number) buffer.old }
 {
-    put(rule_text(rule).as_bytes(), buffer)
+    put(number_text(number).as_bytes(), buffer)
 }
 
-/// Puts what a number of a reading or a write is called into a buffer, and gives its length.
+/// The version of the library: a byte each for its three numbers, the first one in front.
 #[unsafe(no_mangle)]
-pub extern "C" fn capkit_found_text(number: u32, buffer: &mut [u8]) -> usize
-    ensures count { result ≡ length (found_text number) }
-    ensures put { let count = min (length (found_text number)) (length buffer.old) in
-        buffer.new ≡ take count (found_text number) ++ drop count buffer.old }
+pub extern "C" fn capkit_version() -> u32
+    ensures { result ≡ version }
 {
-    put(found_text(number).as_bytes(), buffer)
+    let [major, minor, patch] = VERSION;
+    u32::from(major) * 0x1_0000 + u32::from(minor) * 0x100 + u32::from(patch)
 }

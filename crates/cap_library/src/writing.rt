@@ -26,7 +26,7 @@ fn tell(written: Written, length: &mut usize) -> u32
         }
         Written::NoRoom(count) => {
             *length = count;
-            25
+            225
         }
         Written::Refused(fault) => {
             *length = 0;
@@ -36,7 +36,7 @@ fn tell(written: Written, length: &mut usize) -> u32
 }
 
 /// Puts the file header of a pcap file, with the greatest snapshot length. By 0 its bytes are at
-/// the start of the buffer; by 25 the buffer has no room for them. `length` is how many they are.
+/// the start of the buffer; by 225 the buffer has no room for them. `length` is how many they are.
 #[unsafe(no_mangle)]
 pub extern "C" fn capkit_write_file_header(
     nanoseconds: u32,
@@ -51,7 +51,7 @@ pub extern "C" fn capkit_write_file_header(
     tell(write_file_header(nanoseconds, link_type, buffer), length)
 }
 
-/// Puts a record of a pcap file. By 4 and 10 its packet isn't held, and the length is 0.
+/// Puts a record of a pcap file. By 204 and 210 its packet isn't held, and the length is 0.
 #[unsafe(no_mangle)]
 pub extern "C" fn capkit_write_record(
     nanoseconds: u32,
@@ -78,7 +78,7 @@ pub extern "C" fn capkit_write_section(buffer: &mut [u8], length: &mut usize) ->
     tell(write_section(buffer), length)
 }
 
-/// Puts an interface description block. By 8 its name is too long, and the length is 0.
+/// Puts an interface description block. By 208 its name is too long, and the length is 0.
 #[unsafe(no_mangle)]
 pub extern "C" fn capkit_write_interface(
     link_type: u16,
@@ -93,7 +93,8 @@ pub extern "C" fn capkit_write_interface(
     tell(write_interface(link_type, snap, name, buffer), length)
 }
 
-/// Puts an enhanced packet block. By 4, 8, 10 and 21 its packet isn't held, and the length is 0.
+/// Puts an enhanced packet block. By 204, 208, 210 and 221 its packet isn't held, and the length is
+/// 0.
 #[unsafe(no_mangle)]
 pub extern "C" fn capkit_write_packet(
     interface: u32,

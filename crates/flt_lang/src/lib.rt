@@ -2,15 +2,19 @@
 //! and a tree is checked before code is made of it.
 #![tactic(auto)]
 
+mod backward;
 mod checking;
 mod counts;
+mod explaining;
 pub mod laws;
 mod parser;
 mod resolving;
+mod spelling;
 mod sums;
 
 pub use checking::check;
 pub use counts::{bound, nodes, tests, words};
+pub use explaining::explain;
 pub use flt_tree::{
     Checked, CompleteQualifiers, Direction, Dotted, Expr, Ip4Net, NetMask, Node, Qualifiers, Value,
 };

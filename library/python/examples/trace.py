@@ -1,32 +1,18 @@
-"""Shows which instructions of an expression's program run on a packet, and what A is before each.
+"""Shows which instructions of an expression's program run on a packet, with A and X before each.
 
-It asks the proved machine: each instruction in turn is replaced by one that returns, first a
-number, which shows whether it is met, then A. The statuses are those of capkit: 1 after a fault,
-and 2 where the command line or the expression is refused.
+The statuses are those of capkit: 1 after a fault, and 2 where the command line or the expression is
+refused.
 """
 import itertools
 import sys
 
 import capkit
 
-RETURN_NUMBER, RETURN_A = 6, 22
-MARK = 0x1234567
-
-
-def result(program: capkit.Filter, place: int, code: int, packet: capkit.Packet) -> int:
-    """What the program returns on a packet with another instruction in this place."""
-    instructions = [*program.instructions]
-    instructions[place] = capkit.Instruction(code, 0, 0, MARK)
-    changed = capkit.Filter.from_instructions(instructions)
-    return changed.run(packet.data, packet.original_length)
-
 
 def trace(program: capkit.Filter, packet: capkit.Packet) -> None:
-    # Jumps go forward, so the order of the places is that of the steps.
-    for place, (code, jt, jf, k) in enumerate(program.instructions):
-        if result(program, place, RETURN_NUMBER, packet) == MARK:
-            a = result(program, place, RETURN_A, packet)
-            print(f"({place:03}) {f'{code} {jt} {jf} {k}':<20} A is {a:#x}")
+    for step in program.trace(packet.data, packet.original_length):
+        text = program.text(step.index).replace("\t", " ")
+        print(f"{text:<44} A is {step.a:#x}, X is {step.x:#x}")
     print(f"it returns {program.run(packet.data, packet.original_length)}")
 
 

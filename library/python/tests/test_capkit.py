@@ -59,6 +59,18 @@ class FilterTest(unittest.TestCase):
         self.assertEqual(arp.instructions[1], capkit.Instruction(21, 0, 1, 2054))
         self.assertTrue(arp.is_portable)
 
+    def test_trace(self):
+        arp = capkit.Filter("arp", capkit.LINK_ETHERNET)
+        steps = arp.trace(ARP)
+        self.assertEqual([(step.index, step.a) for step in steps], [(0, 0), (1, 0x806), (2, 0x806)])
+        self.assertEqual(steps[0].memory, (0,) * 16)
+        self.assertEqual([step.index for step in arp.trace(b"")], [0])
+        # tcpdump -y EN10MB -d arp
+        self.assertEqual(arp.text(0), "(000) ldh      [12]")
+        self.assertEqual(arp.text(1), "(001) jeq      #0x806           jt 2\tjf 3")
+        with self.assertRaises(IndexError):
+            arp.text(4)
+
     def test_instructions_from_elsewhere(self):
         length = capkit.Filter.from_instructions([(128, 0, 0, 0), (22, 0, 0, 0)])
         self.assertEqual(length.run(ARP, 99), 99)
@@ -91,7 +103,18 @@ class FilterTest(unittest.TestCase):
         ip = capkit.Expression("udp")
         self.assertTrue(ip.matches(packet(UDP)))
         self.assertTrue(ip.matches(packet(UDP[14:], link_type=capkit.LINK_RAW)))
+        # libpcap's DLT_RAW
+        self.assertTrue(ip.matches(packet(UDP[14:], link_type=12)))
         self.assertIs(ip.filter(capkit.LINK_RAW), ip.filter(capkit.LINK_RAW))
+
+    def test_line(self):
+        # What `capkit print` and `capkit print -e` print.
+        line = packet(b"\x45", link_type=capkit.LINK_RAW).line()
+        self.assertEqual(line, "2023-11-14 22:13:20.123456789 IP [short], length 1")
+        line = packet(b"\x45", link_type=capkit.LINK_RAW, original_length=60).line(with_link=True)
+        self.assertEqual(line, "2023-11-14 22:13:20.123456789 raw, IP [short], length 60")
+        with self.assertRaisesRegex(ValueError, "time"):
+            packet(time=1 << 63).line()
 
     def test_long_program(self):
         hosts = " or ".join(f"host 10.0.{i // 256}.{i % 256}" for i in range(600))

@@ -89,7 +89,7 @@ impl CompileError {
 
 impl fmt::Display for CompileError {
     fn fmt(&self, f: &mut fmt::Formatter) -> fmt::Result {
-        f.write_str(&ffi::text(ffi::capkit_status_text, self.status()))?;
+        f.write_str(&ffi::text(self.status()))?;
         match (self, self.place()) {
             (CompileError::LinkType(link_type), _) => write!(f, " ({link_type})"),
             (_, Some(at)) => write!(f, " (at byte {at})"),
@@ -130,14 +130,14 @@ impl ProgramError {
     pub(crate) fn new(rule: u32, index: usize) -> ProgramError {
         use ProgramError::*;
         match rule {
-            1 => Empty,
-            2 => TooMany,
-            3 => UnknownCode { index },
-            4 => JumpOut { index },
-            5 => NoSuchWord { index },
-            6 => DivisionByZero { index },
-            7 => ShiftTooFar { index },
-            8 => NoReturn,
+            101 => Empty,
+            102 => TooMany,
+            103 => UnknownCode { index },
+            104 => JumpOut { index },
+            105 => NoSuchWord { index },
+            106 => DivisionByZero { index },
+            107 => ShiftTooFar { index },
+            108 => NoReturn,
             _ => Other(rule),
         }
     }
@@ -146,14 +146,14 @@ impl ProgramError {
     fn rule(&self) -> (u32, Option<usize>) {
         use ProgramError::*;
         match *self {
-            Empty => (1, None),
-            TooMany => (2, None),
-            UnknownCode { index } => (3, Some(index)),
-            JumpOut { index } => (4, Some(index)),
-            NoSuchWord { index } => (5, Some(index)),
-            DivisionByZero { index } => (6, Some(index)),
-            ShiftTooFar { index } => (7, Some(index)),
-            NoReturn => (8, None),
+            Empty => (101, None),
+            TooMany => (102, None),
+            UnknownCode { index } => (103, Some(index)),
+            JumpOut { index } => (104, Some(index)),
+            NoSuchWord { index } => (105, Some(index)),
+            DivisionByZero { index } => (106, Some(index)),
+            ShiftTooFar { index } => (107, Some(index)),
+            NoReturn => (108, None),
             Other(rule) => (rule, None),
         }
     }
@@ -162,7 +162,7 @@ impl ProgramError {
 impl fmt::Display for ProgramError {
     fn fmt(&self, f: &mut fmt::Formatter) -> fmt::Result {
         let (rule, index) = self.rule();
-        f.write_str(&ffi::text(ffi::capkit_rule_text, rule))?;
+        f.write_str(&ffi::text(rule))?;
         index.map_or(Ok(()), |index| write!(f, " (instruction {index})"))
     }
 }
@@ -194,21 +194,21 @@ pub enum Check {
 
 /// The checks by their numbers in `enum capkit_found`.
 const CHECKS: [(u32, Check); 15] = [
-    (1, Check::NotACaptureFile),
-    (2, Check::Truncated),
-    (3, Check::BadVersion),
-    (4, Check::TooLong),
-    (5, Check::BadBlockLength),
-    (6, Check::BadByteOrderMagic),
-    (7, Check::UnknownInterface),
-    (8, Check::BadOption),
-    (9, Check::BadBody),
-    (10, Check::TimeOutOfRange),
-    (11, Check::TooManyInterfaces),
-    (12, Check::BadTimeResolution),
-    (13, Check::BadLinkTypeField),
-    (14, Check::ObsoletePacketBlock),
-    (21, Check::TooManyOutputInterfaces),
+    (201, Check::NotACaptureFile),
+    (202, Check::Truncated),
+    (203, Check::BadVersion),
+    (204, Check::TooLong),
+    (205, Check::BadBlockLength),
+    (206, Check::BadByteOrderMagic),
+    (207, Check::UnknownInterface),
+    (208, Check::BadOption),
+    (209, Check::BadBody),
+    (210, Check::TimeOutOfRange),
+    (211, Check::TooManyInterfaces),
+    (212, Check::BadTimeResolution),
+    (213, Check::BadLinkTypeField),
+    (214, Check::ObsoletePacketBlock),
+    (221, Check::TooManyOutputInterfaces),
 ];
 
 impl Check {
@@ -227,7 +227,7 @@ impl Check {
 
 impl fmt::Display for Check {
     fn fmt(&self, f: &mut fmt::Formatter) -> fmt::Result {
-        f.write_str(&ffi::text(ffi::capkit_found_text, self.number()))
+        f.write_str(&ffi::text(self.number()))
     }
 }
 

@@ -1,10 +1,10 @@
 //! The calls of libcapkit, as capkit.h declares them.
 
 pub const OK: u32 = 0;
-pub const NO_ROOM_IN_BUFFER: u32 = 25;
+pub const NO_ROOM_IN_BUFFER: u32 = 225;
 pub const PACKET: u32 = 0;
-pub const END: u32 = 22;
-pub const NO_PACKET: u32 = 23;
+pub const END: u32 = 222;
+pub const NO_PACKET: u32 = 223;
 pub const MOST_INTERFACES: usize = 256;
 
 #[repr(C)]
@@ -67,14 +67,38 @@ extern "C" {
         number: *mut usize,
     ) -> u32;
     pub fn capkit_check(insns: *const crate::Instruction, count: usize, index: *mut usize) -> u32;
-    pub fn capkit_run(
+    pub fn capkit_matches(
         insns: *const crate::Instruction,
         count: usize,
         packet: *const u8,
         captured: usize,
         original: u32,
-        steps: *mut u32,
     ) -> u32;
+    pub fn capkit_trace(
+        insns: *const crate::Instruction,
+        count: usize,
+        packet: *const u8,
+        captured: usize,
+        original: u32,
+        steps: *mut crate::Step,
+        room: usize,
+    ) -> usize;
+    pub fn capkit_insn_text(
+        insn: *const crate::Instruction,
+        index: u32,
+        buffer: *mut u8,
+        room: usize,
+    ) -> usize;
+    pub fn capkit_line(
+        link_type: u16,
+        time: u64,
+        original: u32,
+        packet: *const u8,
+        captured: usize,
+        with_link: u32,
+        buffer: *mut u8,
+        room: usize,
+    ) -> usize;
     pub fn capkit_is_portable(insns: *const crate::Instruction, count: usize) -> u32;
     pub fn capkit_next(
         reader: *mut Reader,
@@ -131,19 +155,20 @@ extern "C" {
         room: usize,
         length: *mut usize,
     ) -> u32;
-    pub fn capkit_status_text(status: u32, buffer: *mut u8, room: usize) -> usize;
-    pub fn capkit_rule_text(rule: u32, buffer: *mut u8, room: usize) -> usize;
-    pub fn capkit_found_text(found: u32, buffer: *mut u8, room: usize) -> usize;
+    pub fn capkit_text(number: u32, buffer: *mut u8, room: usize) -> usize;
 }
 
-type TextCall = unsafe extern "C" fn(u32, *mut u8, usize) -> usize;
+/// The text that a call puts into a buffer, given where it begins and its room, of at most 255 bytes.
+pub fn text_by(call: impl Fn(*mut u8, usize) -> usize) -> String {
+    let mut buffer = [0; 256];
+    let length = call(buffer.as_mut_ptr(), buffer.len());
+    String::from_utf8_lossy(&buffer[..length.min(buffer.len() - 1)]).into_owned()
+}
 
 /// What a number is called.
-pub fn text(call: TextCall, number: u32) -> String {
-    let mut buffer = [0; 64];
+pub fn text(number: u32) -> String {
     // SAFETY: the buffer has as many bytes as the call is told.
-    let length = unsafe { call(number, buffer.as_mut_ptr(), buffer.len()) };
-    String::from_utf8_lossy(&buffer[..length.min(buffer.len())]).into_owned()
+    text_by(|buffer, room| unsafe { capkit_text(number, buffer, room) })
 }
 
 /// The unit that a call puts into a buffer, given where it begins, its room and where the length

@@ -13,6 +13,20 @@ pub struct Instruction {
     pub k: u32,
 }
 
+/// What a run is before one of its instructions.
+#[repr(C)]
+#[derive(Clone, Copy, Debug, Default, PartialEq, Eq)]
+pub struct Step {
+    /// That of the instruction, from 0.
+    pub index: u32,
+    /// The register A.
+    pub a: u32,
+    /// The register X.
+    pub x: u32,
+    /// The words of memory.
+    pub memory: [u32; 16],
+}
+
 /// The program of an expression for packets of one link type. It is always valid.
 ///
 /// As text it is the listing that `capkit compile` and `tcpdump -ddd` print:
@@ -79,18 +93,52 @@ impl Filter {
     /// What the program returns on a packet, given the bytes that were captured of it and how many
     /// it had on the wire; 0 rejects it.
     pub fn run(&self, data: &[u8], original_length: u32) -> u32 {
-        let mut steps = 0;
         // SAFETY: the program is valid, and the pointers and lengths are those of the slices.
         unsafe {
-            ffi::capkit_run(
+            ffi::capkit_matches(
                 self.0.as_ptr(),
                 self.0.len(),
                 data.as_ptr(),
                 data.len(),
                 original_length,
-                &mut steps,
             )
         }
+    }
+
+    /// What a run on a packet is before each instruction that it meets; see [`run`](Filter::run).
+    ///
+    /// ```
+    /// let arp = capkit::Filter::new("arp", capkit::LINK_ETHERNET)?;
+    /// let steps = arp.trace(&[0; 14], 14);
+    /// assert_eq!(steps.iter().map(|step| step.index).collect::<Vec<_>>(), [0, 1, 3]);
+    /// assert_eq!(arp.text(0).unwrap(), "(000) ldh      [12]");
+    /// # Ok::<(), capkit::CompileError>(())
+    /// ```
+    pub fn trace(&self, data: &[u8], original_length: u32) -> Vec<Step> {
+        let mut steps = vec![Step::default(); self.0.len()];
+        // SAFETY: the program is valid, and the pointers and lengths are those of the slices.
+        let count = unsafe {
+            ffi::capkit_trace(
+                self.0.as_ptr(),
+                self.0.len(),
+                data.as_ptr(),
+                data.len(),
+                original_length,
+                steps.as_mut_ptr(),
+                steps.len(),
+            )
+        };
+        steps.truncate(count);
+        steps
+    }
+
+    /// An instruction of the program as `tcpdump -d` prints it, by its index.
+    pub fn text(&self, index: usize) -> Option<String> {
+        let insn = self.0.get(index)?;
+        // SAFETY: the buffer has as many bytes as the call is told.
+        Some(ffi::text_by(|buffer, room| unsafe {
+            ffi::capkit_insn_text(insn, index as u32, buffer, room)
+        }))
     }
 
     /// Whether a packet matches; see [`run`](Filter::run).

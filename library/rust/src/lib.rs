@@ -31,7 +31,7 @@ mod reading;
 mod writing;
 
 pub use errors::{Check, CompileError, Fault, ProgramError, WriteError};
-pub use filter::{Expression, Filter, Instruction};
+pub use filter::{Expression, Filter, Instruction, Step};
 pub use reading::{Capture, Packet, Packets};
 pub use writing::{Format, Writer};
 

@@ -41,6 +41,32 @@ impl<'a> Packet<'a> {
             snap_length,
         }
     }
+
+    /// The line that `capkit print` prints of the packet, or with the link header `capkit print -e`,
+    /// without its line feed; empty where the time is 2^63 or more.
+    ///
+    /// ```
+    /// let packet = capkit::Packet::new(1_000_000_007, capkit::LINK_RAW, &[0x45]);
+    /// assert_eq!(packet.line(false), "1970-01-01 00:00:01.000000007 IP [short], length 1");
+    /// ```
+    pub fn line(&self, with_link: bool) -> String {
+        let (data, length) = (self.data, self.data.len());
+        // SAFETY: the pointers and lengths are those of the bytes and of the buffer.
+        let mut line = ffi::text_by(|buffer, room| unsafe {
+            ffi::capkit_line(
+                self.link_type,
+                self.time,
+                self.original_length,
+                data.as_ptr(),
+                length,
+                with_link.into(),
+                buffer,
+                room,
+            )
+        });
+        line.truncate(line.trim_end().len());
+        line
+    }
 }
 
 /// The packets of a capture in memory, pcap or pcapng.

@@ -3,8 +3,9 @@
 use crate::bounding::capkit_bound;
 use crate::compiling::capkit_compile;
 use crate::portable::capkit_is_portable;
-use crate::running::{capkit_check, capkit_run, capkit_run_any};
+use crate::running::{capkit_check, capkit_matches, capkit_run, capkit_run_any, capkit_trace};
 use flt_bpf::Insn;
+use flt_trace::Step;
 use std::alloc::Global;
 use std::test::Fail;
 
@@ -49,8 +50,8 @@ const REFUSALS: &[Refusal] = &[
     (b"port 65536", 1, 4, (8, 0)),
     (b"net 10.0.0.1/8", 1, 4, (9, 0)),
     (b"len / 0 = 1", 1, 4, (10, 0)),
-    (b"ip \xff", 1, 4, (14, 3)),
-    (b"ip", 12, 4, (15, 0)),
+    (b"ip \xff", 1, 4, (14, 4)),
+    (b"ip", 14, 4, (15, 0)),
     (b"ip", 1, 3, (16, 4)),
 ];
 
@@ -80,9 +81,9 @@ fn refused_texts(rt: HostRuntime) -> Result<(), Fail> {
     Ok(())
 }
 
-/// What a program that passes the check returns on a packet, and after how many steps, where both
+/// What a program that passes the check returns on a packet, and after how many steps, where all
 /// runs agree in it.
-fn answer_of(insns: &[Insn], packet: &[u8]) -> Option<(u32, u32)> {
+fn answer_of(insns: &[Insn], packet: &[u8]) -> Option<(u32, usize)> {
     let (mut index, mut steps, mut counted) = (77, 77, 77);
     if capkit_check(insns, &mut index) != 0 {
         return None;
@@ -90,7 +91,9 @@ fn answer_of(insns: &[Insn], packet: &[u8]) -> Option<(u32, u32)> {
     let len = packet.len().min(60) as u32;
     let answer = capkit_run(insns, packet, len, &mut steps);
     let same = capkit_run_any(insns, packet, len, &mut counted);
-    if (answer, steps as usize) == (same, counted) && index == 0 {
+    let matches = capkit_matches(insns, packet, len);
+    let traced = capkit_trace(insns, packet, len, &mut []);
+    if (answer, steps) == (same, counted) && (matches, traced) == (same, counted) && index == 0 {
         Some((answer, steps))
     } else {
         None
@@ -118,7 +121,7 @@ fn a_short_text(rt: HostRuntime) -> Result<(), Fail> {
 }
 
 /// A link type, and where its packets say by which byte that they are IPv4.
-const LINK_TYPES: [(u16, usize, u8); 3] = [(1, 12, 8), (101, 0, 0x45), (113, 14, 8)];
+const LINK_TYPES: [(u16, usize, u8); 4] = [(1, 12, 8), (101, 0, 0x45), (12, 0, 0x45), (113, 14, 8)];
 
 #[test]
 fn link_types(rt: HostRuntime) -> Result<(), Fail> {
@@ -183,17 +186,17 @@ fn a_long_text(rt: HostRuntime) -> Result<(), Fail> {
 /// Instructions, the first rule that they break, and where.
 const CHECKS: &[(&[Row], u32, usize)] = &[
     (&[(6, 0, 0, 1)], 0, 0),
-    (&[], 1, 0),
+    (&[], 101, 0),
     (
         &[(6, 0, 0, 1), (7, 0, 0, 0), (8, 0, 0, 0), (6, 0, 0, 0)],
-        3,
+        103,
         2,
     ),
-    (&[(5, 0, 0, 1), (6, 0, 0, 0)], 4, 0),
-    (&[(0, 0, 0, 1), (2, 0, 0, 16), (6, 0, 0, 0)], 5, 1),
-    (&[(52, 0, 0, 0), (6, 0, 0, 0)], 6, 0),
-    (&[(100, 0, 0, 32), (6, 0, 0, 0)], 7, 0),
-    (&[(0, 0, 0, 1)], 8, 0),
+    (&[(5, 0, 0, 1), (6, 0, 0, 0)], 104, 0),
+    (&[(0, 0, 0, 1), (2, 0, 0, 16), (6, 0, 0, 0)], 105, 1),
+    (&[(52, 0, 0, 0), (6, 0, 0, 0)], 106, 0),
+    (&[(100, 0, 0, 32), (6, 0, 0, 0)], 107, 0),
+    (&[(0, 0, 0, 1)], 108, 0),
 ];
 
 #[test]
@@ -205,7 +208,7 @@ fn programs_are_checked(rt: HostRuntime) -> Result<(), Fail> {
     }
     let long = vec![in rt.alloc(); UNWRITTEN; 32_769]?;
     let mut index = 77;
-    assert!(rt; capkit_check(&long, &mut index) == 2 && index == 0);
+    assert!(rt; capkit_check(&long, &mut index) == 102 && index == 0);
     Ok(())
 }
 

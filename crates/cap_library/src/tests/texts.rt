@@ -1,6 +1,6 @@
 //! What the numbers of the header are called.
 
-use crate::texts::{capkit_found_text, capkit_rule_text, capkit_status_text};
+use crate::texts::{capkit_text, capkit_version};
 use std::test::Fail;
 
 /// By its number, from 0: what capkit_compile and capkit_bound return.
@@ -24,7 +24,7 @@ const STATUSES: [&str; 17] = [
     "no room for the program",
 ];
 
-/// What capkit_check returns.
+/// By its number less 100: what capkit_check returns.
 const RULES: [&str; 9] = [
     "",
     "empty",
@@ -37,7 +37,8 @@ const RULES: [&str; 9] = [
     "no return at the end",
 ];
 
-/// What capkit_next and the writing calls return. None has 15 to 20, which need a device.
+/// By its number less 200: what capkit_next and the writing calls return. None has 215 to 220,
+/// which need a device.
 const FOUND: [&str; 26] = [
     "",
     "not a capture file",
@@ -67,31 +68,26 @@ const FOUND: [&str; 26] = [
     "no room in the buffer",
 ];
 
-/// Whether a call named a number so in a buffer of 32 bytes, filled with `~`, and gave this length.
-fn is_named(buffer: &[u8; 32], length: usize, name: &str) -> bool {
-    let end = name.len().min(32);
-    let is_kept = buffer[end..].iter().all(|byte| *byte == b'~');
-    length == name.len() && is_kept && &buffer[..end] == &name.as_bytes()[..end]
+/// Whether a number is named so in a buffer of 32 bytes, filled with `~`, with a NUL behind.
+fn is_named(number: u32, name: &str) -> bool {
+    let mut buffer = [b'~'; 32];
+    let length = capkit_text(number, &mut buffer);
+    let end = name.len().min(31);
+    let is_kept = buffer[end + 1..].iter().all(|byte| *byte == b'~');
+    length == name.len() && is_kept && buffer[end] == 0 && &buffer[..end] == &name.as_bytes()[..end]
 }
 
 #[test]
 fn numbers_have_names(rt: HostRuntime) -> Result<(), Fail> {
-    for number in 0..30u32 {
-        let at = number as usize;
-        let mut buffer = [b'~'; 32];
-        let length = capkit_status_text(number, &mut buffer);
-        let name = STATUSES.get(at).copied().unwrap_or("");
-        assert!(rt; is_named(&buffer, length, name), "status {number}");
-        let mut buffer = [b'~'; 32];
-        let length = capkit_rule_text(number, &mut buffer);
-        let name = RULES.get(at).copied().unwrap_or("");
-        assert!(rt; is_named(&buffer, length, name), "rule {number}");
-        let mut buffer = [b'~'; 32];
-        let length = capkit_found_text(number, &mut buffer);
-        let name = FOUND.get(at).copied().unwrap_or("");
-        assert!(rt; is_named(&buffer, length, name), "found {number}");
+    for (base, names) in [(0, &STATUSES[..]), (100, &RULES[..]), (200, &FOUND[..])] {
+        for number in 0..30u32 {
+            let name = names.get(number as usize).copied().unwrap_or("");
+            assert!(rt; is_named(base + number, name), "number {base} + {number}");
+        }
     }
     let mut short = [b'~'; 4];
-    assert!(rt; capkit_rule_text(1, &mut short) == 5 && short == *b"empt");
+    assert!(rt; capkit_text(101, &mut short) == 5 && short == *b"emp\0");
+    assert!(rt; capkit_text(101, &mut short[..0]) == 5 && short == *b"emp\0");
+    assert!(rt; capkit_version() == 0x100);
     Ok(())
 }

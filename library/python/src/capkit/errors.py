@@ -18,7 +18,7 @@ class CompileError(ValueError):
 
     def __init__(self, status: int, place: Optional[int]) -> None:
         self.status, self.place = status, place
-        reason = native.text_of(native.status_text, status)
+        reason = native.text_of(status)
         super().__init__(reason if place is None else f"{reason} (at byte {place})")
 
 
@@ -30,7 +30,7 @@ class ProgramError(ValueError):
 
     def __init__(self, rule: int, index: int) -> None:
         self.rule, self.index = rule, index
-        reason = native.text_of(native.rule_text, rule)
+        reason = native.text_of(rule)
         super().__init__(f"{reason} (instruction {index})")
 
 
@@ -43,7 +43,7 @@ class CaptureError(ValueError):
 
     def __init__(self, fault: int, offset: int, packets: Capture) -> None:
         self.fault, self.offset, self.packets = fault, offset, packets
-        self.reason = native.text_of(native.found_text, fault)
+        self.reason = native.text_of(fault)
         super().__init__(f"offset {offset}: {self.reason}")
 
 

@@ -2,7 +2,7 @@
 from __future__ import annotations
 
 import ctypes as c
-from typing import TYPE_CHECKING, Dict, Iterable, NamedTuple, Optional, Tuple, Union
+from typing import TYPE_CHECKING, Any, Dict, Iterable, List, NamedTuple, Optional, Tuple, Union
 
 from . import native
 from .errors import CompileError, ProgramError
@@ -12,8 +12,7 @@ if TYPE_CHECKING:
 
 Bytes = Union[bytes, bytearray, memoryview]
 
-_STATUSES_WITH_A_PLACE = {2, 3, 4}
-_NOT_UTF8 = 14
+_STATUSES_WITH_A_PLACE = {2, 3, 4, 14}
 
 
 class Instruction(NamedTuple):
@@ -25,10 +24,21 @@ class Instruction(NamedTuple):
     k: int
 
 
+class Step(NamedTuple):
+    """What a run is before one of its instructions."""
+
+    index: int
+    """That of the instruction, from 0."""
+    a: int
+    """The register A."""
+    x: int
+    """The register X."""
+    memory: Tuple[int, ...]
+    """The 16 words of memory."""
+
+
 def _failure(status: int, number: int) -> CompileError:
-    if status in _STATUSES_WITH_A_PLACE:
-        return CompileError(status, number)
-    return CompileError(status, number + 1 if status == _NOT_UTF8 else None)
+    return CompileError(status, number if status in _STATUSES_WITH_A_PLACE else None)
 
 
 def _bound(text: bytes) -> int:
@@ -82,17 +92,32 @@ class Filter:
         `data` are its captured bytes. It had `original_length` bytes on the wire, or as many as
         were captured.
         """
+        result: int = native.matches(*self._arguments(data, original_length))
+        return result
+
+    def _arguments(self, data: Bytes, original_length: Optional[int]) -> Tuple[Any, ...]:
         original = len(data) if original_length is None else original_length
         native.fits(original, 32, "original length")
         if not isinstance(data, bytes):
             data = bytes(data)
-        steps = c.byref(c.c_uint32())
-        result: int = native.run(self._insns, self._count, data, len(data), original, steps)
-        return result
+        return self._insns, self._count, data, len(data), original
 
     def matches(self, data: Bytes, original_length: Optional[int] = None) -> bool:
         """Whether a packet matches; see `run`."""
         return self.run(data, original_length) != 0
+
+    def trace(self, data: Bytes, original_length: Optional[int] = None) -> List[Step]:
+        """What a run on a packet is before each instruction that it meets; see `run`."""
+        arguments = self._arguments(data, original_length)
+        room: int = native.trace(*arguments, None, 0)
+        steps = (native.Step * room)()
+        native.trace(*arguments, steps, room)
+        return [Step(step.index, step.a, step.x, tuple(step.memory)) for step in steps]
+
+    def text(self, index: int) -> str:
+        """An instruction of the program as `tcpdump -d` prints it."""
+        index = range(self._count)[index]
+        return native.text_by(native.insn_text, c.byref(self._insns[index]), index)
 
     @property
     def instructions(self) -> Tuple[Instruction, ...]:

@@ -8,14 +8,23 @@ OK = 0
 LINK_TYPE = 15
 NO_ROOM = 16
 PACKET = 0
-END = 22
-NO_PACKET = 23
-NO_ROOM_IN_BUFFER = 25
+END = 222
+NO_PACKET = 223
+NO_ROOM_IN_BUFFER = 225
 MOST_INTERFACES = 256
 
 
 class Insn(c.Structure):
     _fields_ = [("code", c.c_uint16), ("jt", c.c_uint8), ("jf", c.c_uint8), ("k", c.c_uint32)]
+
+
+class Step(c.Structure):
+    _fields_ = [
+        ("index", c.c_uint32),
+        ("a", c.c_uint32),
+        ("x", c.c_uint32),
+        ("memory", c.c_uint32 * 16),
+    ]
 
 
 class Reader(c.Structure):
@@ -79,9 +88,15 @@ compile_ = declare(
     "capkit_compile", _number, _text, _size, c.c_uint16, _pointer, _size, c.POINTER(_size)
 )
 check = declare("capkit_check", _number, _pointer, _size, c.POINTER(_size))
-run = declare(
-    "capkit_run", _number, _pointer, _size, _text, _size, _number, c.POINTER(_number)
+matches = declare("capkit_matches", _number, _pointer, _size, _text, _size, _number)
+trace = declare(
+    "capkit_trace", _size, _pointer, _size, _text, _size, _number, _pointer, _size
 )
+insn_text = declare("capkit_insn_text", _size, _pointer, _number, _pointer, _size)
+line = declare(
+    "capkit_line",
+    _size, c.c_uint16, c.c_uint64, _number, _text, _size, _number, _pointer, _size,
+)  # fmt: skip
 is_portable = declare("capkit_is_portable", _number, _pointer, _size)
 next_ = declare(
     "capkit_next", _number, _pointer, _pointer, _size, _pointer, _size, _pointer
@@ -99,9 +114,7 @@ write_packet = declare(
     "capkit_write_packet",
     _number, _number, c.c_uint64, _number, _text, _size, _text, _size, *_buffer,
 )  # fmt: skip
-status_text = declare("capkit_status_text", _size, _number, _pointer, _size)
-rule_text = declare("capkit_rule_text", _size, _number, _pointer, _size)
-found_text = declare("capkit_found_text", _size, _number, _pointer, _size)
+number_text = declare("capkit_text", _size, _number, _pointer, _size)
 
 
 def fits(value: int, bits: int, name: str) -> int:
@@ -111,8 +124,13 @@ def fits(value: int, bits: int, name: str) -> int:
     return value
 
 
-def text_of(call: Any, number: int) -> str:
+def text_by(call: Any, *arguments: Any) -> str:
+    """The text that a call puts into a buffer, of at most 255 bytes."""
+    buffer = c.create_string_buffer(256)
+    call(*arguments, buffer, len(buffer))
+    return buffer.value.decode()
+
+
+def text_of(number: int) -> str:
     """What a number is called."""
-    buffer = c.create_string_buffer(64)
-    length: int = call(number, buffer, len(buffer))
-    return buffer.raw[:length].decode()
+    return text_by(number_text, number)

@@ -30,6 +30,17 @@ class Packet(NamedTuple):
     snap_length: int = 262144
     """The most bytes that were captured of a packet of its interface; 0 is no limit."""
 
+    def line(self, with_link: bool = False) -> str:
+        """What `capkit print` prints of it, or with the link header `capkit print -e`."""
+        time = native.fits(self.time, 63, "time")
+        original = native.fits(self.original_length, 32, "original length")
+        link_type = native.fits(self.link_type, 16, "link type")
+        data = bytes(self.data)
+        line = native.text_by(
+            native.line, link_type, time, original, data, len(data), with_link
+        )
+        return line.rstrip("\n")
+
 
 class _BufferView(c.Structure):
     """Python's Py_buffer."""

@@ -104,7 +104,7 @@ class Writer:
             if written == native.OK:
                 return c.string_at(self._unit, self._length.value)
             if written != native.NO_ROOM_IN_BUFFER:
-                raise WriteError(native.text_of(native.found_text, written))
+                raise WriteError(native.text_of(written))
             self._unit = c.create_string_buffer(self._length.value)
 
     def _header(self, link_type: int) -> bytes:

@@ -1,0 +1,135 @@
+-- A word in a text, behind which no byte of it follows, is a token.
+use Rattle.std.proofs.Common.{◌≡◌, ℕ, suc, zero, ◌+◌, ◌-◌, ◌<◌, ◌≤◌, List, [], ◌∷◌, ◌++◌, length, get_or, refl, sym, ap, ◌∙◌, arith, Bool, true, false, ◌&&◌, nat_lt, Some}
+use Rattle.std.proofs.lemmas.Bool.Decides.{nat_tests}
+use Rattle.std.proofs.lemmas.List.{get_or-append-add, get_or_append_left, length-append, take_at}
+use Rattle.std.specs.Char.{digit_value, is_ascii_alphanumeric}
+use Rattle.std.specs.List.{AllByRecursion, list_all}
+use Rattle.std.specs.Str.Parse.{AllDigits}
+use Rattle.flt_words.specs.declared.token.TokenKind.{TokenKind}
+use Rattle.flt_words.specs.Characters.{starts_word, within_word}
+use Rattle.flt_words.specs.Spellings.{keyword_of, keywords}
+use Rattle.flt_words.specs.Tokens.{IsToken, IsWordPiece}
+use Rattle.flt_words.specs.Tokens.PieceMeans.{word_meaning}
+use Rattle.flt_words.specs.Words.{Stands, fits}
+use Rattle.flt_words.specs.Words.WordMeans.{known}
+use Rattle.flt_words.proofs.Pieces.{IsScanned, longest_word}
+use Rattle.flt_words.proofs.Tables.{both, found_passes}
+
+-- the text could be a word
+pub record IsPart (inside : Bool) (word : List ℕ) : Type 0 where
+  pub some : 0 < length word
+  pub begins : starts_word inside (get_or word 0 0) ≡ true
+  pub within : AllByRecursion (λ b. within_word inside b ≡ true) word
+  pub ends : starts_word inside (get_or word (length word - 1) 0) ≡ true
+
+byte_at : (P : ℕ → Type 0) (word : List ℕ) (i : ℕ) → AllByRecursion P word → i < length word → P (get_or word i 0)
+byte_at P [] i all below = absurd (omega arith)
+byte_at P (b ∷ word) zero all below = all.0
+byte_at P (b ∷ word) (suc i) all below = byte_at P word i all.1 (omega arith)
+
+all_append : (P : ℕ → Type 0) (front back : List ℕ) → AllByRecursion P front → AllByRecursion P back → AllByRecursion P (front ++ back)
+all_append P [] back v w = w
+all_append P (b ∷ front) back v w = (v.0, all_append P front back v.1 w)
+
+starts_within : (inside : Bool) (b : ℕ) → starts_word inside b ≡ true → within_word inside b ≡ true
+starts_within inside b h = rw h refl
+
+all_within : (inside : Bool) (word : List ℕ) → AllByRecursion (λ b. starts_word inside b ≡ true) word → AllByRecursion (λ b. within_word inside b ≡ true) word
+all_within inside [] all = tt
+all_within inside (b ∷ word) all = (starts_within inside b all.0, all_within inside word all.1)
+
+pub part_of_starts : (inside : Bool) (word : List ℕ) → 0 < length word → AllByRecursion (λ b. starts_word inside b ≡ true) word → IsPart inside word
+part_of_starts inside word some all = record {
+  some = some;
+  begins = byte_at (λ b. starts_word inside b ≡ true) word 0 all some;
+  within = all_within inside word all;
+  ends = byte_at (λ b. starts_word inside b ≡ true) word (length word - 1) all (omega arith);
+}
+
+-- digits
+letter_or_digit : (c radix : ℕ) → radix ≤ 36 → digit_value c < radix → is_ascii_alphanumeric c ≡ true
+letter_or_digit c radix few small = grind (arith, nat_tests)
+
+digits_start : (inside : Bool) (radix : ℕ) (digits : List ℕ) → radix ≤ 36 → AllDigits radix digits → AllByRecursion (λ b. starts_word inside b ≡ true) digits
+digits_start inside radix [] few all = tt
+digits_start inside radix (c ∷ digits) few all =
+    (rw (letter_or_digit c radix few all.0) refl, digits_start inside radix digits few all.1)
+
+pub part_of_digits : (inside : Bool) (radix : ℕ) (digits : List ℕ) → radix ≤ 36 → 0 < length digits → AllDigits radix digits → IsPart inside digits
+part_of_digits inside radix digits few some all = part_of_starts inside digits some (digits_start inside radix digits few all)
+
+-- two parts, and a byte between them
+pub part_join : (inside : Bool) (c : ℕ) (front back : List ℕ) → within_word inside c ≡ true → IsPart inside front → IsPart inside back → IsPart inside (front ++ c ∷ back)
+part_join inside c front back between v w =
+    let last : length (front ++ c ∷ back) - 1 ≡ length front + suc (length back - 1) = rw (length-append front (c ∷ back)) (omega (arith, w.some)) in
+    record {
+      some = rw (length-append front (c ∷ back)) (omega arith);
+      begins = ap (starts_word inside) (get_or_append_left front (c ∷ back) 0 0 v.some) ∙ v.begins;
+      within = all_append (λ b. within_word inside b ≡ true) front (c ∷ back) v.within (between, w.within);
+      ends = ap (λ k. starts_word inside (get_or (front ++ c ∷ back) k 0)) last ∙ ap (starts_word inside) (get_or-append-add front (c ∷ back) (suc (length back - 1)) 0) ∙ w.ends;
+    }
+
+-- a keyword
+part_test : Bool → List ℕ → Bool
+part_test inside word =
+    nat_lt 0 (length word) && (starts_word inside (get_or word 0 0) && (list_all (within_word inside) word && starts_word inside (get_or word (length word - 1) 0)))
+
+all_parts : (inside : Bool) → list_all (λ entry. part_test inside entry.0) keywords ≡ true
+unfolding part_test keywords
+all_parts true = refl
+all_parts false = refl
+
+all_from_test : (p : ℕ → Bool) (word : List ℕ) → list_all p word ≡ true → AllByRecursion (λ b. p b ≡ true) word
+all_from_test p [] h = tt
+all_from_test p (b ∷ word) h =
+    let parts = both (p b) (list_all p word) h in
+    (parts.0, all_from_test p word parts.1)
+
+above_zero : (n : ℕ) → nat_lt 0 n ≡ true → 0 < n
+above_zero n h = grind (arith, nat_tests)
+
+pub part_of_keyword : (inside : Bool) (word : List ℕ) (kind : TokenKind) → keyword_of word ≡ Some kind → IsPart inside word
+unfolding part_test
+part_of_keyword inside word kind found =
+    let pass = found_passes (λ piece _. part_test inside piece) keywords word kind (all_parts inside) found in
+    let some = both (nat_lt 0 (length word)) _ pass in
+    let begins = both (starts_word inside (get_or word 0 0)) _ some.1 in
+    let within = both (list_all (within_word inside) word) _ begins.1 in
+    record {
+      some = above_zero (length word) some.0;
+      begins = begins.0;
+      within = all_from_test (within_word inside) word within.0;
+      ends = within.1;
+    }
+
+-- a word of which the text goes on with no more bytes
+module _ (inside : Bool) (place : ℕ) (word more : List ℕ) (kind : TokenKind) (part : IsPart inside word) (stands : Stands word kind) (fit : fits kind ≡ true)
+    (stops : 0 < length more → within_word inside (get_or more 0 0) ≡ false) where
+  here : (i : ℕ) → i < length word → get_or (word ++ more) i 0 ≡ get_or word i 0
+  here i below = get_or_append_left word more 0 i below
+
+  scanned : IsScanned inside (word ++ more) (length word) (length word)
+  scanned = record {
+    so_far = omega arith;
+    some = λ h. h;
+    within = λ k below. ap (within_word inside) (here k below) ∙ byte_at (λ b. within_word inside b ≡ true) word k part.within below;
+    ends = λ some. ap (starts_word inside) (here (length word - 1) (omega arith)) ∙ part.ends;
+    later = λ k low high. absurd (omega arith);
+  }
+
+  long : length (word ++ more) ≡ length word + length more
+  long = length-append word more
+
+  stop : length word < length (word ++ more) → within_word inside (get_or (word ++ more) (length word) 0) ≡ false
+  stop below =
+      let at : length word + 0 ≡ length word = omega arith in
+      ap (λ k. within_word inside (get_or (word ++ more) k 0)) (sym at) ∙ ap (within_word inside) (get_or-append-add word more 0 0) ∙ stops (omega (arith, long))
+
+  piece : IsWordPiece inside word
+  piece = record { begins = part.begins; within = λ i below. byte_at (λ b. within_word inside b ≡ true) word i part.within below; ends = part.ends }
+
+  pub word_token : IsToken inside place (word ++ more) kind (length word)
+  word_token = record {
+    longest = longest_word inside (word ++ more) (length word) (length word) scanned (omega (arith, long)) (ap (starts_word inside) (here 0 part.some) ∙ part.begins) stop;
+    means = rw (take_at word more (length word) refl) (word_meaning piece (known stands fit));
+  }

@@ -1,0 +1,200 @@
+-- Tokens as a text: how each is spelled, and where blanks stand between them.
+use Rattle.std.specs.Prelude.{ℕ, ◌/◌, ◌%◌, ◌^◌, ◌==◌, Bool, true, false, ◌||◌, List, [], ◌∷◌, ◌++◌, map, codes, if◌then◌else◌}
+use Rattle.std.specs.Fmt.{decimal, digit_glyph, digits}
+use Rattle.std.specs.List.{join_with_byte}
+use Rattle.flt_words.specs.declared.token.Cast.{Cast}
+use Rattle.flt_words.specs.declared.token.Cast.TheVariants.{Broadcast, Multicast}
+use Rattle.flt_words.specs.declared.token.Comparison.{Comparison}
+use Rattle.flt_words.specs.declared.token.Comparison.TheVariants as comparison
+use Rattle.flt_words.specs.declared.token.Join.{Join}
+use Rattle.flt_words.specs.declared.token.Join.TheVariants as join
+use Rattle.flt_words.specs.declared.token.Operator.{Operator}
+use Rattle.flt_words.specs.declared.token.Operator.TheVariants as operator
+use Rattle.flt_words.specs.declared.token.Protocol.{Protocol}
+use Rattle.flt_words.specs.declared.token.Protocol.TheVariants as protocol
+use Rattle.flt_words.specs.declared.token.Side.{Side}
+use Rattle.flt_words.specs.declared.token.Side.TheVariants.{Source, Destination}
+use Rattle.flt_words.specs.declared.token.Size.{Size}
+use Rattle.flt_words.specs.declared.token.Size.TheVariants as size
+use Rattle.flt_words.specs.declared.token.TokenKind.{TokenKind}
+use Rattle.flt_words.specs.declared.token.TokenKind.TheVariants as token
+use Rattle.flt_words.specs.declared.token.ValueType.{ValueType}
+use Rattle.flt_words.specs.declared.token.ValueType.TheVariants.{Host, Net, Port, PortRange, Proto}
+use Rattle.flt_lang.specs.declared.spelling.Behind.{Behind}
+use Rattle.flt_lang.specs.declared.spelling.Behind.TheVariants.{Other, Icmp, IcmpBracket}
+
+-- the words
+abbrev pub protocol_word : Protocol → List ℕ
+protocol_word protocol.Ether = codes "ether"
+protocol_word protocol.Ip = codes "ip"
+protocol_word protocol.Ip6 = codes "ip6"
+protocol_word protocol.Arp = codes "arp"
+protocol_word protocol.Rarp = codes "rarp"
+protocol_word protocol.Tcp = codes "tcp"
+protocol_word protocol.Udp = codes "udp"
+protocol_word protocol.Icmp = codes "icmp"
+protocol_word protocol.Icmp6 = codes "icmp6"
+
+abbrev pub join_word : Join → List ℕ
+join_word join.And = codes "and"
+join_word join.Or = codes "or"
+
+abbrev pub side_word : Side → List ℕ
+side_word Source = codes "src"
+side_word Destination = codes "dst"
+
+abbrev pub type_word : ValueType → List ℕ
+type_word Host = codes "host"
+type_word Net = codes "net"
+type_word Port = codes "port"
+type_word PortRange = codes "portrange"
+type_word Proto = codes "proto"
+
+abbrev pub size_word : Size → List ℕ
+size_word size.Less = codes "less"
+size_word size.Greater = codes "greater"
+
+abbrev pub cast_word : Cast → List ℕ
+cast_word Broadcast = codes "broadcast"
+cast_word Multicast = codes "multicast"
+
+abbrev pub comparison_sign : Comparison → List ℕ
+comparison_sign comparison.Equal = codes "="
+comparison_sign comparison.NotEqual = codes "!="
+comparison_sign comparison.Less = codes "<"
+comparison_sign comparison.AtMost = codes "<="
+comparison_sign comparison.Greater = codes ">"
+comparison_sign comparison.AtLeast = codes ">="
+
+abbrev pub operator_sign : Operator → List ℕ
+operator_sign operator.Or = codes "|"
+operator_sign operator.And = codes "&"
+operator_sign operator.ShiftLeft = codes "<<"
+operator_sign operator.ShiftRight = codes ">>"
+operator_sign operator.Add = codes "+"
+operator_sign operator.Subtract = codes "-"
+operator_sign operator.Multiply = codes "*"
+operator_sign operator.Divide = codes "/"
+operator_sign operator.Remainder = codes "%"
+operator_sign operator.ExclusiveOr = codes "^"
+
+-- the number 1 has two names: the code of ICMP, directly behind `icmp[`, and else the FIN flag
+abbrev pub name_of_one : Behind → List ℕ
+name_of_one IcmpBracket = codes "icmpcode"
+name_of_one _ = codes "tcp-fin"
+
+-- a number that has no name is written in decimal
+abbrev pub name_word : Behind → ℕ → List ℕ
+name_word behind n =
+    if n == 0 then codes "icmptype" else
+    if n == 1 then name_of_one behind else
+    if n == 2 then codes "tcp-syn" else
+    if n == 4 then codes "tcp-rst" else
+    if n == 8 then codes "tcp-push" else
+    if n == 13 then codes "tcpflags" else
+    if n == 16 then codes "tcp-ack" else
+    if n == 32 then codes "tcp-urg" else decimal n
+
+-- so many parts of an IPv4 address in decimal: two, three, or all four
+abbrev pub octet : ℕ → ℕ → ℕ
+octet weight address = address / weight % 256
+
+abbrev pub octets : ℕ → ℕ → List ℕ
+octets address parts =
+    if parts == 2 then octet (2 ^ 24) address ∷ octet (2 ^ 16) address ∷ [] else
+    if parts == 3 then octet (2 ^ 24) address ∷ octet (2 ^ 16) address ∷ octet (2 ^ 8) address ∷ []
+    else octet (2 ^ 24) address ∷ octet (2 ^ 16) address ∷ octet (2 ^ 8) address ∷ octet 1 address ∷ []
+
+unfoldable pub dotted_word : ℕ → ℕ → List ℕ
+dotted_word address parts = join_with_byte 46 (map decimal (octets address parts))
+
+-- half a MAC address: three bytes, each in two hexadecimal digits
+abbrev pub hex_byte : ℕ → List ℕ
+hex_byte n = digit_glyph false (n / 16) ∷ digit_glyph false (n % 16) ∷ []
+
+abbrev pub half_bytes : ℕ → List ℕ
+half_bytes half = octet (2 ^ 16) half ∷ octet (2 ^ 8) half ∷ octet 1 half ∷ []
+
+unfoldable pub bytes_text : ℕ → List ℕ
+bytes_text half = join_with_byte 58 (map hex_byte (half_bytes half))
+
+-- and all of it
+unfoldable pub mac_word : ℕ → List ℕ
+mac_word address = bytes_text (address / 2 ^ 24) ++ 58 ∷ bytes_text (address % 2 ^ 24)
+
+-- half an IPv6 address: four groups in hexadecimal, without leading zeros
+abbrev pub group_at : ℕ → ℕ → ℕ
+group_at weight half = half / weight % 65536
+
+abbrev pub half_groups : ℕ → List ℕ
+half_groups half =
+    group_at (2 ^ 48) half ∷ group_at (2 ^ 32) half ∷ group_at (2 ^ 16) half
+    ∷ group_at 1 half ∷ []
+
+unfoldable pub groups_text : ℕ → List ℕ
+groups_text half = join_with_byte 58 (map (digits 16 false) (half_groups half))
+
+-- and all of it, never shortened
+unfoldable pub ip6_word : ℕ → List ℕ
+ip6_word address = groups_text (address / 2 ^ 64) ++ 58 ∷ groups_text (address % 2 ^ 64)
+
+-- the spelling of a token, behind what stands before it
+abbrev pub spelling : Behind → TokenKind → List ℕ
+spelling behind (token.Protocol p) = protocol_word p
+spelling behind (token.Join j) = join_word j
+spelling behind token.Not = codes "not"
+spelling behind (token.Side s) = side_word s
+spelling behind (token.ValueType k) = type_word k
+spelling behind (token.Size s) = size_word s
+spelling behind (token.Cast c) = cast_word c
+spelling behind token.Mask = codes "mask"
+spelling behind token.Len = codes "len"
+spelling behind (token.Comparison c) = comparison_sign c
+spelling behind (token.Operator o) = operator_sign o
+spelling behind token.Open = codes "("
+spelling behind token.Close = codes ")"
+spelling behind token.OpenBracket = codes "["
+spelling behind token.CloseBracket = codes "]"
+spelling behind token.Colon = codes ":"
+spelling behind (token.Number n) = decimal n
+spelling behind (token.Name n) = name_word behind n
+spelling behind (token.Dotted a p) = dotted_word a p
+spelling behind (token.Range a b) = decimal a ++ (codes "-" ++ decimal b)
+spelling behind (token.Mac a) = mac_word a
+spelling behind (token.Ip6 a) = ip6_word a
+
+-- what the next token stands behind
+abbrev pub behind_bracket : Behind → Behind
+behind_bracket Icmp = IcmpBracket
+behind_bracket _ = Other
+
+abbrev pub next_behind : Behind → TokenKind → Behind
+next_behind behind (token.Protocol protocol.Icmp) = Icmp
+next_behind behind token.OpenBracket = behind_bracket behind
+next_behind behind _ = Other
+
+-- no blank stands behind `(`, `[`, `:` and `/`, and none before `)`, `[`, `]`, `:` and `/`
+abbrev pub joins_next : TokenKind → Bool
+joins_next token.Open = true
+joins_next token.OpenBracket = true
+joins_next token.Colon = true
+joins_next (token.Operator operator.Divide) = true
+joins_next _ = false
+
+abbrev pub joins_previous : TokenKind → Bool
+joins_previous token.Close = true
+joins_previous token.OpenBracket = true
+joins_previous token.CloseBracket = true
+joins_previous token.Colon = true
+joins_previous (token.Operator operator.Divide) = true
+joins_previous _ = false
+
+abbrev pub gap : TokenKind → List TokenKind → List ℕ
+gap t [] = []
+gap t (u ∷ rest) = if joins_next t || joins_previous u then [] else codes " "
+
+-- the text of tokens
+abbrev pub tokens_text : Behind → List TokenKind → List ℕ
+tokens_text behind [] = []
+tokens_text behind (t ∷ rest) =
+    spelling behind t ++ (gap t rest ++ tokens_text (next_behind behind t) rest)

@@ -1,0 +1,91 @@
+-- The trees that a text can give, and what it is that a text is read back as a tree.
+use Rattle.std.specs.Prelude.{◌≡◌, ℕ, ◌<◌, ◌≤◌, ◌-◌, ◌%◌, ◌^◌, ◌==◌, Bool, true, ◌||◌, List, Option, Some, None, Ok}
+use Rattle.flt_words.specs.declared.token.Token.{Token}
+use Rattle.flt_words.specs.declared.token.TokenKind.{TokenKind}
+use Rattle.flt_words.specs.declared.token.TokenKind.TheVariants as token
+use Rattle.flt_words.specs.Tokens.{Tokens}
+use Rattle.flt_tree.specs.declared.value.Dotted.{Dotted}
+use Rattle.flt_tree.specs.declared.value.NetMask.{NetMask}
+use Rattle.flt_tree.specs.declared.value.NetMask.TheVariants as mask
+use Rattle.flt_tree.specs.declared.value.Value.{Value}
+use Rattle.flt_tree.specs.declared.value.Value.TheVariants as value
+use Rattle.flt_tree.specs.Tree.{NumberTree, literal, len, named, load, negated, applied, TruthTree, check, cast, sized, bare, valued, qualified, compared, denied, joined, Expression, empty, truth}
+use Rattle.flt_tree.specs.Filled.{fill_expression}
+use Rattle.flt_tree.specs.Resolved.{fill_fault}
+use Rattle.flt_reader.specs.Grammar.{IsReadAs, has_casts, is_accessor, is_check, kinds_of}
+
+-- the numbers that have names
+abbrev pub has_name : ℕ → Bool
+has_name n =
+    n == 0 || (n == 1 || (n == 2 || (n == 4 || (n == 8 || (n == 13 || (n == 16 || n == 32))))))
+
+-- two to four parts of an IPv4 address, the missing ones 0
+pub record IsDottedAddress (address parts : ℕ) : Type 0 where
+  pub at_least_two : 2 ≤ parts
+  pub at_most_four : parts ≤ 4
+  pub small : address < 2 ^ 32
+  pub missing : address % 256 ^ (4 - parts) ≡ 0
+
+-- a token that some word or sign means
+abbrev pub IsSpellable : TokenKind → Type 0
+IsSpellable (token.Number n) = n < 2 ^ 32
+IsSpellable (token.Name n) = has_name n ≡ true
+IsSpellable (token.Dotted a p) = IsDottedAddress a p
+IsSpellable (token.Range a b) = (a < 2 ^ 32) × (b < 2 ^ 32)
+IsSpellable (token.Mac a) = a < 2 ^ 48
+IsSpellable (token.Ip6 a) = a < 2 ^ 128
+IsSpellable _ = Unit {0}
+
+abbrev pub IsWritableDotted : Dotted → Type 0
+IsWritableDotted d = IsDottedAddress d.address d.parts
+
+abbrev pub IsWritableMask : NetMask → Type 0
+IsWritableMask mask.Unwritten = Unit {0}
+IsWritableMask (mask.Prefix n) = n < 2 ^ 32
+IsWritableMask (mask.Mask d) = IsWritableDotted d
+
+abbrev pub IsWritablePrefix : Option ℕ → Type 0
+IsWritablePrefix None = Unit {0}
+IsWritablePrefix (Some n) = n < 2 ^ 32
+
+abbrev pub IsWritableValue : Value → Type 0
+IsWritableValue (value.Number n m) = (n < 2 ^ 32) × IsWritableMask m
+IsWritableValue (value.Dotted d m) = IsWritableDotted d × IsWritableMask m
+IsWritableValue (value.Ip6 a n) = (a < 2 ^ 128) × IsWritablePrefix n
+IsWritableValue (value.Mac a) = a < 2 ^ 48
+IsWritableValue (value.Range a b) = (a < 2 ^ 32) × (b < 2 ^ 32)
+
+-- an accessor has a protocol that may stand before a bracket
+abbrev pub IsWritableNumber : NumberTree → Type 0
+IsWritableNumber (literal n) = n < 2 ^ 32
+IsWritableNumber len = Unit {0}
+IsWritableNumber (named n) = has_name n ≡ true
+IsWritableNumber (load p s a) = (is_accessor p ≡ true) × (s < 2 ^ 32) × IsWritableNumber a
+IsWritableNumber (negated a) = IsWritableNumber a
+IsWritableNumber (applied o a b) = IsWritableNumber a × IsWritableNumber b
+
+-- and so for a check, and before `broadcast`
+abbrev pub IsWritableTruth : TruthTree → Type 0
+IsWritableTruth (check p) = is_check p ≡ true
+IsWritableTruth (cast None c) = Unit {0}
+IsWritableTruth (cast (Some p) c) = has_casts p ≡ true
+IsWritableTruth (sized s n) = n < 2 ^ 32
+IsWritableTruth (bare v) = IsWritableValue v
+IsWritableTruth (valued q v) = IsWritableValue v
+IsWritableTruth (qualified q v) = IsWritableValue v
+IsWritableTruth (compared c a b) = IsWritableNumber a × IsWritableNumber b
+IsWritableTruth (denied a) = IsWritableTruth a
+IsWritableTruth (joined j a b) = IsWritableTruth a × IsWritableTruth b
+
+abbrev pub IsWritable : Expression → Type 0
+IsWritable empty = Unit {0}
+IsWritable (truth a) = IsWritableTruth a
+
+-- the text is an expression, and resolved it is this tree
+pub record IsReadBack (text : List ℕ) (e : Expression) : Type 0 where
+  pub tokens : List Token
+  pub are_tokens : Tokens text (Ok tokens)
+  pub tree : Expression
+  pub is_tree : IsReadAs (kinds_of tokens) tree
+  pub no_fault : fill_fault tree ≡ None
+  pub same : fill_expression tree ≡ e

@@ -1,0 +1,391 @@
+//! The tokens of an expression, written from its last node to its first: what takes operands waits
+//! until they are written, so nothing recurses and each token is written once.
+
+ghost use Rattle.std.specs.Prelude.{◌≡◌, [], ◌∷◌, IfNone, IfOk, IfSome, OnOk, true};
+ghost use Rattle.flt_tree.specs.declared.node.Node.TheVariants as node;
+ghost use Rattle.flt_lang.specs.Explained.{close_operand, open_operand, mask_tokens, prefix_tokens};
+ghost use Rattle.flt_lang.specs.Explained.{value_tokens, protocol_tokens, direction_tokens};
+ghost use Rattle.flt_lang.specs.Explained.{written_tokens, qualifier_tokens};
+ghost use Rattle.flt_lang.specs.Backward.{settle, around, write_node};
+
+use flt_tree::{CompleteQualifiers, Direction, NetMask, Node, Qualifiers, Value};
+use flt_words::{Cast, Operator, Protocol, Side, TokenKind, ValueType};
+use std::alloc::{AllocError, Allocator};
+use std::marker::Model;
+
+/// What waits until an operand is written.
+#[derive(Clone, Copy)]
+pub enum Pending {
+    /// Stands in front of the operand.
+    Front(TokenKind),
+    /// Stands between the operand and another on its left, which is written next.
+    Between(TokenKind),
+}
+
+/// What waits, and the tokens that are written, the last one first.
+#[derive(Drop)]
+pub(crate) struct Writer<A: Allocator> {
+    pending: Vec<Pending, A>,
+    tokens: Vec<TokenKind, A>,
+}
+
+/// What waits is seen latest first, the tokens in the order of the text.
+impl<A: Allocator> Model for Writer<A> {
+    ghost use Rattle.std.specs.Prelude.{reverse};
+    ghost use Rattle.flt_lang.specs.Backward.{WriterState};
+
+    ghost Value = { WriterState };
+
+    ghost view = { λ w. record {
+      pending = reverse w.pending.items;
+      tokens = reverse w.tokens.items;
+    } };
+}
+
+impl<A: Allocator> Writer<A> {
+    /// Nothing is written yet.
+    pub(crate) fn new(alloc: A) -> Result<Self, AllocError>
+    where
+        A: Clone,
+        ensures pending { IfOk result (λ writer. writer.pending ≡ []) }
+        ensures tokens { IfOk result (λ writer. writer.tokens ≡ []) }
+    {
+        Ok(Writer {
+            pending: Vec::new(alloc.clone()?),
+            tokens: Vec::new(alloc),
+        })
+    }
+
+    /// Writes a token before those that are written.
+    fn write(&mut self, token: TokenKind) -> Result<(), AllocError>
+        ensures tokens { OnOk result (self.new.tokens ≡ token ∷ self.old.tokens) }
+        ensures pending { OnOk result (self.new.pending ≡ self.old.pending) }
+    {
+        self.tokens.push(token)?;
+        Ok(())
+    }
+
+    /// Lets this wait for the next operand.
+    fn wait(&mut self, pending: Pending) -> Result<(), AllocError>
+        ensures pending { OnOk result (self.new.pending ≡ pending ∷ self.old.pending) }
+        ensures tokens { OnOk result (self.new.tokens ≡ self.old.tokens) }
+    {
+        self.pending.push(pending)?;
+        Ok(())
+    }
+
+    /// Takes what waits latest.
+    fn pop(&mut self) -> Option<Pending>
+        ensures some { IfSome result (λ p. self.old.pending ≡ p ∷ self.new.pending) }
+        ensures none { IfNone result (self.old.pending ≡ []) }
+        ensures none_left { IfNone result (self.new.pending ≡ []) }
+        ensures tokens { self.new.tokens ≡ self.old.tokens }
+    {
+        self.pending.pop()
+    }
+
+    /// An operand is written: what waits in front of it follows.
+    fn settle(&mut self) -> Result<(), AllocError>
+        ensures { OnOk result (self.new ≡ settle self.old.pending self.old.tokens) }
+    {
+        while let Some(pending) = self.pop() {
+            match pending {
+                Pending::Front(token) => self.write(token)?,
+                Pending::Between(token) => {
+                    self.write(token)?;
+                    return Ok(());
+                }
+            }
+        }
+        Ok(())
+    }
+
+    /// Closes the parentheses around an operand.
+    fn close(&mut self, is_operand: bool) -> Result<(), AllocError>
+        ensures tokens { OnOk result (self.new.tokens ≡ close_operand is_operand self.old.tokens) }
+        ensures pending { OnOk result (self.new.pending ≡ self.old.pending) }
+    {
+        if is_operand {
+            self.write(TokenKind::Close)?;
+        }
+        Ok(())
+    }
+
+    /// Opens them.
+    fn open(&mut self, is_operand: bool) -> Result<(), AllocError>
+        ensures tokens { OnOk result (self.new.tokens ≡ open_operand is_operand self.old.tokens) }
+        ensures pending { OnOk result (self.new.pending ≡ self.old.pending) }
+    {
+        if is_operand {
+            self.write(TokenKind::Open)?;
+        }
+        Ok(())
+    }
+
+    /// Closes the parentheses around a node with operands, which are written next.
+    fn surround(&mut self, is_operand: bool, pending: Pending) -> Result<(), AllocError>
+        ensures { OnOk result (self.new ≡ around is_operand pending self.old) }
+    {
+        if is_operand {
+            self.write(TokenKind::Close)?;
+            self.wait(Pending::Front(TokenKind::Open))?;
+        }
+        self.wait(pending)
+    }
+
+    fn write_prefix(&mut self, len: Option<u32>) -> Result<(), AllocError>
+        ensures tokens { OnOk result (self.new.tokens ≡ prefix_tokens len self.old.tokens) }
+        ensures pending { OnOk result (self.new.pending ≡ self.old.pending) }
+    {
+        if let Some(len) = len {
+            self.write(TokenKind::Number(len))?;
+            self.write(TokenKind::Operator(Operator::Divide))?;
+        }
+        Ok(())
+    }
+
+    fn write_mask(&mut self, mask: NetMask) -> Result<(), AllocError>
+        ensures tokens { OnOk result (self.new.tokens ≡ mask_tokens mask self.old.tokens) }
+        ensures pending { OnOk result (self.new.pending ≡ self.old.pending) }
+    {
+        match mask {
+            NetMask::Unwritten => Ok(()),
+            NetMask::Prefix(len) => {
+                self.write(TokenKind::Number(len))?;
+                self.write(TokenKind::Operator(Operator::Divide))
+            }
+            NetMask::Mask(dotted) => {
+                self.write(TokenKind::Dotted {
+                    address: dotted.address,
+                    parts: dotted.parts,
+                })?;
+                self.write(TokenKind::Mask)
+            }
+        }
+    }
+
+    fn write_value(&mut self, value: Value) -> Result<(), AllocError>
+        ensures tokens { OnOk result (self.new.tokens ≡ value_tokens value self.old.tokens) }
+        ensures pending { OnOk result (self.new.pending ≡ self.old.pending) }
+    {
+        match value {
+            Value::Number(number, mask) => {
+                self.write_mask(mask)?;
+                self.write(TokenKind::Number(number))
+            }
+            Value::Dotted(dotted, mask) => {
+                self.write_mask(mask)?;
+                self.write(TokenKind::Dotted {
+                    address: dotted.address,
+                    parts: dotted.parts,
+                })
+            }
+            Value::Ip6(address, len) => {
+                self.write_prefix(len)?;
+                self.write(TokenKind::Ip6(address))
+            }
+            Value::Mac(address) => self.write(TokenKind::Mac(address)),
+            Value::Range { first, last } => self.write(TokenKind::Range { first, last }),
+        }
+    }
+
+    fn write_protocol(&mut self, protocol: Option<Protocol>) -> Result<(), AllocError>
+        ensures tokens { OnOk result (self.new.tokens ≡ protocol_tokens protocol self.old.tokens) }
+        ensures pending { OnOk result (self.new.pending ≡ self.old.pending) }
+    {
+        match protocol {
+            None => Ok(()),
+            Some(protocol) => self.write(TokenKind::Protocol(protocol)),
+        }
+    }
+
+    fn write_direction(&mut self, direction: Direction) -> Result<(), AllocError>
+        ensures tokens { OnOk result (self.new.tokens
+            ≡ direction_tokens direction self.old.tokens) }
+        ensures pending { OnOk result (self.new.pending ≡ self.old.pending) }
+    {
+        match direction {
+            Direction::One(side) => self.write(TokenKind::Side(side)),
+            Direction::Both(join) => {
+                self.write(TokenKind::Side(Side::Destination))?;
+                self.write(TokenKind::Join(join))?;
+                self.write(TokenKind::Side(Side::Source))
+            }
+        }
+    }
+
+    /// The qualifiers that are written.
+    fn write_written(&mut self, qualifiers: Qualifiers) -> Result<(), AllocError>
+        ensures tokens { OnOk result (self.new.tokens
+            ≡ written_tokens qualifiers self.old.tokens) }
+        ensures pending { OnOk result (self.new.pending ≡ self.old.pending) }
+    {
+        if let Some(value_type) = qualifiers.value_type {
+            self.write(TokenKind::ValueType(value_type))?;
+        }
+        if let Some(direction) = qualifiers.direction {
+            self.write_direction(direction)?;
+        }
+        self.write_protocol(qualifiers.protocol)
+    }
+
+    /// All qualifiers.
+    fn write_qualifiers(&mut self, qualifiers: CompleteQualifiers) -> Result<(), AllocError>
+        ensures tokens { OnOk result (self.new.tokens
+            ≡ qualifier_tokens qualifiers self.old.tokens) }
+        ensures pending { OnOk result (self.new.pending ≡ self.old.pending) }
+    {
+        self.write(TokenKind::ValueType(qualifiers.value_type))?;
+        match qualifiers.value_type {
+            ValueType::Proto => {}
+            _ => self.write_direction(qualifiers.direction)?,
+        }
+        self.write_protocol(qualifiers.protocol)
+    }
+}
+
+impl<A: Allocator> Writer<A> {
+    /// An operand of one token.
+    fn write_word(&mut self, token: TokenKind) -> Result<(), AllocError>
+        ensures { OnOk result (self.new ≡ settle self.old.pending (token ∷ self.old.tokens)) }
+    {
+        self.write(token)?;
+        self.settle()
+    }
+
+    /// An operand of two tokens.
+    fn write_pair(
+        &mut self,
+        is_operand: bool,
+        first: TokenKind,
+        last: TokenKind,
+    ) -> Result<(), AllocError>
+        ensures { OnOk result (self.new ≡ settle self.old.pending
+            (open_operand is_operand (first ∷ last ∷ close_operand is_operand self.old.tokens))) }
+    {
+        self.close(is_operand)?;
+        self.write(last)?;
+        self.write(first)?;
+        self.open(is_operand)?;
+        self.settle()
+    }
+
+    /// `broadcast` or `multicast`.
+    fn write_cast(
+        &mut self,
+        is_operand: bool,
+        protocol: Option<Protocol>,
+        cast: Cast,
+    ) -> Result<(), AllocError>
+        ensures { OnOk result (self.new ≡ write_node is_operand (node.Cast protocol cast) self.old) }
+    {
+        match protocol {
+            None => self.write_word(TokenKind::Cast(cast)),
+            Some(protocol) => self.write_pair(
+                is_operand,
+                TokenKind::Protocol(protocol),
+                TokenKind::Cast(cast),
+            ),
+        }
+    }
+
+    fn write_bare(&mut self, is_operand: bool, value: Value) -> Result<(), AllocError>
+        ensures { OnOk result (self.new ≡ write_node is_operand (node.Bare value) self.old) }
+    {
+        self.close(is_operand)?;
+        self.write_value(value)?;
+        self.open(is_operand)?;
+        self.settle()
+    }
+
+    fn write_valued(
+        &mut self,
+        is_operand: bool,
+        qualifiers: Qualifiers,
+        value: Value,
+    ) -> Result<(), AllocError>
+        ensures { OnOk result (self.new
+            ≡ write_node is_operand (node.Valued qualifiers value) self.old) }
+    {
+        self.close(is_operand)?;
+        self.write_value(value)?;
+        self.write_written(qualifiers)?;
+        self.open(is_operand)?;
+        self.settle()
+    }
+
+    fn write_qualified(
+        &mut self,
+        is_operand: bool,
+        qualifiers: CompleteQualifiers,
+        value: Value,
+    ) -> Result<(), AllocError>
+        ensures { OnOk result (self.new
+            ≡ write_node is_operand (node.Qualified qualifiers value) self.old) }
+    {
+        self.close(is_operand)?;
+        self.write_value(value)?;
+        self.write_qualifiers(qualifiers)?;
+        self.open(is_operand)?;
+        self.settle()
+    }
+
+    /// An accessor: its place is written next.
+    fn write_load(&mut self, protocol: Protocol, size: u32) -> Result<(), AllocError>
+        ensures { OnOk result (self.new ≡ write_node true (node.Load protocol size) self.old) }
+    {
+        self.write(TokenKind::CloseBracket)?;
+        self.write(TokenKind::Number(size))?;
+        self.write(TokenKind::Colon)?;
+        self.wait(Pending::Front(TokenKind::Protocol(protocol)))?;
+        self.wait(Pending::Front(TokenKind::OpenBracket))
+    }
+
+    /// Writes a node before those that are written.
+    pub(crate) fn write_node(&mut self, is_operand: bool, node: Node) -> Result<(), AllocError>
+        ensures { OnOk result (self.new ≡ write_node is_operand node self.old) }
+    {
+        match node {
+            Node::Check(protocol) => self.write_word(TokenKind::Protocol(protocol)),
+            Node::Cast(protocol, cast) => self.write_cast(is_operand, protocol, cast),
+            Node::Sized(size, number) => {
+                self.write_pair(is_operand, TokenKind::Size(size), TokenKind::Number(number))
+            }
+            Node::Bare(value) => self.write_bare(is_operand, value),
+            Node::Valued(qualifiers, value) => self.write_valued(is_operand, qualifiers, value),
+            Node::Qualified(qualifiers, value) => {
+                self.write_qualified(is_operand, qualifiers, value)
+            }
+            Node::Compare(comparison) => {
+                self.surround(
+                    is_operand,
+                    Pending::Between(TokenKind::Comparison(comparison)),
+                )
+            }
+            Node::Not => self.surround(is_operand, Pending::Front(TokenKind::Not)),
+            Node::Join(join) => self.surround(is_operand, Pending::Between(TokenKind::Join(join))),
+            Node::Literal(number) => self.write_word(TokenKind::Number(number)),
+            Node::Len => self.write_word(TokenKind::Len),
+            Node::Named(number) => self.write_word(TokenKind::Name(number)),
+            Node::Load(protocol, size) => self.write_load(protocol, size),
+            Node::Negate => {
+                self.surround(
+                    true,
+                    Pending::Front(TokenKind::Operator(Operator::Subtract)),
+                )
+            }
+            Node::Apply(operator) => {
+                self.surround(true, Pending::Between(TokenKind::Operator(operator)))
+            }
+        }
+    }
+
+    /// The tokens, in the order of the text.
+    pub(crate) fn into_tokens(self) -> Vec<TokenKind, A>
+        ensures { result.items ≡ self.tokens }
+    {
+        let Writer { mut tokens, .. } = self;
+        tokens.reverse();
+        tokens
+    }
+}

@@ -1,0 +1,3 @@
+-- The lemmas that several proofs share.
+pub mod Hexadecimal
+pub mod Tracing

@@ -1,0 +1,29 @@
+-- The steps of a run, as a caller sees them.
+use Rattle.std.specs.Prelude.{◌≡◌, ℕ, ◌<◌, ◌≤◌, List, length, slice_get, IsSomeAnd}
+use Rattle.flt_bpf.specs.declared.insn.Insn.{Insn}
+use Rattle.flt_bpf.specs.declared.machine.State.{State}
+use Rattle.flt_bpf.specs.Machine.{Next, Goes, Ends, Stands, Answered, machine}
+use Rattle.flt_trace.specs.declared.steps.Step.{Step}
+use Rattle.flt_trace.specs.declared.steps.Course.{Course}
+use Rattle.flt_trace.specs.declared.steps.Course.TheVariants.{Further, End}
+
+-- the machine's state that a step shows
+abbrev pub step_state : Step → State
+step_state s = record { accumulator = s.accumulator; index = s.index; memory = s.memory }
+
+-- what an instruction leads to, in the machine's words
+abbrev pub course_next : Course → Step → Next
+course_next (Further further) s = Goes further (step_state s)
+course_next (End answer) s = Ends answer
+
+-- the run of a program on a packet of original length n is there after t instructions
+abbrev pub IsAfter : List Insn → List ℕ → ℕ → ℕ → Step → Type 0
+IsAfter prog p n t s = machine prog p n t ≡ Stands s.place (step_state s)
+
+-- a run that returns an answer after a count of instructions, as a caller's array shows it: before
+-- each instruction as far as there is room, from the first one on, and nothing else is written
+pub record Traces (prog : List Insn) (p : List ℕ) (n : ℕ) (old new : List Step)
+    (answer count : ℕ) : Type 0 where
+  pub answers : machine prog p n (length prog) ≡ Answered answer count
+  pub each : (t : ℕ) → t < count → t < length old → IsSomeAnd (slice_get new t) (IsAfter prog p n t)
+  pub others : (t : ℕ) → count ≤ t → slice_get new t ≡ slice_get old t

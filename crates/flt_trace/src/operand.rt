@@ -1,0 +1,137 @@
+//! What an instruction is called, and what it works on.
+ghost use Rattle.std.specs.Prelude.{◌≡◌, ◌+◌, ◌≤◌, ◌++◌, length};
+ghost use Rattle.flt_trace.specs.Text.{arithmetic_name, constant_text, load_name, operation_name};
+ghost use Rattle.std.specs.Prelude.{codes};
+ghost use Rattle.flt_trace.specs.Text.{hex, operand_text, signed_number, test_name};
+
+use crate::line::Line;
+use flt_bpf::operation::{AluOperation, Operand, Operation, Register, Source, Test, Width};
+
+fn load_name(width: Width) -> &'static str
+    ensures name { result.now ≡ load_name width }
+    ensures short { length result.now ≤ 3 }
+{
+    match width {
+        Width::Word => "ld",
+        Width::HalfWord => "ldh",
+        Width::Byte => "ldb",
+    }
+}
+
+fn arithmetic_name(operator: AluOperation) -> &'static str
+    ensures name { result.now ≡ arithmetic_name operator }
+    ensures short { length result.now ≤ 3 }
+{
+    match operator {
+        AluOperation::Add => "add",
+        AluOperation::Subtract => "sub",
+        AluOperation::Multiply => "mul",
+        AluOperation::Divide => "div",
+        AluOperation::Or => "or",
+        AluOperation::And => "and",
+        AluOperation::ShiftLeft => "lsh",
+        AluOperation::ShiftRight => "rsh",
+        AluOperation::Remainder => "mod",
+        AluOperation::ExclusiveOr => "xor",
+    }
+}
+
+pub(crate) fn test_name(test: Test) -> &'static str
+    ensures name { result.now ≡ test_name test }
+    ensures short { length result.now ≤ 4 }
+{
+    match test {
+        Test::Equal => "jeq",
+        Test::Greater => "jgt",
+        Test::AtLeast => "jge",
+        Test::AnyBit => "jset",
+    }
+}
+
+/// What an operation is called.
+pub(crate) fn operation_name(operation: Operation) -> &'static str
+    ensures name { result.now ≡ operation_name operation }
+    ensures short { length result.now ≤ 4 }
+{
+    match operation {
+        Operation::LoadAbsolute(width) | Operation::LoadIndirect(width) => load_name(width),
+        Operation::Load(Register::Accumulator, _) => "ld",
+        Operation::Load(Register::Index, _) => "ldx",
+        Operation::LoadHeaderLength => "ldxb",
+        Operation::Store(Register::Accumulator) => "st",
+        Operation::Store(Register::Index) => "stx",
+        Operation::Compute(operator, _) => arithmetic_name(operator),
+        Operation::Negate => "neg",
+        Operation::Jump => "ja",
+        Operation::JumpIf(test, _) => test_name(test),
+        Operation::ReturnConstant | Operation::ReturnAccumulator => "ret",
+        Operation::CopyToIndex => "tax",
+        Operation::CopyToAccumulator => "txa",
+    }
+}
+
+/// Appends a number between two texts.
+fn push_between(line: &mut Line, before: &[u8], number: u32, behind: &[u8])
+    requires { length line.old + length before.now + 11 + length behind.now ≤ 80 }
+    ensures value { line.new ≡ line.old ++ (before.now ++ (signed_number number ++ behind.now)) }
+    ensures bound { length line.new ≤ length line.old + length before.now + 11
+        + length behind.now }
+{
+    line.push_all(before);
+    line.push_signed(number);
+    line.push_all(behind);
+}
+
+/// Appends a mask.
+fn push_mask(line: &mut Line, number: u32)
+    requires { length line.old + 11 ≤ 80 }
+    ensures value { line.new ≡ line.old ++ (codes "#0x" ++ hex number) }
+    ensures bound { length line.new ≤ length line.old + 11 }
+{
+    line.push_all(b"#0x");
+    line.push_hex(number);
+}
+
+/// Appends a number that is counted with.
+fn push_count(line: &mut Line, number: u32)
+    requires { length line.old + 12 ≤ 80 }
+    ensures value { line.new ≡ line.old ++ (codes "#" ++ signed_number number) }
+    ensures bound { length line.new ≤ length line.old + 12 }
+{
+    line.push_all(b"#");
+    line.push_signed(number);
+}
+
+/// Appends the constant of arithmetic.
+fn push_constant(line: &mut Line, operator: AluOperation, k: u32)
+    requires { length line.old + 12 ≤ 80 }
+    ensures value { line.new ≡ line.old ++ constant_text operator k }
+    ensures bound { length line.new ≤ length line.old + 12 }
+{
+    match operator {
+        AluOperation::Or | AluOperation::And | AluOperation::ExclusiveOr => push_mask(line, k),
+        _ => push_count(line, k),
+    }
+}
+
+/// Appends what an operation works on, where it is at a place in a program.
+pub(crate) fn push_operand(line: &mut Line, operation: Operation, k: u32, place: u32)
+    requires { length line.old + 21 ≤ 80 }
+    ensures value { line.new ≡ line.old ++ operand_text operation k place }
+    ensures bound { length line.new ≤ length line.old + 21 }
+{
+    use Operation::*;
+    match operation {
+        LoadAbsolute(_) => push_between(line, b"[", k, b"]"),
+        LoadIndirect(_) => push_between(line, b"[x + ", k, b"]"),
+        Load(_, Source::Immediate) | JumpIf(_, Operand::Constant) => push_mask(line, k),
+        Load(_, Source::Memory) | Store(_) => push_between(line, b"M[", k, b"]"),
+        Load(_, Source::Length) => line.push_all(b"#pktlen"),
+        LoadHeaderLength => push_between(line, b"4*([", k, b"]&0xf)"),
+        Compute(operator, Operand::Constant) => push_constant(line, operator, k),
+        Compute(_, Operand::IndexRegister) | JumpIf(_, Operand::IndexRegister) => line.push(b'x'),
+        Jump => line.push_decimal(u64::from(place) + 1 + u64::from(k)),
+        ReturnConstant => push_count(line, k),
+        Negate | ReturnAccumulator | CopyToIndex | CopyToAccumulator => {}
+    }
+}

@@ -1,0 +1,177 @@
+//! Runs, instruction by instruction.
+ghost use Rattle.std.specs.Prelude.{◌≡◌, ℕ, ◌<◌, None, slice_set};
+ghost use Rattle.flt_bpf.specs.Check.{fault_of};
+ghost use Rattle.flt_bpf.specs.Machine.{field, held, into, into_word, operand_value, step};
+ghost use Rattle.flt_bpf.specs.Machine.{test_holds};
+ghost use Rattle.flt_bpf.specs.Valid.{IsValid};
+ghost use Rattle.flt_trace.specs.Trace.{Traces, course_next, step_state};
+
+use flt_bpf::operation::{Operand, Operation, Register, Source, Test, Width, decode};
+use flt_bpf::{Insn, compute};
+
+/// How many words of memory there are.
+const WORDS: usize = 16;
+
+/// Where a run is before one instruction, and what it works on.
+#[repr(C)]
+#[derive(Clone, Copy)]
+pub struct Step {
+    /// The index of the instruction, from 0.
+    pub place: u32,
+    /// The register A.
+    pub accumulator: u32,
+    /// The register X.
+    pub index: u32,
+    /// The words M.
+    pub memory: [u32; WORDS],
+}
+
+/// Where an instruction leads.
+#[derive(Clone, Copy)]
+pub(crate) enum Course {
+    /// So many instructions further than the next one.
+    Further(u32),
+    /// To the end of the run, which returns this.
+    End(u32),
+}
+
+impl Step {
+    /// Puts a number into a register; the run ends with 0 where there is none.
+    fn set(&mut self, register: Register, number: Option<u32>) -> Course
+        ensures leads { course_next result self.new ≡ into register number (step_state self.old) }
+        ensures place { self.new.place ≡ self.old.place }
+    {
+        let Some(number) = number else {
+            return Course::End(0);
+        };
+        match register {
+            Register::Accumulator => self.accumulator = number,
+            Register::Index => self.index = number,
+        }
+        Course::Further(0)
+    }
+
+    /// Puts a register into the word M[k].
+    fn store(&mut self, register: Register, k: u32) -> Course
+        requires { k < 16 }
+        ensures leads { course_next result self.new
+            ≡ into_word k (held register (step_state self.old)) (step_state self.old) }
+        ensures place { self.new.place ≡ self.old.place }
+    {
+        self.memory[k as usize] = match register {
+            Register::Accumulator => self.accumulator,
+            Register::Index => self.index,
+        };
+        Course::Further(0)
+    }
+
+    /// The second number of arithmetic and of a test.
+    fn operand(&self, operand: Operand, k: u32) -> u32
+        ensures { result ≡ operand_value operand k self.now.index }
+    {
+        match operand {
+            Operand::Constant => k,
+            Operand::IndexRegister => self.index,
+        }
+    }
+}
+
+/// The big-endian number in the packet at a place, or none where it isn't all captured.
+fn field(packet: &[u8], at: u32, width: Width) -> Option<u32>
+    ensures { result ≡ field packet.now at width }
+{
+    let bytes = packet.get(at as usize..)?;
+    match (width, bytes) {
+        (Width::Word, [a, b, c, d, ..]) => Some(u32::from_be_bytes([*a, *b, *c, *d])),
+        (Width::HalfWord, [a, b, ..]) => Some(u32::from(*a) * 0x100 + u32::from(*b)),
+        (Width::Byte, [a, ..]) => Some(u32::from(*a)),
+        _ => None,
+    }
+}
+
+fn holds(test: Test, a: u32, b: u32) -> bool
+    ensures { result ≡ test_holds test a b }
+{
+    match test {
+        Test::Equal => a == b,
+        Test::Greater => a > b,
+        Test::AtLeast => a >= b,
+        Test::AnyBit => a & b != 0,
+    }
+}
+
+/// What one instruction of a valid program does on a packet of original length `len`.
+#[tactic(auto, unfolding(flt_bpf::specs::Machine::step, flt_bpf::specs::Check::fault_of))]
+fn act(insn: &Insn, packet: &[u8], len: u32, state: &mut Step) -> Course
+    requires { (behind : ℕ) × (fault_of insn.now behind ≡ None) }
+    ensures leads { step insn.now packet.now len (step_state state.old)
+        ≡ course_next result state.new }
+    ensures place { state.new.place ≡ state.old.place }
+{
+    use Operation::*;
+    use Register::{Accumulator, Index};
+    let (a, x, k) = (state.accumulator, state.index, insn.k);
+    let Some(operation) = decode(insn.code) else {
+        unreachable!();
+    };
+    match operation {
+        LoadAbsolute(width) => state.set(Accumulator, field(packet, k, width)),
+        LoadIndirect(width) => state.set(Accumulator, field(packet, x.wrapping_add(k), width)),
+        Load(register, Source::Immediate) => state.set(register, Some(k)),
+        Load(register, Source::Memory) => state.set(register, Some(state.memory[k as usize])),
+        Load(register, Source::Length) => state.set(register, Some(len)),
+        LoadHeaderLength => {
+            let byte = field(packet, k, Width::Byte);
+            state.set(Index, byte.map(|byte| 4 * (byte & 15)))
+        }
+        Store(register) => state.store(register, k),
+        Compute(operator, operand) => {
+            let number = state.operand(operand, k);
+            state.set(Accumulator, compute(operator, a, number))
+        }
+        Negate => state.set(Accumulator, Some(a.wrapping_neg())),
+        Jump => Course::Further(k),
+        JumpIf(test, operand) => {
+            let is_true = holds(test, a, state.operand(operand, k));
+            Course::Further(u32::from(if is_true { insn.jt } else { insn.jf }))
+        }
+        ReturnConstant => Course::End(k),
+        ReturnAccumulator => Course::End(a),
+        CopyToIndex => state.set(Index, Some(a)),
+        CopyToAccumulator => state.set(Accumulator, Some(x)),
+    }
+}
+
+/// Puts a step into its place, if there is room for it.
+fn put(steps: &mut [Step], at: usize, step: &Step)
+    ensures { steps.new ≡ slice_set steps.old at step.now }
+{
+    if at < steps.len() {
+        steps[at] = *step;
+    }
+}
+
+/// Runs a valid program on a packet of original length `len`, and writes what the run is before
+/// each instruction that it meets, from the first one on, as far as there is room. Gives what the
+/// program returns, and how many instructions the run met.
+pub fn trace(insns: &[Insn], packet: &[u8], len: u32, steps: &mut [Step]) -> (u32, usize)
+    requires { IsValid insns.now }
+    ensures { Traces insns.now packet.now len steps.old steps.new result.0 result.1 }
+{
+    let mut step = Step {
+        place: 0,
+        accumulator: 0,
+        index: 0,
+        memory: [0; WORDS],
+    };
+    let mut count = 0;
+    // The label names the loop in its proof.
+    'places: loop {
+        put(steps, count, &step);
+        count += 1;
+        match act(&insns[step.place as usize], packet, len, &mut step) {
+            Course::End(answer) => return (answer, count),
+            Course::Further(further) => step.place += 1 + further,
+        }
+    }
+}
