@@ -1,13 +1,13 @@
 #!/usr/bin/env python3
 """Runs the examples of the pages and compares what they print with what the pages show.
 
-usage: check_examples.py [--capkit PROGRAM] [--update] [PAGE..]
+usage: check_examples.py [--capkit PROGRAM] [--library FILE] [--update] [PAGE..]
 
 An example is a fenced block whose first line begins with "$ ". The examples under one heading run one after another in one
 shell, in a folder of their own, after the line of docs/RECIPES.md that sets up a checkout. That of a package has to leave
 the same files. Standard output and standard error are shown together. A line that begins with "> " continues the command
 above it. With --update the pages get what is printed, to be read before it is committed. A heading under which a program
-is called that isn't installed is left out, and told.
+is called that isn't installed is left out, and told; so is one that needs the library, which `make -C library` builds.
 """
 import argparse
 import os
@@ -19,12 +19,15 @@ import sys
 import tempfile
 
 ROOT = pathlib.Path(__file__).resolve().parent.parent
-PAGES = ["README.md", "docs/RECIPES.md", "docs/SCALE.md"]
+PAGES = ["README.md", "docs/RECIPES.md", "docs/SCALE.md", "docs/TEACHING.md"]
 OTHER_PROGRAMS = ["tcpdump", "editcap", "mergecap", "capinfos", "parallel", "dot", "python3", "xxd"]
 MARK = "==== next example ===="
 # The folders that the set-up copies, and where a package has them.
-FOLDERS = ["samples", "bench", "scale", "scripts"]
+FOLDERS = ["samples", "bench", "scale", "scripts", "teach"]
 INSTALLED = "/usr/share/doc/capkit"
+LIBRARY = ROOT / "library" / "out" / "libcapkit.so.0"
+# What is called by examples that need the library.
+NEEDS_LIBRARY = re.compile(r"\.\./teach/|import capkit")
 
 
 def built_program():
@@ -90,23 +93,25 @@ def set_up(where):
     return found[1]
 
 
-def checkout(folder, capkit):
+def checkout(folder, capkit, library=LIBRARY):
     """Makes of the folder a checkout, as far as the set-up needs it, and returns what a shell there is called with."""
     for name in FOLDERS:
         shutil.copytree(ROOT / name, folder / name, ignore=shutil.ignore_patterns("__pycache__"))
     (folder / "capkit").symlink_to(pathlib.Path(capkit).resolve())
     kept = {"PATH": os.environ["PATH"], "TZ": "UTC", "LC_ALL": "C", "HOME": str(folder)}
+    package = {"PYTHONPATH": str(ROOT / "library" / "python" / "src"), "CAPKIT_LIBRARY": str(library)}
+    kept.update(package, PYTHONDONTWRITEBYTECODE="1")
     pipes = {"stdin": subprocess.DEVNULL, "stdout": subprocess.PIPE, "stderr": subprocess.STDOUT}
     return {"cwd": folder, "env": kept, **pipes}
 
 
-def run(commands, capkit):
+def run(commands, capkit, library):
     """What each of the commands prints, in one shell and a new folder."""
     script = set_up("in a checkout") + "\n"
     for command in commands:
         script += f"__status=$?; printf '{MARK}\\n'; (exit $__status)\n{command}\n"
     with tempfile.TemporaryDirectory() as temporary:
-        done = subprocess.run(["bash", "-c", script], **checkout(pathlib.Path(temporary), capkit))
+        done = subprocess.run(["bash", "-c", script], **checkout(pathlib.Path(temporary), capkit, library))
     printed = done.stdout.decode(errors="replace").split(MARK + "\n")[1:]
     return [text.rstrip("\n").split("\n") if text.rstrip("\n") else [] for text in printed]
 
@@ -124,22 +129,24 @@ def same_set_up(capkit):
     return shown[0] == shown[1] and shown[0][0] == 0
 
 
-def missing_program(commands):
+def missing_program(commands, library):
+    if NEEDS_LIBRARY.search("\n".join(commands)) and not library.exists():
+        return "libcapkit.so.0"
     for program in OTHER_PROGRAMS:
         if re.search(rf"(^|[|;(]|\s){program}\s", "\n".join(commands)) and shutil.which(program) is None:
             return program
     return None
 
 
-def check_section(name, heading, parts, places, capkit):
+def check_section(name, heading, parts, places, capkit, library):
     """Runs the examples under a heading, and returns how many of them print something else; puts in what they print."""
     commands = [command_of(parts[place][1]) for place in places]
-    missing = missing_program(commands)
+    missing = missing_program(commands, library)
     if missing:
         print(f"{name}: {heading}: left out, {missing} is not installed")
         return 0
     wrong = 0
-    for place, printed in zip(places, run(commands, capkit), strict=True):
+    for place, printed in zip(places, run(commands, capkit, library), strict=True):
         shown = list(parts[place][2])
         while shown and not shown[-1]:
             shown.pop()
@@ -151,13 +158,13 @@ def check_section(name, heading, parts, places, capkit):
     return wrong
 
 
-def check_page(name, capkit, is_update):
+def check_page(name, capkit, library, is_update):
     path = ROOT / name
     parts = parts_of(path.read_text())
     count = wrong = 0
     for heading, places in sections_of(parts).items():
         count += len(places)
-        wrong += check_section(name, heading, parts, places, capkit)
+        wrong += check_section(name, heading, parts, places, capkit, library)
     print(f"{name}: {count} examples, {wrong} print something else", flush=True)
     if is_update and wrong:
         lines = [line for part in parts for shown in part[1:] for line in shown]
@@ -168,12 +175,13 @@ def check_page(name, capkit, is_update):
 def main():
     parser = argparse.ArgumentParser(description=__doc__.split("\n")[0])
     parser.add_argument("--capkit", default=None)
+    parser.add_argument("--library", type=pathlib.Path, default=LIBRARY)
     parser.add_argument("--update", action="store_true")
     parser.add_argument("pages", nargs="*")
     arguments = parser.parse_args()
     capkit = arguments.capkit or built_program()
     names = arguments.pages or [page for page in PAGES if (ROOT / page).exists()]
-    wrong = sum(check_page(name, capkit, arguments.update) for name in names)
+    wrong = sum(check_page(name, capkit, arguments.library.resolve(), arguments.update) for name in names)
     if not same_set_up(capkit):
         wrong += 1
         print("docs/RECIPES.md: the two lines of the set-up don't leave the same files")

@@ -62,9 +62,14 @@ for page in "$work"/pages/*; do
 done
 gzip -9n "$tree"/usr/share/man/man?/*
 
-# The documents that a user reads, the samples, and what the recipes call beside them.
+# The documents that a user reads, the samples, and what the recipes and lessons call beside them.
 install -m 644 "$root"/samples/* "$documents/samples/"
-install -m 644 "$root/bench/draw_listing.py" "$root/bench/make_capture.py" "$documents/bench/"
+install -m 644 "$root/bench/make_capture.py" "$documents/bench/"
+for file in lesson show draw fields library listing markup page pictures runs sides tree words; do
+    install -D -m 644 -t "$documents/teach" "$root/teach/$file.py"
+done
+install -m 644 "$root/teach/page.css" "$root/teach/page.js" "$documents/teach/"
+install -D -m 644 -t "$documents/docs" "$root/docs/lesson.png"
 # shellcheck disable=SC2046  # the pages have names without spaces
 for page in README.md $(cd "$root" && echo docs/*.md) docs/inside/FORMATS.md docs/inside/MACHINE.md; do
     install -D -m 644 "$root/$page" "$documents/$page"

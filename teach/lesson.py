@@ -1,0 +1,147 @@
+#!/usr/bin/env python3
+"""Makes a lesson of a filter and a capture: one page that opens in any browser, without a network.
+
+The page has the expression and what it means, its tree, the program with its ways, and the
+packets. A click on a packet shows its bytes, the way through the program, what A and X are at
+each step, and why the packet matched or didn't. With --beside it shows two filters, and on which
+packets they differ.
+
+Statuses: 0; 1 where the capture ends with a fault or can't be read, though the packets before it
+are on the page; 2 where the command line, an expression or a listing is refused.
+"""
+import argparse
+import pathlib
+import sys
+
+import library
+import listing
+import markup
+import page
+import sides
+
+MOST_PACKETS = 10_000
+EXAMPLE = """example:
+  lesson.py 'tcp port 80' day.pcap > lesson.html
+  lesson.py --beside 'not tcp port 80' 'tcp port 80' day.pcap > two.html
+The name - is standard input."""
+
+
+class Refused(Exception):
+    """What ends the script with status 2."""
+
+
+def report(text):
+    """Writes a message, in which what isn't a character of a line is shown by its number."""
+    print(f"lesson.py: {markup.visible(text)}", file=sys.stderr)
+
+
+def arguments_of(words):
+    parser = argparse.ArgumentParser(
+        prog="lesson.py", description=__doc__.split("\n\n")[0], epilog=EXAMPLE,
+        formatter_class=argparse.RawDescriptionHelpFormatter,
+    )  # fmt: skip
+    beside = parser.add_mutually_exclusive_group()
+    beside.add_argument("--beside", metavar="EXPRESSION", help="a second filter, beside the first")
+    beside.add_argument("--beside-code", metavar="LISTING", help="a second program, from a listing")
+    parser.add_argument("--code", action="store_true", help="EXPRESSION is the name of a listing")
+    parser.add_argument(
+        "--packets", type=int, default=MOST_PACKETS, metavar="COUNT",
+        help=f"at most so many packets, the first ones (default {MOST_PACKETS})",
+    )  # fmt: skip
+    parser.add_argument("expression", metavar="EXPRESSION")
+    parser.add_argument("capture", metavar="CAPTURE")
+    return parser.parse_args(words)
+
+
+def refusal_of(text, error):
+    """Why an expression is refused, with a mark where the fault is."""
+    lines = [f"expression: {error}"]
+    if error.place is not None and text.isprintable():
+        before = text.encode(errors="surrogateescape")[: error.place - 1]
+        lines += ["", f"  {text}", "  " + " " * len(before.decode(errors="replace")) + "^"]
+    lines.append('docs/FILTER.md, "When it is refused", says what to write instead.')
+    return "\n".join(lines)
+
+
+def expression_side(text):
+    try:
+        return sides.of_expression(text)
+    except library.capkit.CompileError as error:
+        raise Refused(refusal_of(text, error)) from error
+
+
+def listing_side(name):
+    try:
+        with open(name, "rb") as file:
+            return sides.of_listing(name, listing.read(file))
+    except OSError as error:
+        raise Refused(f"{name}: {error.strerror}") from error
+    except listing.Bad as error:
+        raise Refused(f"{name}: {error}") from error
+
+
+def sides_of(arguments):
+    """The filters of the page."""
+    first = listing_side if arguments.code else expression_side
+    found = [first(arguments.expression)]
+    if arguments.beside is not None:
+        found.append(expression_side(arguments.beside))
+    if arguments.beside_code is not None:
+        found.append(listing_side(arguments.beside_code))
+    return found
+
+
+def shown_name(name):
+    """What a capture is called in a message; `-` is standard input."""
+    return "standard input" if name == "-" else name
+
+
+def packets_of(name, most):
+    """The first packets of a capture, what is to be told of its end, and whether it has a fault."""
+    packets, notes = [], []
+    source = sys.stdin.buffer.read() if name == "-" else name
+    try:
+        for packet in library.capkit.packets(source):
+            if len(packets) == most:
+                notes.append(f"The page has the first {most} packets; the capture has more.")
+                break
+            packets.append(packet)
+    except library.capkit.CaptureError as error:
+        notes.append(page.fault_note(error, len(packets)))
+        return packets, notes, f"{shown_name(name)}: {error}"
+    return packets, notes, None
+
+
+def make(arguments):
+    """Writes the page, and returns the status."""
+    found = sides_of(arguments)
+    fault = None
+    try:
+        packets, notes, fault = packets_of(arguments.capture, arguments.packets)
+    except OSError as error:
+        raise Refused(f"{arguments.capture}: {error.strerror}") from error
+    name = pathlib.PurePath(shown_name(arguments.capture)).name
+    text, told = page.page_of(found, name, packets, notes)
+    sys.stdout.buffer.write(text)
+    for line in [fault] if fault else notes + told:
+        report(line)
+    return 1 if fault else 0
+
+
+def main(words):
+    arguments = arguments_of(words)
+    if arguments.packets < 0:
+        report("--packets takes a count")
+        return 2
+    try:
+        return make(arguments)
+    except Refused as error:
+        for line in str(error).split("\n"):
+            print(f"lesson.py: {markup.visible(line)}" if line else "", file=sys.stderr)
+        return 2
+    except BrokenPipeError:
+        return 1
+
+
+if __name__ == "__main__":
+    sys.exit(main(sys.argv[1:]))

@@ -1,0 +1,134 @@
+"""The calls of libcapkit that a lesson is made of.
+
+All that a lesson says of a packet, a program or an expression comes from here: the package `capkit`
+for Python, which calls the proved library. The package is that which is installed, or that of the
+checkout, with the library that `make` in library/ builds.
+"""
+import ctypes
+import os
+import pathlib
+import sys
+from typing import NamedTuple
+
+NO_LIBRARY = """the library of capkit isn't there. In a checkout `make -C library` builds it; else
+install the package for Python that `make -C library python` makes (docs/LIBRARY.md)"""
+
+
+class Missing(Exception):
+    """The library isn't there, or is older than these tools."""
+
+
+def checkout():
+    """The folder library/ of the checkout that these tools are in, or that a copy of them is in."""
+    for folder in pathlib.Path(__file__).resolve().parents:
+        if (folder / "library" / "python" / "src" / "capkit").exists():
+            return folder / "library"
+    raise Missing(NO_LIBRARY)
+
+
+def load():
+    """The package `capkit`, and the declarations of its calls."""
+    try:
+        import capkit
+    except (ImportError, OSError):
+        sys.modules.pop("capkit", None)
+        library = checkout()
+        os.environ.setdefault("CAPKIT_LIBRARY", str(library / "out" / "libcapkit.so.0"))
+        sys.path.insert(0, str(library / "python" / "src"))
+        try:
+            import capkit
+        except (ImportError, OSError) as error:
+            raise Missing(NO_LIBRARY) from error
+    from capkit import native
+
+    return capkit, native
+
+
+def declared(name, result, *arguments):
+    """A call of the library that the package has no method for."""
+    try:
+        return native.declare(name, result, *arguments)
+    except AttributeError as error:
+        raise Missing(f"the library is older than these tools: it has no {name}") from error
+
+
+try:
+    capkit, native = load()
+    if not hasattr(capkit, "explain"):
+        _explain = declared(
+            "capkit_explain", ctypes.c_uint32, ctypes.c_char_p, ctypes.c_size_t, ctypes.c_void_p,
+            ctypes.c_size_t, ctypes.POINTER(ctypes.c_size_t),
+        )  # fmt: skip
+    _run = declared(
+        "capkit_run", ctypes.c_uint32, ctypes.c_void_p, ctypes.c_size_t, ctypes.c_char_p,
+        ctypes.c_size_t, ctypes.c_uint32, ctypes.POINTER(ctypes.c_size_t),
+    )  # fmt: skip
+    if not hasattr(capkit.Filter, "trace"):
+        raise Missing("the package capkit is older than these tools: it has no traces")
+except Missing as error:
+    sys.exit(f"{pathlib.Path(sys.argv[0]).name}: {error}")
+
+WORDS_OF_A_STEP = ctypes.sizeof(native.Step) // 4
+
+
+class Trace(NamedTuple):
+    """A run: before each instruction its index, A, X and the words of memory."""
+
+    places: list
+    accumulators: list
+    indexes: list
+    words: memoryview
+
+    def memory_at(self, step, word):
+        """What a word of memory is before a step, from 0."""
+        return self.words[WORDS_OF_A_STEP * step + 3 + word]
+
+
+class Program:
+    """A valid program, and its runs."""
+
+    def __init__(self, program):
+        self.filter = program
+        self.instructions = program.instructions
+        # No run has more steps than the program has instructions.
+        self._room = len(self.instructions)
+        self._steps = (native.Step * self._room)()
+        self._words = memoryview(self._steps).cast("B").cast("I")
+
+    def texts(self):
+        """Each instruction as `tcpdump -d` prints it."""
+        return [self.filter.text(place) for place in range(self._room)]
+
+    def run(self, data, original):
+        """What it returns on a packet, of captured bytes and an original length, and its steps."""
+        steps = ctypes.c_size_t()
+        return _run(*self.filter._arguments(data, original), ctypes.byref(steps)), steps.value
+
+    def trace(self, data, original):
+        """The run on a packet. It is lost by the next one of this program."""
+        arguments = self.filter._arguments(data, original)
+        count = native.trace(*arguments, self._steps, self._room)
+        words = self._words[: WORDS_OF_A_STEP * count]
+        return Trace(*(words[column::WORDS_OF_A_STEP].tolist() for column in range(3)), words)
+
+
+def compiled(text, link_type):
+    """The program of an expression for a link type; raises capkit.CompileError."""
+    return Program(capkit.Filter(text, link_type))
+
+
+def explained(text):
+    """What an expression means, as an expression; raises capkit.CompileError."""
+    capkit.Expression(text)
+    if hasattr(capkit, "explain"):
+        return capkit.explain(text)
+    encoded, length = text.encode(errors="surrogateescape"), ctypes.c_size_t()
+    room = 4096
+    while True:
+        buffer = ctypes.create_string_buffer(room)
+        status = _explain(encoded, len(encoded), buffer, room, ctypes.byref(length))
+        if status != native.OK:
+            raise capkit.CompileError(status, length.value or None)
+        if length.value < room:
+            return buffer.raw[: length.value].decode()
+        room = length.value + 1

@@ -1,0 +1,382 @@
+"use strict";
+// Shows what the data of the page holds. It finds out nothing itself: what a packet matches, each
+// step of its run and each reason are in the data. Texts of a capture become text nodes alone.
+
+const lesson = JSON.parse(document.getElementById("lesson").textContent);
+const count = lesson.lines.length;
+const list = document.getElementById("list");
+const differing = new Set(lesson.differ);
+const MARKS = {
+  "+": ["✓", "matches", "keeps"], "-": ["✗", "doesn't match", "drops"],
+  "!": ["!", "is rejected", "odd"], " ": ["–", "isn't filtered", "odd"],
+};
+const PARTS = {
+  "+": ["matches", "matches"], "-": ["doesn't match", "matches-not"], "!": ["is rejected", "rejected"],
+  ".": ["isn't asked", "not-asked"], "?": ["is too deep to ask alone", "not-asked"],
+};
+const DIGITS = "ABCDEFGHIJKLMNOPQRSTUVWXYZabcdefghijklmnopqrstuvwxyz0123456789+/";
+const GROUP = 200;
+let chosen = -1;
+
+function made(name, text, kind) {
+  const element = document.createElement(name);
+  if (text !== undefined) element.textContent = text;
+  if (kind) element.className = kind;
+  return element;
+}
+
+// ---- the list of packets
+
+// An option whose marks are those of its verdicts; there are few different ones, which are copied.
+function marked(verdicts) {
+  const item = made("div");
+  item.setAttribute("role", "option");
+  item.setAttribute("aria-selected", "false");
+  for (const verdict of verdicts) {
+    const [sign, said, kind] = MARKS[verdict];
+    const mark = made("span", sign, "mark mark-" + kind);
+    mark.setAttribute("aria-hidden", "true");
+    item.append(mark, made("span", said + ", ", "spoken"));
+  }
+  return item;
+}
+
+const models = new Map();
+
+function option(place) {
+  const verdicts = lesson.sides.map((side) => side.verdicts[place]).join("");
+  if (!models.has(verdicts)) models.set(verdicts, marked(verdicts));
+  const item = models.get(verdicts).cloneNode(true);
+  item.id = "packet-" + place;
+  item.append(String(place + 1).padStart(String(count).length) + "  " + lesson.lines[place]);
+  if (differing.has(place)) item.classList.add("differs");
+  return item;
+}
+
+function fillList() {
+  for (let start = 0; start < count; start += GROUP) {
+    const group = made("div", undefined, "group");
+    group.setAttribute("role", "presentation");
+    for (let place = start; place < Math.min(start + GROUP, count); place++) group.append(option(place));
+    list.append(group);
+  }
+  tellShown(count);
+}
+
+function tellShown(shown) {
+  document.getElementById("shown").textContent = shown + " of " + count + " packets";
+}
+
+function isShown(place) {
+  return !document.getElementById("packet-" + place).hidden;
+}
+
+function choose(show) {
+  let shown = 0;
+  for (let place = 0; place < count; place++) {
+    const wanted = show === "all" || (show === "differ" ? differing.has(place)
+      : lesson.sides.some((side) => side.verdicts[place] === show));
+    document.getElementById("packet-" + place).hidden = !wanted;
+    if (wanted) shown++;
+  }
+  tellShown(shown);
+}
+
+// The packet that is so many shown ones further; the last one where there are fewer.
+function further(place, steps) {
+  const way = Math.sign(steps);
+  let found = place;
+  for (let next = place + way; next >= 0 && next < count && steps !== 0; next += way) {
+    if (isShown(next)) {
+      found = next;
+      steps -= way;
+    }
+  }
+  return found;
+}
+
+const KEYS = {
+  ArrowDown: () => further(chosen, 1), ArrowUp: () => further(chosen < 0 ? count : chosen, -1),
+  PageDown: () => further(chosen, 10), PageUp: () => further(chosen < 0 ? count : chosen, -10),
+  Home: () => further(-1, 1), End: () => further(count, -1),
+};
+
+function pressed(event) {
+  const move = KEYS[event.key];
+  if (!move || event.ctrlKey || event.altKey || event.metaKey) return;
+  event.preventDefault();
+  const place = move();
+  if (place >= 0 && place < count && isShown(place)) select(place);
+}
+
+// ---- the bytes of a packet
+
+function hex(number, digits) {
+  return number.toString(16).padStart(digits, "0");
+}
+
+// The places of bytes that a run reads: 1, or 2 where the last load reads it.
+function readPlaces(runs) {
+  const places = new Map();
+  runs.forEach((run, number) => {
+    if (!run) return;
+    const side = lesson.sides[number];
+    run.steps.forEach((step) => {
+      const load = side.loads[run.program][step.place];
+      if (!load) return;
+      const [size, start = step.read] = load;
+      for (let at = start; at < start + size; at++) places.set(at, step.isLast ? 2 : places.get(at) || 1);
+    });
+  });
+  return places;
+}
+
+function byteRow(line, bytes, start, read) {
+  const end = Math.min(start + 16, bytes.length);
+  line.append(hex(start, 4) + "  ");
+  let signs = "";
+  for (let at = start; at < end; at++) {
+    const code = bytes.charCodeAt(at);
+    signs += code >= 32 && code < 127 ? bytes[at] : ".";
+    const text = hex(code, 2);
+    const kind = read.get(at);
+    line.append(kind ? made("mark", text, kind === 2 ? "last" : "") : text, at % 16 === 7 ? "  " : " ");
+  }
+  const missing = 16 - (end - start);
+  line.append(" ".repeat(3 * missing + (missing > 8 ? 1 : 0)) + " " + signs + "\n");
+}
+
+function showBytes(place, runs) {
+  const box = document.getElementById("bytes");
+  const rows = document.createDocumentFragment();
+  const bytes = atob(lesson.bytes[place]);
+  const read = readPlaces(runs);
+  for (let start = 0; start < bytes.length; start += 16) byteRow(rows, bytes, start, read);
+  const missing = lesson.lengths[place] - bytes.length;
+  if (missing > 0) rows.append(missing + " more bytes aren't on this page\n");
+  box.replaceChildren(rows);
+}
+
+function showAbout(place) {
+  const about = document.getElementById("about");
+  about.replaceChildren();
+  const facts = [
+    ["captured", lesson.lengths[place] + " bytes"], ["interface", lesson.names[place]],
+    ["comment", lesson.comments[place]],
+  ];
+  for (const [name, text] of facts) {
+    if (text !== undefined) about.append(made("dt", name), made("dd", text));
+  }
+  document.getElementById("line").textContent = lesson.lines[place];
+}
+
+// ---- the way through a program
+
+// How many packets before each have the same path: where its values are in the path's columns.
+function rowsOf(side) {
+  side.paths.forEach((path) => { path.rows = 0; });
+  return side.path.map((path) => (path < 0 ? 0 : side.paths[path].rows++));
+}
+
+// A number of a column: the same for all packets of the path, or digits of 6 bits for each of them.
+function valueOf(values, row, rows) {
+  if (typeof values === "number") return values;
+  const width = values.length / rows;
+  let value = 0;
+  for (const digit of values.slice(row * width, (row + 1) * width)) value = value * 64 + DIGITS.indexOf(digit);
+  return value;
+}
+
+function placesOf(path) {
+  const places = [];
+  for (let i = 0; i < path.places.length; i += 2) {
+    for (let n = 0; n < path.places[i + 1]; n++) places.push(path.places[i] + n);
+  }
+  return places;
+}
+
+// The run of the chosen packet: of each step its instruction, A, X, memory, and where a load reads.
+function runOf(number) {
+  const side = lesson.sides[number];
+  const path = side.paths[side.path[chosen]];
+  if (!path) return null;
+  const now = { a: 0, x: 0, memory: {} };
+  const steps = [];
+  let column = 0;
+  placesOf(path).forEach((place, step, places) => {
+    let read;
+    for (; column < path.columns.length && path.columns[column][0] === step; column++) {
+      const [, what, values] = path.columns[column];
+      const value = valueOf(values, side.rows[chosen], path.rows);
+      if (what === "read") read = value;
+      else if (typeof what === "number") now.memory = { ...now.memory, [what]: value };
+      else now[what] = value;
+    }
+    const isLast = step === places.length - 1 && side.verdicts[chosen] === "!";
+    steps.push({ place, a: now.a, x: now.x, memory: now.memory, read, isLast });
+  });
+  return { program: path.program, steps, goes: path.goes };
+}
+
+function number(value) {
+  return value < 10 ? String(value) : "0x" + value.toString(16) + " = " + value;
+}
+
+function words(memory) {
+  return Object.entries(memory).map(([word, value]) => "M[" + word + "] " + number(value)).join(", ");
+}
+
+// Writes a text where it isn't there yet.
+function write(node, text) {
+  if (node.data !== text) node.data = text;
+}
+
+function fillRow(row, step, index, goes) {
+  const nodes = row.written;
+  row.classList.add("on-way");
+  write(nodes[0], String(index + 1));
+  write(nodes[1], number(step.a));
+  write(nodes[2], number(step.x));
+  write(nodes[3], goes);
+  if (nodes[4]) write(nodes[4], words(step.memory));
+}
+
+function clearRow(row) {
+  row.classList.remove("on-way");
+  for (const node of row.written) write(node, "");
+}
+
+const shownWays = lesson.sides.map(() => ({ rows: new Set(), boxes: new Set(), lines: [], drawn: [] }));
+
+// Puts back what isn't on the way that is to be shown.
+function clearWay(shown, rows, boxes) {
+  for (const row of shown.rows) if (!rows.has(row)) clearRow(row);
+  for (const box of shown.boxes) if (!boxes.has(box)) box.classList.remove("on-way");
+  shown.lines.forEach((line) => line.classList.remove("on-way"));
+  shown.drawn.forEach((line) => line.remove());
+  shown.rows = rows;
+  shown.boxes = boxes;
+  shown.lines = [];
+  shown.drawn = [];
+}
+
+// Marks a line of a picture. Of a jump, which shares a rail with others, the whole way is drawn, in
+// each strip from where it begins to where it ends.
+function markLine(line, target, shown, strips) {
+  if (!line.dataset.whole) {
+    line.classList.add("on-way");
+    shown.lines.push(line);
+    return;
+  }
+  const own = strips.indexOf(line.ownerSVGElement);
+  for (const strip of strips.slice(own)) {
+    const whole = document.createElementNS("http://www.w3.org/2000/svg", "path");
+    whole.setAttribute("d", line.dataset.whole);
+    whole.setAttribute("class", "on-way");
+    strip.append(whole);
+    shown.drawn.push(whole);
+    if (target < Number(strip.dataset.last)) return;
+  }
+}
+
+// A text node in each cell, whose text changes from packet to packet.
+function textsOf(cells) {
+  return cells.map((cell) => cell.appendChild(document.createTextNode("")));
+}
+
+// The boxes and lines of a picture, and the rows of a table, found once.
+function partsOf(part) {
+  if (!part.found) {
+    const ways = new Map();
+    for (const line of part.querySelectorAll("[data-way]")) ways.set(line.dataset.way, line);
+    const rows = [...part.querySelectorAll(".strip > [role=row]")];
+    for (const row of rows) row.written = textsOf([row.children[0], ...[...row.children].slice(4)]);
+    const strips = [...part.querySelectorAll(".flow svg")];
+    part.found = { rows, boxes: part.querySelectorAll("[data-at]"), ways, strips };
+  }
+  return part.found;
+}
+
+const GOES = { y: "yes", n: "no", "-": "" };
+
+function showWay(section, number, run) {
+  const shown = shownWays[number];
+  if (!run) {
+    clearWay(shown, new Set(), new Set());
+    return;
+  }
+  for (const part of section.querySelectorAll(".one-program")) {
+    part.hidden = Number(part.dataset.program) !== run.program;
+  }
+  const part = section.querySelector('.one-program[data-program="' + run.program + '"]');
+  const { rows, boxes, ways, strips } = partsOf(part);
+  const places = run.steps.map((step) => step.place);
+  // A program with very many instructions has no picture.
+  const met = boxes.length ? places.map((place) => boxes[place]) : [];
+  clearWay(shown, new Set(places.map((place) => rows[place])), new Set(met));
+  run.steps.forEach((step, index) => {
+    fillRow(rows[step.place], step, index, GOES[run.goes[index]]);
+    const line = index ? ways.get(places[index - 1] + "-" + step.place) : undefined;
+    if (line) markLine(line, step.place, shown, strips);
+  });
+  for (const box of met) box.classList.add("on-way");
+}
+
+function showReason(reason, side, run) {
+  reason.textContent = side.reasons[side.reason[chosen]] + (run ? " " + stepsText(run.steps.length) : "");
+  reason.className = "reason mark-" + MARKS[side.verdicts[chosen]][2];
+}
+
+function stepsText(steps) {
+  return steps === 1 ? "1 step." : steps + " steps.";
+}
+
+// ---- the parts of an expression
+
+function showParts(section, side) {
+  const nodes = section.querySelectorAll("[data-node]");
+  const table = section.querySelector(".parts");
+  if (!table || !side.parts) return;
+  const verdicts = side.parts[side.part[chosen]];
+  table.hidden = false;
+  nodes.forEach((node) => {
+    const [said, kind] = PARTS[verdicts[node.dataset.node]];
+    node.setAttribute("class", "node " + kind);
+    table.tBodies[0].rows[node.dataset.node].cells[1].textContent = said;
+  });
+}
+
+// ---- a packet is chosen
+
+function select(place) {
+  if (chosen >= 0) document.getElementById("packet-" + chosen).setAttribute("aria-selected", "false");
+  chosen = place;
+  const item = document.getElementById("packet-" + place);
+  item.setAttribute("aria-selected", "true");
+  list.setAttribute("aria-activedescendant", item.id);
+  item.scrollIntoView({ block: "nearest" });
+  document.getElementById("packet").textContent = "Packet " + (place + 1);
+  showAbout(place);
+  const runs = lesson.sides.map((side, number) => runOf(number));
+  showBytes(place, runs);
+  const filters = document.querySelectorAll(".filter");
+  const reasons = document.querySelectorAll(".reason");
+  document.querySelector(".reasons").hidden = false;
+  document.querySelectorAll(".run").forEach((section, number) => {
+    showReason(reasons[number], lesson.sides[number], runs[number]);
+    showWay(section, number, runs[number]);
+    showParts(filters[number], lesson.sides[number]);
+  });
+}
+
+lesson.sides.forEach((side) => {
+  side.rows = rowsOf(side);
+});
+fillList();
+document.querySelectorAll(".one-program").forEach(partsOf);
+list.addEventListener("keydown", pressed);
+list.addEventListener("click", (event) => {
+  const item = event.target.closest("[role=option]");
+  if (item) select(Number(item.id.slice(7)));
+});
+document.getElementById("show").addEventListener("change", (event) => choose(event.target.value));

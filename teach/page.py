@@ -1,0 +1,192 @@
+"""The page of a lesson: one file, with its style, its script and its data inside.
+
+The browser takes no script and no style but these two, by their digests in the page's policy, and
+fetches nothing. What comes from a capture is data (JSON in which `<` is written as a number), and
+is put on the page as text alone.
+"""
+import base64
+import hashlib
+import json
+import pathlib
+
+import runs
+from fields import ETHERNET_LINK
+from markup import escaped, element, filter_markup, packets_markup, programs_markup, visible_lines
+
+HERE = pathlib.Path(__file__).resolve().parent
+MOST_BYTES = 20 << 20
+# How many bytes of each packet a page has: the first of these numbers by which it isn't too large.
+SHOWN_BYTES = (1 << 32, 1024, 256, 64)
+MOST_ASKED = 1_000_000
+STYLE = (HERE / "page.css").read_text()
+SCRIPT = (HERE / "page.js").read_text()
+ABOUT = """Each answer, step, register and text of an instruction is what the proved library
+libcapkit says. The words beside the instructions are a reading aid."""
+
+
+def text_of_bytes(data):
+    """Bytes of a capture as a text; what isn't UTF-8 is shown by its numbers."""
+    return visible_lines(data.decode(errors="backslashreplace"))
+
+
+def fault_note(error, count):
+    """Why a capture ends before its end, for students."""
+    return (
+        f"The capture is damaged: at byte {error.offset} of the file it is wrong"
+        f" ({error.reason}), so nothing is read from there on."
+        f" The {count} packets before it are here."
+    )
+
+
+# ---- the data
+
+
+def data_of(packets, taken, ways, shown):
+    """What the script of the page works on."""
+    comments = {i: text_of_bytes(p.comment) for i, p in enumerate(packets) if p.comment}
+    names = {i: text_of_bytes(p.interface_name) for i, p in enumerate(packets) if p.interface_name}
+    return {
+        "lines": taken.lines,
+        "bytes": [base64.b64encode(packet.data[:shown]).decode() for packet in packets],
+        "lengths": [len(packet.data) for packet in packets],
+        "comments": comments,
+        "names": names,
+        "sides": ways,
+        "differ": taken.differ,
+    }
+
+
+def embedded(data):
+    """Data as JSON that can stand in a page: it holds no sign that begins or ends markup."""
+    text = json.dumps(data, separators=(",", ":"))
+    for sign in "<>&":
+        text = text.replace(sign, f"\\u{ord(sign):04x}")
+    return text
+
+
+class Taken:
+    """What was found out of the packets that are on the page."""
+
+    def __init__(self, sides, packets):
+        self.lines = []
+        self.runs = [runs.Runs(side) for side in sides]
+        self.parts = [side.parts() for side in sides]
+        if any(p and len(p.nodes) * len(packets) > MOST_ASKED for p in self.parts):
+            self.parts = [None] * len(sides)
+        for packet in packets:
+            if sum(run.size for run in self.runs) > MOST_BYTES:
+                break
+            self.add(packet)
+        self.packets = packets[: len(self.lines)]
+        self.differ = self.differences()
+
+    def add(self, packet):
+        self.lines.append(packet.line())
+        for run, parts in zip(self.runs, self.parts):
+            run.add(packet)
+            if parts:
+                parts.add(packet)
+
+    def differences(self):
+        """On which packets the two sides differ; none where there is one."""
+        if len(self.runs) == 1:
+            return []
+        kept = [[verdict == runs.KEPT for verdict in run.verdicts] for run in self.runs]
+        return [place for place, (one, other) in enumerate(zip(*kept)) if one != other]
+
+    def ways(self):
+        """The runs of all sides as the page has them."""
+        found = []
+        for run, parts in zip(self.runs, self.parts):
+            way = run.encoded()
+            way["loads"] = [
+                [runs.load_of(insn) for insn in program.instructions]
+                for program in run.side.programs
+            ]
+            if parts:
+                way["parts"], way["part"] = runs.table_of(parts.rows)
+            found.append(way)
+        return found
+
+
+# ---- the page
+
+
+def digest(text):
+    """How a page's policy names a script or a style."""
+    return "'sha256-" + base64.b64encode(hashlib.sha256(text.encode()).digest()).decode() + "'"
+
+
+POLICY = (
+    f"default-src 'none'; script-src {digest(SCRIPT)}; style-src {digest(STYLE)};"
+    " base-uri 'none'; form-action 'none'"
+)
+
+
+def document(sides, capture, packets, taken, notes, data):
+    """The whole page."""
+    letters = ["A", "B"] if len(sides) > 1 else [""]
+    title = " | ".join(escaped(side.title) or "(empty)" for side in sides)
+    told = "".join(element("li", escaped(note)) for note in notes)
+    filters = "".join(filter_markup(s, a, i) for i, (s, a) in enumerate(zip(sides, letters)))
+    programs = "".join(programs_markup(s, a, i) for i, (s, a) in enumerate(zip(sides, letters)))
+    return f"""<!DOCTYPE html>
+<html lang="en">
+<head>
+<meta charset="utf-8">
+<meta http-equiv="Content-Security-Policy" content="{POLICY}">
+<meta name="viewport" content="width=device-width, initial-scale=1">
+<meta name="color-scheme" content="light dark">
+<meta name="referrer" content="no-referrer">
+<title>Lesson: {title}</title>
+<style>{STYLE}</style>
+</head>
+<body>
+<a class="skip" href="#packets">To the packets</a>
+<header><h1>A lesson on {escaped(capture)}</h1>
+<p>{len(packets)} packets. {ABOUT}</p>
+{f'<ul class="notes">{told}</ul>' if told else ""}
+<noscript><p>The script in this page shows the packets; this browser doesn't run it.</p></noscript>
+</header>
+<main>
+<div class="filters">{filters}</div>
+{packets_markup(sides, len(packets), len(taken.differ))}
+<div class="runs">{programs}</div>
+</main>
+<script type="application/json" id="lesson">{data}</script>
+<script>{SCRIPT}</script>
+</body>
+</html>
+"""
+
+
+def notes_of_size(packets, count, shown):
+    """What a page leaves out for its size."""
+    notes = []
+    if any(len(packet.data) > shown for packet in packets):
+        notes.append(f"The page has the first {shown} bytes of each packet, to be small enough.")
+    if len(packets) < count:
+        notes.append(
+            f"The page has packets 1 to {len(packets)} of {count}, to be small enough."
+        )
+    return notes
+
+
+def page_of(sides, capture, packets, notes):
+    """The bytes of the page, of at most 20 MiB, and what is to be told of its size."""
+    count = len(packets)
+    if not packets:
+        # There is a program to look at, all the same.
+        for side in sides:
+            side.number_of(ETHERNET_LINK)
+    while True:
+        taken = Taken(sides, packets)
+        ways, packets = taken.ways(), taken.packets
+        for shown in SHOWN_BYTES:
+            told = notes_of_size(packets, count, shown)
+            data = embedded(data_of(packets, taken, ways, shown))
+            text = document(sides, capture, packets, taken, notes + told, data).encode()
+            if len(text) <= MOST_BYTES or not packets:
+                return text, told
+        fitting = int(0.95 * len(packets) * MOST_BYTES / len(text))
+        packets = packets[: min(len(packets) - 1, fitting)]

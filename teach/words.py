@@ -1,0 +1,221 @@
+"""What each instruction of a program does, in words of the field.
+
+These words are a reading aid, written beside the instructions: which field of a packet a load reads
+depends on the tests before it, so what is known of the frame is carried along all ways through the
+program. Where the ways don't agree, or the place is no field's, the words name the bytes alone. No
+answer on a page rests on them.
+"""
+from typing import NamedTuple, Optional
+
+from fields import HEADER_FIELDS, LINKS, PORT_FIELDS, TRANSPORT_FIELDS, value_text
+
+CLASS, LOAD, LOAD_X, STORE, STORE_X, COMPUTE, JUMP, RETURN = 7, 0, 1, 2, 3, 4, 5, 6
+SIZES = {0: 4, 8: 2, 16: 1}
+ARITHMETIC = {
+    0: "add {} to A", 16: "subtract {} from A", 32: "multiply A by {}", 48: "divide A by {}",
+    64: "set in A the bits {}", 80: "keep of A the bits {}", 96: "shift A left by {} bits",
+    112: "shift A right by {} bits", 144: "A is its remainder by {}", 160: "turn in A the bits {}",
+}  # fmt: skip
+MASKS = {64, 80, 160}
+MOST_MEANINGS = 2
+
+
+class Known(NamedTuple):
+    """What is known before an instruction, on all ways that lead to it."""
+
+    networks: frozenset
+    transports: frozenset
+    field: Optional[str]
+    """What A is, where it is one field."""
+    is_header: bool
+    """Whether X is the length of the IPv4 header."""
+
+
+def joined(one, other):
+    """What is known where two ways meet."""
+    if one is None:
+        return other
+    return Known(
+        one.networks | other.networks,
+        one.transports | other.transports,
+        one.field if one.field == other.field else None,
+        one.is_header and other.is_header,
+    )
+
+
+def bytes_text(size, place, base=""):
+    """The bytes of a packet that a load reads, counted from 0."""
+    if size == 1:
+        return f"byte {base}{place}"
+    return f"{size} bytes from byte {base}{place}"
+
+
+def fields_at(known, link, place, size):
+    """What the bytes at a place are, in each kind of packet that may be there."""
+    if place < link.header:
+        return {link.fields.get((place, size))}
+    within = place - link.header
+    found = set()
+    for network in known.networks:
+        if network == "IPv6" and within in (40, 42):
+            found |= {fields.get((within - 40, size)) for fields in transports_of(known)}
+        else:
+            found.add(HEADER_FIELDS.get(network, {}).get((within, size)))
+    return found
+
+
+def transports_of(known):
+    """The fields of each transport header that may be there."""
+    if known.transports <= {"TCP", "UDP"}:
+        return [PORT_FIELDS] if len(known.transports) > 1 else [
+            TRANSPORT_FIELDS[name] for name in known.transports
+        ]  # fmt: skip
+    return [TRANSPORT_FIELDS.get(name, {}) for name in known.transports]
+
+
+def load_field(known, link, code, k):
+    """The field that a load reads, or None where it isn't one."""
+    size = SIZES.get(code & 0x18)
+    if code & 0xE0 == 0x20:
+        found = fields_at(known, link, k, size)
+    elif code & 0xE0 == 0x40 and known.is_header and k >= link.header:
+        found = {fields.get((k - link.header, size)) for fields in transports_of(known)}
+    else:
+        return None
+    if None in found or not 0 < len(found) <= MOST_MEANINGS:
+        return None
+    return " or ".join(sorted(found))
+
+
+def load_text(known, link, code, k):
+    """What a load into A reads, in words."""
+    mode = code & 0xE0
+    if mode == 0x00:
+        return f"the number {k}"
+    if mode == 0x60:
+        return f"the word M[{k}]"
+    if mode == 0x80:
+        return "the length of the packet on the wire"
+    size = SIZES.get(code & 0x18, 4)
+    where = bytes_text(size, k, "X + " if mode == 0x40 else "")
+    field = load_field(known, link, code, k)
+    return f"the {field} ({where})" if field else where
+
+
+def test_text(known, code, k):
+    """The question that a test asks."""
+    operator = code & 0xF0
+    subject = f"the {known.field}" if known.field else "A"
+    if code & 8:
+        return {
+            0x10: f"is {subject} X?", 0x20: f"is {subject} above X?",
+            0x30: f"is {subject} at least X?", 0x40: f"has {subject} a bit of X?",
+        }[operator]  # fmt: skip
+    if operator == 0x40:
+        if known.field == "flags and fragment offset" and k == 0x1FFF:
+            return "is it a later fragment?"
+        bits = "the bit" if k & (k - 1) == 0 else "one of the bits"
+        return f"is {bits} {k:#x} set in {subject}?"
+    value = value_text(known.field, k)
+    return {0x10: f"is {subject} {value}?", 0x20: f"is {subject} above {value}?",
+            0x30: f"is {subject} at least {value}?"}[operator]  # fmt: skip
+
+
+def text_of(known, link, insn):
+    """An instruction in words."""
+    code, _, _, k = insn
+    kind = code & CLASS
+    if kind == LOAD:
+        return f"A is {load_text(known, link, code, k)}"
+    if kind == LOAD_X:
+        if code & 0xE0 == 0xA0:
+            where = f"four times the low half of byte {k}"
+            return f"X is {where}" + (", the IPv4 header's length" if k == link.header else "")
+        return f"X is {load_text(known, link, code, k)}"
+    if kind in (STORE, STORE_X):
+        return f"the word M[{k}] is {'A' if kind == STORE else 'X'}"
+    if kind == COMPUTE:
+        number = "X" if code & 8 else f"{k:#x}" if code & 0xF0 in MASKS else str(k)
+        return "A is 0 - A" if code == 0x84 else ARITHMETIC[code & 0xF0].format(number)
+    if kind == JUMP:
+        return "go on there" if code == 5 else test_text(known, code, k)
+    if kind == RETURN:
+        if code & 0x18:
+            return "return A: keep the packet unless it is 0"
+        return "keep the packet" if k else "don't keep it"
+    return "X is A" if code == 7 else "A is X"
+
+
+def narrowed(known, code, k):
+    """What is known where a test for equality holds, and where it doesn't."""
+    names = {"EtherType": ETHERTYPES, "version": VERSIONS}
+    if code != 0x15:
+        return known, known
+    if known.field in names and k in names[known.field]:
+        name = names[known.field][k]
+        return (
+            known._replace(networks=known.networks & {name} or frozenset({name})),
+            known._replace(networks=known.networks - {name}),
+        )
+    if known.field and set(known.field.split(" or ")) <= {"protocol", "next header"}:
+        name = PROTOCOLS.get(k, "other")
+        return (
+            known._replace(transports=frozenset({name})),
+            known._replace(transports=known.transports - {name}),
+        )
+    return known, known
+
+
+ETHERTYPES = {0x800: "IPv4", 0x86DD: "IPv6", 0x806: "ARP", 0x8035: "RARP"}
+VERSIONS = {0x40: "IPv4", 0x60: "IPv6"}
+PROTOCOLS = {1: "ICMP", 6: "TCP", 17: "UDP", 58: "ICMPv6"}
+
+
+def after(known, link, insn):
+    """What is known after an instruction that isn't a jump."""
+    code, _, _, k = insn
+    kind = code & CLASS
+    if kind == LOAD:
+        return known._replace(field=load_field(known, link, code, k))
+    if kind == LOAD_X or code == 7:
+        return known._replace(is_header=code == 0xB1 and k == link.header)
+    if kind == COMPUTE:
+        is_version = code == 0x54 and k == 0xF0 and known.field == "version and header length"
+        return known._replace(field="version" if is_version else None)
+    return known._replace(field=None) if code == 0x87 else known
+
+
+class Gloss(NamedTuple):
+    """An instruction in words, and the field that A is before it, or None."""
+
+    text: str
+    field: Optional[str]
+
+
+def glosses_of(instructions, link_type):
+    """Each instruction in words."""
+    link = LINKS[link_type]
+    states = [None] * (len(instructions) + 1)
+    states[0] = Known(link.networks, frozenset([*PROTOCOLS.values(), "other"]), None, False)
+    glosses = []
+    for place, insn in enumerate(instructions):
+        # What no way leads to is read as if anything could be there.
+        known = states[place] or states[0]
+        glosses.append(Gloss(text_of(known, link, insn), known.field))
+        for target, then in ways_of(known, link, insn, place):
+            if target < len(states):
+                states[target] = joined(states[target], then)
+    return glosses
+
+
+def ways_of(known, link, insn, place):
+    """Where an instruction leads, and what is known there."""
+    code, jt, jf, k = insn
+    if code & CLASS == RETURN:
+        return []
+    if code == 5:
+        return [(place + 1 + k, known)]
+    if code & CLASS == JUMP:
+        yes, no = narrowed(known, code, k)
+        return [(place + 1 + jt, yes), (place + 1 + jf, no)]
+    return [(place + 1, after(known, link, insn))]
