@@ -1,6 +1,7 @@
-//! Instructions and packets as lines.
+//! Instructions and packets as lines, and what expressions mean.
 
 use super::programs::UNWRITTEN;
+use crate::explaining::capkit_explain;
 use crate::printing::{capkit_insn_text, capkit_line};
 use flt_bpf::Insn;
 use std::test::Fail;
@@ -33,5 +34,16 @@ fn a_packet(rt: HostRuntime) -> Result<(), Fail> {
     let same = capkit_line(12, 1_000_000_007, 60, &[0x45], 1, &mut buffer);
     assert!(rt; same == 57 && buffer.starts_with(b"1970-01-01 00:00:01.000000007 raw, IP "));
     assert!(rt; capkit_line(1, 1 << 63, 60, &[], 0, &mut buffer) == 0 && buffer[0] == 0);
+    Ok(())
+}
+
+#[test]
+fn a_meaning(rt: HostRuntime) -> Result<(), Fail> {
+    let mut buffer = [b'~'; 32];
+    let mut number = 0;
+    assert!(rt; capkit_explain(rt.alloc(), b"tcp port 80", &mut buffer, &mut number) == 0);
+    assert!(rt; number == 22 && buffer.starts_with(b"tcp src or dst port 80\0~"));
+    let status = capkit_explain(rt.alloc(), b"tcp prt 80", &mut buffer, &mut number);
+    assert!(rt; status == 3 && number == 5 && buffer[0] == b't');
     Ok(())
 }

@@ -81,26 +81,42 @@ fn count_jumps(insns: &[Insn]) -> usize {
     count
 }
 
-/// `ip or len = 1 or len = 1 ..`, with 0 to 200 tests of the length. Where 2, 4 for each test and 6
-/// for each node are at most 256, a program has at most as many instructions, and no `ja`.
-#[test]
-fn longer_and_longer(rt: HostRuntime) -> Result<(), Fail> {
-    let mut text = String::from_str(rt.alloc(), "ip")?;
+/// The jumps of a program are needed. With so many tests of the length behind `ip` it is no longer
+/// than its bound: 2, and 6 for each test and node; where 2, 4 for each test and 6 for each node are
+/// at most 256, no longer than that, and without `ja`.
+fn is_laid_out(insns: &[Insn], times: usize) -> bool {
+    let (tests, nodes) = (times + 1, 2 * times);
+    let short = 2 + 4 * tests + 6 * nodes;
+    jumps_are_needed(insns)
+        && insns.len() <= 2 + 6 * (tests + nodes)
+        && (short > 256 || count_jumps(insns) == 0 && insns.len() <= short)
+}
+
+/// `ip or len = 1` and so on, each length greater by `step`, with 0 to 200 of them. Returns how many
+/// jumps the longest program has.
+fn longest_has(alloc: Global, step: usize) -> Result<usize, Fail> {
+    let mut text = String::from_str(alloc, "ip")?;
     let mut jumps = 0;
     for times in 0..201usize {
-        let insns = compiled(rt.alloc(), &text)?;
+        let insns = compiled(alloc, &text)?;
+        if !is_laid_out(&insns, times) {
+            return Err(Fail::new(format_args!("{times} times")));
+        }
         jumps = count_jumps(&insns);
-        let (tests, nodes) = (times + 1, 2 * times);
-        let short = 2 + 4 * tests + 6 * nodes;
-        assert!(rt; jumps_are_needed(&insns), "{times} times");
-        assert!(rt;
-            short > 256 || jumps == 0 && insns.len() <= short,
-            "{times} times"
-        );
-        assert!(rt; insns.len() <= 2 + 6 * (tests + nodes), "{times} times");
-        text.push_str(" or len = 1")?;
+        text.push_str(&format!(in alloc; " or len = {}", 1 + step * times)?)?;
     }
-    // The longest program has some.
-    assert!(rt; jumps > 0);
+    Ok(jumps)
+}
+
+/// The same length is asked for once, whatever the text.
+#[test]
+fn one_length_again_and_again(rt: HostRuntime) -> Result<(), Fail> {
+    assert!(rt; longest_has(rt.alloc(), 0)? == 0);
+    Ok(())
+}
+
+#[test]
+fn longer_and_longer(rt: HostRuntime) -> Result<(), Fail> {
+    assert!(rt; longest_has(rt.alloc(), 2)? > 0);
     Ok(())
 }
