@@ -6,7 +6,7 @@ pub mod Selectors
 pub mod Lines
 pub mod Lists
 pub mod Wholes
-pub mod Denials
+pub mod Negations
 pub mod Prefixes
 pub mod Rows
 pub mod EditRules

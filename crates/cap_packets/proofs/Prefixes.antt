@@ -1,4 +1,4 @@
--- What is read of a file that is cut anywhere is the front of what is read of the whole.
+-- What is read of a file that is cut anywhere is a prefix of what is read of the whole.
 use Rattle.std.proofs.Common.{◌≡◌, ℕ, ◌+◌, List, ◌++◌, length, take, drop, sym, ◌∙◌, ap}
 use Rattle.std.proofs.lemmas.List.{append_assoc, map-append, take-append-drop}
 use Rattle.cap_octet.specs.Packet.{Captured}
@@ -6,7 +6,7 @@ use Rattle.cap_io.specs.Capture.{Items, Placed, items, items_from}
 use Rattle.cap_io.proofs.Cuts.{cut_tells, has_cut}
 use Rattle.cap_io.proofs.Items.{items_from-units}
 use Rattle.cap_packets.specs.Lists.{packets_of}
-use Rattle.cap_packets.specs.Whole.{CutsGivePrefixes, packets_in}
+use Rattle.cap_packets.specs.Whole.{CutsGivePrefixes, file_packets}
 
 pub cuts_give_prefixes : CutsGivePrefixes
 cuts_give_prefixes file n =
@@ -14,6 +14,6 @@ cuts_give_prefixes file n =
     let rest : List ℕ = c.rest ++ drop n file in
     let behind : List Placed = (items_from c.declared (0 + length c.done) rest).packets in
     let file_is : file ≡ c.done ++ rest = sym (take-append-drop n file) ∙ ap (λ (l : List ℕ). l ++ drop n file) c.cut.joined ∙ append_assoc c.done c.rest (drop n file) in
-    let whole : packets_in file ≡ packets_of (c.packets ++ behind) = ap (λ (i : Items). packets_of i.packets) (ap items file_is ∙ items_from-units c.cut.units rest) in
-    let front : packets_in (take n file) ≡ packets_of c.packets = ap (λ (i : Items). packets_of i.packets) (cut_tells (take n file) c).items in
+    let whole : file_packets file ≡ packets_of (c.packets ++ behind) = ap (λ (i : Items). packets_of i.packets) (ap items file_is ∙ items_from-units c.cut.units rest) in
+    let front : file_packets (take n file) ≡ packets_of c.packets = ap (λ (i : Items). packets_of i.packets) (cut_tells (take n file) c).items in
     (packets_of behind, whole ∙ map-append (λ (p : Placed). p.packet) c.packets behind ∙ ap (λ (l : List Captured). l ++ packets_of behind) (sym front))

@@ -24,7 +24,7 @@ use Rattle.cap_packets.specs.Edits.{coming, packets_selected, unique_behind}
 use Rattle.cap_packets.specs.Lists.{at_most, packets_kept, packets_of, tally_of}
 use Rattle.cap_window.specs.declared.mark.Mark.{Mark}
 use Rattle.cap_window.specs.Marks.{mark_of}
-use Rattle.cap_packets.specs.Whole.{EditKeeps, EditWrites, EditsAlike, HasCarried, MergesOne, copied, unchanged, InfosReports, MergeWrites, PrintLines, PrintWrites, closing_if, edit_work, event_packets, infos_work, merge_work, packets_in, packets_in_order, print_work, reports_by, reports_of, written, written_text, written_unless}
+use Rattle.cap_packets.specs.Whole.{EditKeeps, EditWrites, EditsAlike, HasCarried, MergesOne, copy_of, no_options, InfosReports, MergeWrites, PrintLines, PrintWrites, closing_if, edit_work, event_packets, infos_work, merge_work, file_packets, packets_in_order, print_work, reports_by, reports_of, packets_written, written_text, written_unless}
 use Rattle.cap_packets.proofs.Edits.{passes_unique}
 use Rattle.cap_packets.proofs.Lists.{passes_filtered, counted-next}
 use Rattle.cap_packets.proofs.Outcomes.{progress-append, progress-ended}
@@ -53,7 +53,7 @@ end-stays KeepAll w input kind size judges = refl
 end-stays Count w input kind size judges = (cc)
 
 abbrev Writes : Policy → Form → ℕ → SelectorState → List Captured → List Report → List Event → Type 0
-Writes a f k state out reports es = (apply_events a f (under_way k state out reports) es).packets ≡ out ++ written f out (judged a k state (event_packets es))
+Writes a f k state out reports es = (apply_events a f (under_way k state out reports) es).packets ≡ out ++ packets_written f out (judged a k state (event_packets es))
 
 -- one packet, where those behind it are written so
 packet-next : (a : Policy) (f : Form) (k : ℕ) (state : SelectorState) (out : List Captured) (reports : List Report) (input : ℕ) (p : Placed) (es : List Event)
@@ -74,7 +74,7 @@ packet-next a f k state out reports input p es next = by_verdict (judge a state 
     behind v = (apply_events a f (apply_verdict f w input p v after) es).packets
 
     whole : Verdict → List Captured
-    whole v = out ++ written f out (judged_by v rest)
+    whole v = out ++ packets_written f out (judged_by v rest)
 
     between : (v : Verdict) → (judge a state (k + 1) p.packet).verdict ≡ v → behind v ≡ whole v → Writes a f k state out reports (Packet input p ∷ es)
     between v is same = ap behind is ∙ same ∙ sym (ap whole is)
@@ -82,8 +82,8 @@ packet-next a f k state out reports input p es next = by_verdict (judge a state 
     ended : (e : JobProgress) (c : SequenceEnd) → e.end ≡ Some c → (apply_events a f e es).packets ≡ e.packets
     ended e c is = ap (λ (u : JobProgress). u.packets) (progress-ended a f e es c is)
 
-    passing : (q : Captured) (o : Option Fault) → form_refuses f out q ≡ o → (apply_events a f (decide_unless o w input p after q None) es).packets ≡ out ++ written_unless o q (written f (out ++ q ∷ []) rest)
-    passing q None is = next after (out ++ q ∷ []) ∙ append_assoc out (q ∷ []) (written f (out ++ q ∷ []) rest)
+    passing : (q : Captured) (o : Option Fault) → form_refuses f out q ≡ o → (apply_events a f (decide_unless o w input p after q None) es).packets ≡ out ++ written_unless o q (packets_written f (out ++ q ∷ []) rest)
+    passing q None is = next after (out ++ q ∷ []) ∙ append_assoc out (q ∷ []) (packets_written f (out ++ q ∷ []) rest)
     passing q (Some fault) is = ended (end_with w (FaultIn input fault p.offset)) (FaultIn input fault p.offset) refl ∙ sym (append-nil out)
 
     last : (q : Captured) (o : Option Fault) → (apply_events a f (decide_unless o w input p after q (Some Complete)) es).packets ≡ out ++ written_unless o q []
@@ -96,7 +96,7 @@ packet-next a f k state out reports input p es next = by_verdict (judge a state 
     by_verdict Skip is =
         between Skip is
         (next after (out ++ [])
-        ∙ ap (λ (o : List Captured). o ++ written f o rest) (append-nil out))
+        ∙ ap (λ (o : List Captured). o ++ packets_written f o rest) (append-nil out))
     by_verdict (Refuse fault) is = between (Refuse fault) is (ended (end_with w (FaultIn input fault p.offset)) (FaultIn input fault p.offset) refl ∙ sym (append-nil out))
 
 writes : (a : Policy) (f : Form) (k : ℕ) (state : SelectorState) (out : List Captured) (reports : List Report) (es : List Event) → is_count a ≡ false → Writes a f k state out reports es
@@ -109,7 +109,7 @@ writes a f k state out reports (InputEnd input kind size ∷ es) judges =
 
 -- ---- the verdicts as lists
 
-none-refused : (names : List (List ℕ)) (out ps : List Captured) → written (AsReports names) out ps ≡ ps
+none-refused : (names : List (List ℕ)) (out ps : List Captured) → packets_written (AsReports names) out ps ≡ ps
 none-refused names out [] = refl
 none-refused names out (p ∷ ps) = ap (λ (l : List Captured). p ∷ l) (none-refused names (out ++ p ∷ []) ps)
 
@@ -155,10 +155,10 @@ IsOfPackets f = (ps : List Captured) (rs : List Report) → output_text f ps rs 
 
 command-writes : (work : Work) (names : List (List ℕ)) (rs : List InputItems) (ps : List Captured) → is_count work.policy ≡ false → IsOfPackets work.form
     → judged work.policy 0 initial_state (event_packets (sequence_of work.order rs).events) ≡ ps
-    → (outcome work names rs).output ≡ written_text work.form (outcome work names rs).status (first_link rs) (written work.form [] ps)
+    → (outcome work names rs).output ≡ written_text work.form (outcome work names rs).status (first_link rs) (packets_written work.form [] ps)
 command-writes work names rs ps judges of_packets is =
     ap (λ (l : List ℕ). l ++ text_at_end final.end work.form (first_link rs) final.packets) (of_packets final.packets final.reports ∙ ap (λ (l : List Captured). output_text work.form l []) packets)
-    ∙ ap (λ (l : List ℕ). output_text work.form (written work.form [] ps) [] ++ l) (ap (λ (l : List Captured). text_at_end final.end work.form (first_link rs) l) packets ∙ final-end work.form (first_link rs) (written work.form [] ps) w.end w s.end refl)
+    ∙ ap (λ (l : List ℕ). output_text work.form (packets_written work.form [] ps) [] ++ l) (ap (λ (l : List Captured). text_at_end final.end work.form (first_link rs) l) packets ∙ final-end work.form (first_link rs) (packets_written work.form [] ps) w.end w s.end refl)
   where
     s : Sequence
     s = sequence_of work.order rs
@@ -169,11 +169,11 @@ command-writes work names rs ps judges of_packets is =
     final : JobProgress
     final = final_progress work.policy work.form s
 
-    packets : final.packets ≡ written work.form [] ps
+    packets : final.packets ≡ packets_written work.form [] ps
     packets =
         same-packets w.end w s.end
         ∙ writes work.policy work.form 0 initial_state [] [] s.events judges
-        ∙ ap (written work.form []) is
+        ∙ ap (packets_written work.form []) is
 
 capture-of-packets : (format : Format) → IsOfPackets (AsCapture format)
 capture-of-packets format ps rs = refl
@@ -200,24 +200,24 @@ one-input r End =
     ∙ packets-of-input 0 r.items.packets
 one-input r (FaultAt fault offset) = packets-of-input 0 r.items.packets
 
-in-file : (a : Policy) (file : List ℕ) → judged a 0 initial_state (event_packets (sequence_in_turn 0 (whole_input file ∷ [])).events) ≡ judged a 0 initial_state (packets_in file)
+in-file : (a : Policy) (file : List ℕ) → judged a 0 initial_state (event_packets (sequence_in_turn 0 (whole_input file ∷ [])).events) ≡ judged a 0 initial_state (file_packets file)
 in-file a file = ap (judged a 0 initial_state) (one-input (whole_input file) (items file).ending)
 
 pub edit_writes : EditWrites
 edit_writes s format names file less =
-    command-writes (edit_work s format) names (whole_input file ∷ []) (unique_behind s.window [] (packets_selected s 1 (packets_in file))) refl (capture-of-packets format)
-    (in-file (Edit s) file ∙ judged-is (Edit s) (packets_in file) refl ∙ passes_unique s (packets_in file) less)
+    command-writes (edit_work s format) names (whole_input file ∷ []) (unique_behind s.window [] (packets_selected s 1 (file_packets file))) refl (capture-of-packets format)
+    (in-file (Edit s) file ∙ judged-is (Edit s) (file_packets file) refl ∙ passes_unique s (file_packets file) less)
 
-printed : (rule : Rule) (count : Option ℕ) (file : List ℕ) → IfSome count (λ (n : ℕ). 0 < n) → length (packets_in file) < 2 ^ 63
-    → judged (Filter rule count) 0 initial_state (event_packets (sequence_in_turn 0 (whole_input file ∷ [])).events) ≡ at_most count (packets_kept rule (packets_in file))
-printed rule count file some less = in-file (Filter rule count) file ∙ judged-is (Filter rule count) (packets_in file) refl ∙ passes_filtered rule count (packets_in file) some less
+printed : (rule : Rule) (count : Option ℕ) (file : List ℕ) → IfSome count (λ (n : ℕ). 0 < n) → length (file_packets file) < 2 ^ 63
+    → judged (Filter rule count) 0 initial_state (event_packets (sequence_in_turn 0 (whole_input file ∷ [])).events) ≡ at_most count (packets_kept rule (file_packets file))
+printed rule count file some less = in-file (Filter rule count) file ∙ judged-is (Filter rule count) (file_packets file) refl ∙ passes_filtered rule count (file_packets file) some less
 
 pub print_writes : PrintWrites
 print_writes rule count format names file some less =
-    command-writes (print_work rule count (AsCapture format)) names (whole_input file ∷ []) (at_most count (packets_kept rule (packets_in file))) refl (capture-of-packets format) (printed rule count file some less)
+    command-writes (print_work rule count (AsCapture format)) names (whole_input file ∷ []) (at_most count (packets_kept rule (file_packets file))) refl (capture-of-packets format) (printed rule count file some less)
 
 -- no line is refused, and lines have no start
-all-lines : (options : Options) (out ps : List Captured) → written (AsLines options) out ps ≡ ps
+all-lines : (options : Options) (out ps : List Captured) → packets_written (AsLines options) out ps ≡ ps
 all-lines options out [] = refl
 all-lines options out (p ∷ ps) = ap (λ (l : List Captured). p ∷ l) (all-lines options (out ++ p ∷ []) ps)
 
@@ -228,7 +228,7 @@ no-close options (suc n) link ps = refl
 
 pub print_lines : PrintLines
 print_lines rule count options names file some less =
-    let kept = at_most count (packets_kept rule (packets_in file)) in
+    let kept = at_most count (packets_kept rule (file_packets file)) in
     let work = print_work rule count (AsLines options) in
     let link = first_link (whole_input file ∷ []) in
     let code = (outcome work names (whole_input file ∷ [])).status in
@@ -320,27 +320,27 @@ infos_reports names rs =
 
 -- ---- edits without options
 
-same-packet : (p : Captured) → edited_packet_with unchanged p p.time ≡ p
+same-packet : (p : Captured) → edited_packet_with no_options p p.time ≡ p
 same-packet p =
     let all : length p.bytes - 0 ≡ length p.bytes = omega arith in
     ap (λ (bytes : List ℕ). record { link = p.link; snap = p.snap; name = p.name; time = p.time; orig = p.orig; bytes = bytes; comment = p.comment }) (ap (λ (n : ℕ). take n p.bytes) all ∙ take-length p.bytes)
 
-same-judge : (state : SelectorState) (number : ℕ) (p : Captured) → judge KeepAll state number p ≡ judge (Edit unchanged) state number p
+same-judge : (state : SelectorState) (number : ℕ) (p : Captured) → judge KeepAll state number p ≡ judge (Edit no_options) state number p
 same-judge state number p = by_number (nat_le (2 ^ 63) number)
   where
-    by_number : (b : Bool) → (if b then refuses state TooManyPackets else judge_by KeepAll state number p) ≡ (if b then refuses state TooManyPackets else judge_by (Edit unchanged) state number p)
+    by_number : (b : Bool) → (if b then refuses state TooManyPackets else judge_by KeepAll state number p) ≡ (if b then refuses state TooManyPackets else judge_by (Edit no_options) state number p)
     by_number true = refl
     by_number false = ap (passes state) (sym (same-packet p))
 
-same-event : (f : Form) (w : JobProgress) (e : Event) → apply_event KeepAll f w e ≡ apply_event (Edit unchanged) f w e
+same-event : (f : Form) (w : JobProgress) (e : Event) → apply_event KeepAll f w e ≡ apply_event (Edit no_options) f w e
 same-event f w (Packet input p) = ap (λ (j : Judgement). apply_verdict f w input p j.verdict j.state) (same-judge w.state (w.decided + 1) p.packet)
 same-event f w (InputEnd input kind size) = refl
 
-same-events : (f : Form) (w : JobProgress) (es : List Event) → apply_events KeepAll f w es ≡ apply_events (Edit unchanged) f w es
+same-events : (f : Form) (w : JobProgress) (es : List Event) → apply_events KeepAll f w es ≡ apply_events (Edit no_options) f w es
 same-events f w [] = refl
 same-events f w (e ∷ es) =
     same-events f (next_progress KeepAll f w e) es
-    ∙ ap (λ (u : JobProgress). apply_events (Edit unchanged) f (unless_ended w.end w u) es) (same-event f w e)
+    ∙ ap (λ (u : JobProgress). apply_events (Edit no_options) f (unless_ended w.end w u) es) (same-event f w e)
 
 -- ---- one input by time is that input in turn
 
@@ -427,18 +427,18 @@ merges_one order format names file =
 
 -- ---- what a format carries
 
-all-selected : (number : ℕ) (ps : List Captured) → packets_selected unchanged number ps ≡ ps
+all-selected : (number : ℕ) (ps : List Captured) → packets_selected no_options number ps ≡ ps
 all-selected number [] = refl
-all-selected number (p ∷ ps) = ap (λ (q : Captured). q ∷ packets_selected unchanged (number + 1) ps) (same-packet p) ∙ ap (λ (l : List Captured). p ∷ l) (all-selected (number + 1) ps)
+all-selected number (p ∷ ps) = ap (λ (q : Captured). q ∷ packets_selected no_options (number + 1) ps) (same-packet p) ∙ ap (λ (l : List Captured). p ∷ l) (all-selected (number + 1) ps)
 
 all-unique : (before : List Mark) (ps : List Captured) → unique_behind None before ps ≡ ps
 all-unique before [] = refl
 all-unique before (p ∷ ps) = ap (λ (l : List Captured). p ∷ l) (all-unique (before ++ mark_of p.bytes ∷ []) ps)
 
-all-carried : (format : Format) (before ps whole : List Captured) → whole ≡ before ++ ps → Carries format whole → written (AsCapture format) before ps ≡ ps
+all-carried : (format : Format) (before ps whole : List Captured) → whole ≡ before ++ ps → Carries format whole → packets_written (AsCapture format) before ps ≡ ps
 all-carried format before [] whole is c = refl
 all-carried format before (p ∷ ps) whole is c =
-    ap (λ (o : Option Fault). written_unless o p (written (AsCapture format) (before ++ p ∷ []) ps)) (c.each before p ps is).taken
+    ap (λ (o : Option Fault). written_unless o p (packets_written (AsCapture format) (before ++ p ∷ []) ps)) (c.each before p ps is).taken
     ∙ ap (λ (l : List Captured). p ∷ l) (all-carried format (before ++ p ∷ []) ps whole (is ∙ sym (append_assoc before (p ∷ []) ps)) c)
 
 nothing-closes : (format : Format) (n : ℕ) (link : Option ℕ) (p : Captured) (ps : List Captured) → closing_if n (AsCapture format) link (p ∷ ps) ≡ []
@@ -446,24 +446,24 @@ nothing-closes format zero link p ps = refl
 nothing-closes format (suc n) link p ps = refl
 
 -- the text of the packets is written
-copy-is : (format : Format) (names : List (List ℕ)) (file : List ℕ) (p : Captured) (ps : List Captured) → HasCarried format file p ps → copied format names file ≡ text format (p ∷ ps)
+copy-is : (format : Format) (names : List (List ℕ)) (file : List ℕ) (p : Captured) (ps : List Captured) → HasCarried format file p ps → copy_of format names file ≡ text format (p ∷ ps)
 copy-is format names file p ps h =
-    let code = (outcome (edit_work unchanged format) names (whole_input file ∷ [])).status in
+    let code = (outcome (edit_work no_options format) names (whole_input file ∷ [])).status in
     let link = first_link (whole_input file ∷ []) in
-    let kept : unique_behind None [] (packets_selected unchanged 1 (packets_in file)) ≡ p ∷ ps = ap (λ (l : List Captured). unique_behind None [] (packets_selected unchanged 1 l)) h.packets ∙ ap (unique_behind None []) (all-selected 1 (p ∷ ps)) ∙ all-unique [] (p ∷ ps) in
-    edit_writes unchanged format names file (subst (λ (l : List Captured). length l < 2 ^ 63) (sym h.packets) h.few)
-    ∙ ap (λ (l : List Captured). written_text (AsCapture format) code link (written (AsCapture format) [] l)) kept
+    let kept : unique_behind None [] (packets_selected no_options 1 (file_packets file)) ≡ p ∷ ps = ap (λ (l : List Captured). unique_behind None [] (packets_selected no_options 1 l)) h.packets ∙ ap (unique_behind None []) (all-selected 1 (p ∷ ps)) ∙ all-unique [] (p ∷ ps) in
+    edit_writes no_options format names file (subst (λ (l : List Captured). length l < 2 ^ 63) (sym h.packets) h.few)
+    ∙ ap (λ (l : List Captured). written_text (AsCapture format) code link (packets_written (AsCapture format) [] l)) kept
     ∙ ap (written_text (AsCapture format) code link) (all-carried format [] (p ∷ ps) (p ∷ ps) refl h.carried)
     ∙ ap (λ (l : List ℕ). text format (p ∷ ps) ++ l) (nothing-closes format code link p ps)
     ∙ append-nil (text format (p ∷ ps))
 
-copy-packets : (format : Format) (names : List (List ℕ)) (file : List ℕ) (p : Captured) (ps : List Captured) → ItemsBack → HasCarried format file p ps → packets_in (copied format names file) ≡ p ∷ ps
-copy-packets format names file p ps back h = ap packets_in (copy-is format names file p ps h) ∙ (back format p ps h.carried).packets
+copy-packets : (format : Format) (names : List (List ℕ)) (file : List ℕ) (p : Captured) (ps : List Captured) → ItemsBack → HasCarried format file p ps → file_packets (copy_of format names file) ≡ p ∷ ps
+copy-packets format names file p ps back h = ap file_packets (copy-is format names file p ps h) ∙ (back format p ps h.carried).packets
 
 pub edit_keeps : ItemsBack → EditKeeps
 edit_keeps back format names file p ps h = copy-packets format names file p ps back h ∙ sym h.packets
 
 pub edits_alike : ItemsBack → EditsAlike
 edits_alike back format names file p ps h =
-    copy-is format names (copied format names file) p ps (record { packets = copy-packets format names file p ps back h; few = h.few; carried = h.carried })
+    copy-is format names (copy_of format names file) p ps (record { packets = copy-packets format names file p ps back h; few = h.few; carried = h.carried })
     ∙ sym (copy-is format names file p ps h)

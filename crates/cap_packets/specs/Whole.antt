@@ -31,10 +31,10 @@ written_unless (Some fault) p rest = []
 
 -- those of the packets that are written, where these were before them: up to the first that the
 -- form refuses
-abbrev pub written : Form → List Captured → List Captured → List Captured
-written form before [] = []
-written form before (p ∷ ps) =
-    written_unless (form_refuses form before p) p (written form (before ++ p ∷ []) ps)
+abbrev pub packets_written : Form → List Captured → List Captured → List Captured
+packets_written form before [] = []
+packets_written form before (p ∷ ps) =
+    written_unless (form_refuses form before p) p (packets_written form (before ++ p ∷ []) ps)
 
 -- a command with status 0 ends cleanly
 abbrev pub closing_if : (status : ℕ) → Form → Option ℕ → List Captured → List ℕ
@@ -47,8 +47,8 @@ abbrev pub written_text : Form → (status : ℕ) → Option ℕ → List Captur
 written_text form status link ps = output_text form ps [] ++ closing_if status form link ps
 
 -- the packets of a file, in its order, up to the first fault
-abbrev pub packets_in : List ℕ → List Captured
-packets_in file = packets_of (items file).packets
+abbrev pub file_packets : List ℕ → List Captured
+file_packets file = packets_of (items file).packets
 
 -- ---- edit
 
@@ -59,13 +59,13 @@ edit_work s format = record { order = InTurn; policy = Edit s; form = AsCapture 
 abbrev pub EditWrites : Type 0
 EditWrites =
     (s : EditRule) (format : Format) (names : List (List ℕ)) (file : List ℕ)
-    → length (packets_in file) < 2 ^ 63
+    → length (file_packets file) < 2 ^ 63
     → (outcome (edit_work s format) names (whole_input file ∷ [])).output
     ≡ written_text (AsCapture format)
     (outcome (edit_work s format) names (whole_input file ∷ [])).status
     (first_link (whole_input file ∷ []))
-    (written (AsCapture format) []
-    (unique_behind s.window [] (packets_selected s 1 (packets_in file))))
+    (packets_written (AsCapture format) []
+    (unique_behind s.window [] (packets_selected s 1 (file_packets file))))
 
 -- ---- print
 
@@ -77,20 +77,20 @@ print_work rule count form = record { order = InTurn; policy = Filter rule count
 abbrev pub PrintWrites : Type 0
 PrintWrites =
     (rule : Rule) (count : Option ℕ) (format : Format) (names : List (List ℕ)) (file : List ℕ)
-    → IfSome count (λ (n : ℕ). 0 < n) → length (packets_in file) < 2 ^ 63
+    → IfSome count (λ (n : ℕ). 0 < n) → length (file_packets file) < 2 ^ 63
     → (outcome (print_work rule count (AsCapture format)) names (whole_input file ∷ [])).output
     ≡ written_text (AsCapture format)
     (outcome (print_work rule count (AsCapture format)) names (whole_input file ∷ [])).status
     (first_link (whole_input file ∷ []))
-    (written (AsCapture format) [] (at_most count (packets_kept rule (packets_in file))))
+    (packets_written (AsCapture format) [] (at_most count (packets_kept rule (file_packets file))))
 
 -- A print of lines writes those of the same packets.
 abbrev pub PrintLines : Type 0
 PrintLines =
     (rule : Rule) (count : Option ℕ) (options : Options) (names : List (List ℕ)) (file : List ℕ)
-    → IfSome count (λ (n : ℕ). 0 < n) → length (packets_in file) < 2 ^ 63
+    → IfSome count (λ (n : ℕ). 0 < n) → length (file_packets file) < 2 ^ 63
     → (outcome (print_work rule count (AsLines options)) names (whole_input file ∷ [])).output
-    ≡ lines_text options (at_most count (packets_kept rule (packets_in file)))
+    ≡ lines_text options (at_most count (packets_kept rule (file_packets file)))
 
 -- ---- merge
 
@@ -114,7 +114,7 @@ MergeWrites =
     → length (packets_in_order order rs) < 2 ^ 63
     → (outcome (merge_work order format) names rs).output
     ≡ written_text (AsCapture format) (outcome (merge_work order format) names rs).status
-    (first_link rs) (written (AsCapture format) [] (packets_in_order order rs))
+    (first_link rs) (packets_written (AsCapture format) [] (packets_in_order order rs))
 
 -- ---- infos
 
@@ -148,8 +148,8 @@ InfosReports =
 -- ---- edits without options
 
 -- an edit without options: all packets, as they are
-abbrev pub unchanged : EditRule
-unchanged = record {
+abbrev pub no_options : EditRule
+no_options = record {
   ranges = [];
   keep = false;
   start = None;
@@ -166,32 +166,32 @@ abbrev pub MergesOne : Type 0
 MergesOne =
     (order : PacketOrder) (format : Format) (names : List (List ℕ)) (file : List ℕ)
     → outcome (merge_work order format) names (whole_input file ∷ [])
-    ≡ outcome (edit_work unchanged format) names (whole_input file ∷ [])
+    ≡ outcome (edit_work no_options format) names (whole_input file ∷ [])
 
 -- A file's packets are these, one and more, fewer than 2^63, and the format carries them.
 pub record HasCarried (format : Format) (file : List ℕ) (p : Captured) (ps : List Captured) : Type 0 where
-  pub packets : packets_in file ≡ p ∷ ps
+  pub packets : file_packets file ≡ p ∷ ps
   pub few : length (p ∷ ps) < 2 ^ 63
   pub carried : Carries format (p ∷ ps)
 
 -- what an edit without options writes of a file
-abbrev pub copied : Format → List (List ℕ) → List ℕ → List ℕ
-copied format names file = (outcome (edit_work unchanged format) names (whole_input file ∷ [])).output
+abbrev pub copy_of : Format → List (List ℕ) → List ℕ → List ℕ
+copy_of format names file = (outcome (edit_work no_options format) names (whole_input file ∷ [])).output
 
 -- An edit without options keeps all packets that its format carries, as they are.
 abbrev pub EditKeeps : Type 0
 EditKeeps =
     (format : Format) (names : List (List ℕ)) (file : List ℕ) (p : Captured) (ps : List Captured)
-    → HasCarried format file p ps → packets_in (copied format names file) ≡ packets_in file
+    → HasCarried format file p ps → file_packets (copy_of format names file) ≡ file_packets file
 
 -- An edit without options of what such an edit wrote writes the same bytes.
 abbrev pub EditsAlike : Type 0
 EditsAlike =
     (format : Format) (names : List (List ℕ)) (file : List ℕ) (p : Captured) (ps : List Captured)
     → HasCarried format file p ps
-    → copied format names (copied format names file) ≡ copied format names file
+    → copy_of format names (copy_of format names file) ≡ copy_of format names file
 
--- ---- an expression and its denial
+-- ---- an expression and its negation
 
 abbrev pub is_rejection : Reading → Bool
 is_rejection Rejected = true
@@ -213,10 +213,10 @@ abbrev pub AreRead : List Captured → Type 0
 AreRead [] = Unit {0}
 AreRead (p ∷ ps) = (is_some (link_of p.link) ≡ true) × AreRead ps
 
--- An expression, its denial and rejection part packets: each of them is in one of three lists, once,
+-- An expression, its negation and rejection part packets: each of them is in one of three lists, once,
 -- whatever is summed of it.
-abbrev pub DenialParts : Type 0
-DenialParts =
+abbrev pub NegationParts : Type 0
+NegationParts =
     (a : TruthTree) (ps : List Captured) (f : Captured → ℕ) → AreRead ps
     → sum_by f (packets_kept (by_reading (truth a)) ps)
     + (sum_by f (packets_kept (by_reading (truth (denied a))) ps)
@@ -224,8 +224,8 @@ DenialParts =
 
 -- ---- a capture that is cut
 
--- What is read of a file that is cut anywhere is the front of what is read of the whole.
+-- What is read of a file that is cut anywhere is a prefix of what is read of the whole.
 abbrev pub CutsGivePrefixes : Type 0
 CutsGivePrefixes =
     (file : List ℕ) (n : ℕ)
-    → (later : List Captured) × (packets_in file ≡ packets_in (take n file) ++ later)
+    → (later : List Captured) × (file_packets file ≡ file_packets (take n file) ++ later)

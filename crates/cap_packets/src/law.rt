@@ -2,7 +2,7 @@
 ghost use Rattle.cap_packets.specs.Lists.{CountsAll, EndsOutOfRange, HasLastMarks, PassesFiltered};
 ghost use Rattle.cap_packets.specs.Whole.{EditWrites, InfosReports, MergeWrites, PrintLines};
 ghost use Rattle.cap_packets.specs.Whole.{PrintWrites, EditKeeps, EditsAlike, MergesOne};
-ghost use Rattle.cap_packets.specs.Whole.{CutsGivePrefixes, DenialParts};
+ghost use Rattle.cap_packets.specs.Whole.{CutsGivePrefixes, NegationParts};
 
 use cap_io::laws::items_back;
 
@@ -74,12 +74,12 @@ pub fn edit_again_is_alike()
     items_back();
 }
 
-/// An expression, its denial and rejection part packets: each is in one of three lists, once.
-pub fn denial_parts_packets()
-    ensures { DenialParts }
+/// An expression, its negation and rejection part packets: each is in one of three lists, once.
+pub fn negation_parts_packets()
+    ensures { NegationParts }
 {}
 
-/// What is read of a file that is cut anywhere is the front of what is read of the whole.
+/// What is read of a file that is cut anywhere is a prefix of what is read of the whole.
 pub fn cuts_give_prefixes()
     ensures { CutsGivePrefixes }
 {}

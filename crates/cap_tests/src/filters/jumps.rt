@@ -84,7 +84,7 @@ fn count_jumps(insns: &[Insn]) -> usize {
 /// The jumps of a program are needed. With so many tests of the length behind `ip` it is no longer
 /// than its bound: 2, and 6 for each test and node; where 2, 4 for each test and 6 for each node are
 /// at most 256, no longer than that, and without `ja`.
-fn is_laid_out(insns: &[Insn], times: usize) -> bool {
+fn meets_bounds(insns: &[Insn], times: usize) -> bool {
     let (tests, nodes) = (times + 1, 2 * times);
     let short = 2 + 4 * tests + 6 * nodes;
     jumps_are_needed(insns)
@@ -99,7 +99,7 @@ fn longest_has(alloc: Global, step: usize) -> Result<usize, Fail> {
     let mut jumps = 0;
     for times in 0..201usize {
         let insns = compiled(alloc, &text)?;
-        if !is_laid_out(&insns, times) {
+        if !meets_bounds(&insns, times) {
             return Err(Fail::new(format_args!("{times} times")));
         }
         jumps = count_jumps(&insns);

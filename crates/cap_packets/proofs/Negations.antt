@@ -1,4 +1,4 @@
--- An expression, its denial and rejection part packets.
+-- An expression, its negation and rejection part packets.
 use Rattle.std.proofs.Common.{◌≡◌, ℕ, ◌+◌, true, false, if◌then◌else◌, List, [], ◌∷◌, Option, None, Some, refl, sym, ◌∙◌, ap, subst, arith}
 use Rattle.std.specs.List.{sum_by}
 use Rattle.std.proofs.lemmas.List.Sums.{sum_by-append}
@@ -12,7 +12,7 @@ use Rattle.flt_gen.specs.Reading.{holds}
 use Rattle.cap_filter.specs.FilterRules.{by_reading, decision_of, read_on}
 use Rattle.cap_filter.specs.Links.{link_of}
 use Rattle.cap_packets.specs.Lists.{kept_by, packets_kept}
-use Rattle.cap_packets.specs.Whole.{AreRead, DenialParts, is_rejected_on, is_rejection, packets_rejected}
+use Rattle.cap_packets.specs.Whole.{AreRead, NegationParts, is_rejected_on, is_rejection, packets_rejected}
 
 false-not-true : false ≡ true → ⊥
 false-not-true e = cc
@@ -55,5 +55,5 @@ module _ (f : Captured → ℕ) where
   parts a [] read = refl
   parts a (p ∷ ps) read = parts-next a p ps read.0 (parts a ps read.1)
 
-pub denial_parts : DenialParts
-denial_parts a ps f read = parts f a ps read
+pub negation_parts : NegationParts
+negation_parts a ps f read = parts f a ps read
