@@ -1,7 +1,9 @@
 #!/usr/bin/env python3
-"""Proves the crates that the program needs, side by side, and builds it. ./capkit calls it.
+"""Proves the crates that the program needs, side by side, and builds it. ./capkit calls it; the Makefile
+of the library calls it for the library.
 
 usage: build.py PROGRAM
+       build.py --library ARCHIVE
 
 A crate is proved as soon as those that it needs are, many side by side on all processors. The one
 with the longest chain of crates above it goes first: it has up to as many jobs as there are
@@ -14,8 +16,8 @@ program's own check takes. Such a call keeps nothing for the next one. So a crat
 `rt check` has kept work, in its out/incremental, is proved over that, as rt does. While a crate is
 proved other runs of rt wait for its folder, and for those of the crates that it needs.
 
-The program is copied to PROGRAM in one step, so that no launch finds a part of it. The status is 1
-where a crate isn't proved or something can't be written.
+The program is copied to PROGRAM in one step, so that no launch finds a part of it, and so is the library
+to ARCHIVE. The status is 1 where a crate isn't proved or something can't be written.
 """
 import contextlib
 import dataclasses
@@ -34,7 +36,8 @@ import time
 
 ROOT = pathlib.Path(__file__).resolve().parent.parent
 OUT = ROOT / "out"
-TOP = "capkit_main"
+# What is built: the crate of the program, and that of the library for C.
+PROGRAM, LIBRARY = "capkit_main", "cap_library"
 # What a job of a check takes of memory, in bytes.
 MEMORY = 2_000_000_000
 # A byte of code costs as much to check as so many bytes of definitions and proofs. That and what
@@ -63,6 +66,8 @@ class Crate:
     # The crates of this repository that it needs, and all that these need, lowest first.
     needs: list
     below: list
+    # Whether it is a library for C.
+    is_static: bool = False
     # What it costs, in bytes of definitions and proofs, and what the longest chain from it to the
     # program does, with the overheads.
     size: int = 0
@@ -89,6 +94,19 @@ class Crate:
         return self.home / "out" / self.name
 
     @property
+    def archive(self):
+        return self.home / "out" / f"lib{self.name}.a"
+
+    @property
+    def is_program(self):
+        return (self.home / "src" / "main.rt").exists()
+
+    @property
+    def product(self):
+        """What is built of it at last, where it is the topmost."""
+        return self.program if self.is_program else self.archive
+
+    @property
     def stamp(self):
         """Says of what the library was built. rt removes it with a library that it builds anew."""
         return self.library.parent / "built"
@@ -98,8 +116,8 @@ class Crate:
         return OUT / f"build-{self.name}.log"
 
 
-def crates_of(text):
-    """Returns the crates that the program needs, itself last, by lines 'NAME: NEEDED..'."""
+def crates_of(text, top):
+    """Returns the crates that the topmost needs, itself last, by lines 'NAME: NEEDED..'."""
     lines = [line for line in text.splitlines() if ":" in line and not line.startswith("#")]
     listed = {line.split(":")[0].split()[0]: line for line in lines}
     crates = {}
@@ -113,9 +131,10 @@ def crates_of(text):
             visit(it)
         below = list(dict.fromkeys(it for need in needs for it in [*crates[need].below, need]))
         of_kit = ["std", *(it for it in named if it not in listed)]
-        crates[name] = Crate(name, of_kit, needs, below)
+        is_static = "staticlib" in listed[name].split(":")[0]
+        crates[name] = Crate(name, of_kit, needs, below, is_static)
 
-    visit(TOP)
+    visit(top)
     return crates
 
 
@@ -139,7 +158,7 @@ def sources(folder):
 
 def words_of(crate, crates, jobs):
     """Returns the words that prove a crate, and build its library or the program's object file."""
-    root = "main" if (crate.home / "src" / "main.rt").exists() else "lib"
+    root = "main" if crate.is_program else "lib"
     words = [RATTLE, "build", "--crate-name", crate.name, f"src/{root}.rt"]
     for it in crate.of_kit:
         words += ["--extern", f"{it}={KIT}/rlibs/{it}.rlib"]
@@ -151,12 +170,16 @@ def words_of(crate, crates, jobs):
     words += ["--antt-project", KIT / "rattle" / "logic" / "antt-project.json"]
     words += ["--logic-built", KIT / "logic_built", "--links", f"{crate.name}="]
     words += ["--jobs", str(jobs)]
+    is_last = crate.is_program or crate.is_static
     if crate.is_kept:
         words += ["--incremental", "out/incremental"]
-    elif root == "lib":
+    elif not is_last:
         words += ["--statements"]
-    if root == "main":
-        return [*words, "--toolchain", KIT / "toolchain", "-o", f"{crate.program}.o"]
+    if crate.is_static:
+        words += ["--crate-type", "staticlib"]
+    if is_last:
+        made = crate.archive if crate.is_static else f"{crate.program}.o"
+        return [*words, "--toolchain", KIT / "toolchain", "-o", made]
     return [*words, "-o", crate.library]
 
 
@@ -239,7 +262,9 @@ class Build:
         for it in (crate.stamp, crate.stamp.with_name("stamp")):
             it.unlink(missing_ok=True)
         status = self.run(crate, log, words_of(crate, self.crates, jobs))
-        if not status and crate.name == TOP:
+        if crate.is_static:
+            return status
+        if not status and crate.is_program:
             status = self.run(crate, log, link_words(crate))
         elif not status and total == sum_of(crate, self.crates):
             crate.stamp.write_text(total)
@@ -412,23 +437,31 @@ def tidy():
         it.unlink()
 
 
-def build(program):
-    """Proves and builds the program, unless another build that was waited for has done so."""
+def build(top, product):
+    """Proves and builds the program or the library, unless another build that was waited for has done
+    so. Returns whether it was built."""
     with lock() as held:
-        if program.exists():
-            return
+        if product.exists():
+            return False
         if not RATTLE.exists():
             raise Refused(f"the prover of rt's kit is looked for at {RATTLE}, and isn't there")
-        say("proving and building the program: once, some 40 minutes of processor time")
-        crates = crates_of((ROOT / "crates.txt").read_text())
+        what = "program" if top == PROGRAM else "library"
+        say(f"proving and building the {what}: once, some 40 minutes of processor time")
+        crates = crates_of((ROOT / "crates.txt").read_text(), top)
         tidy()
         measure(crates)
         Build(crates, held).prove()
         new = OUT / f"new-{os.getpid()}"
-        shutil.copy2(crates[TOP].program, new)
-        program.parent.mkdir(exist_ok=True)
-        new.rename(program)
+        shutil.copy2(crates[top].product, new)
+        product.parent.mkdir(parents=True, exist_ok=True)
+        new.rename(product)
         tidy()
+    return True
+
+
+def build_program(program):
+    """Builds the program, and removes those of earlier sources."""
+    if build(PROGRAM, program):
         for it in OUT.glob("built-*"):
             if it != program.parent:
                 shutil.rmtree(it)
@@ -439,12 +472,18 @@ def interrupt(_signal, _frame):
 
 
 def main():
-    if len(sys.argv) != 2 or sys.argv[1].startswith("-"):
+    is_library = sys.argv[1:2] == ["--library"]
+    names = sys.argv[2:] if is_library else sys.argv[1:]
+    if len(names) != 1 or names[0].startswith("-"):
         sys.exit(__doc__)
+    made = pathlib.Path(names[0]).absolute()
     for it in (signal.SIGTERM, signal.SIGHUP):
         signal.signal(it, interrupt)
     try:
-        build(pathlib.Path(sys.argv[1]))
+        if is_library:
+            build(LIBRARY, made)
+        else:
+            build_program(made)
     except Refused as refused:
         for crate in refused.args[1:]:
             if crate.log.exists():

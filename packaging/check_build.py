@@ -1,5 +1,6 @@
 #!/usr/bin/env python3
-"""Tries how ./capkit proves and builds the program, in a scratch folder with stubs for the kit.
+"""Tries how ./capkit and build.py prove and build the program and the library, in a scratch folder with
+stubs for the kit.
 
 usage: check_build.py
 
@@ -23,6 +24,8 @@ low_b:
 middle: low_a
 capkit_main: middle low_b clap
 other_tests: low_a
+only_for_c: low_a
+cap_library staticlib: middle only_for_c
 """
 # It notes when it begins and ends, and wants the library of each crate below to be there. Its last
 # word is what it makes.
@@ -57,7 +60,8 @@ class Checkout:
             (self.at / name).parent.mkdir(parents=True, exist_ok=True)
             shutil.copy(ROOT / name, self.at / name)
         (self.at / "crates.txt").write_text(CRATES)
-        for name in ("low_a", "low_b", "middle", "capkit_main", "other_tests"):
+        names = [line.split(":")[0].split()[0] for line in CRATES.splitlines()[1:]]
+        for name in names:
             root = "main.rt" if name == "capkit_main" else "lib.rt"
             (self.at / "crates" / name / "src").mkdir(parents=True)
             (self.at / "crates" / name / "src" / root).write_text(f"// {name}\n")
@@ -78,6 +82,14 @@ class Checkout:
         process = self.begin(**words)
         out, messages = process.communicate(timeout=60)
         return process.returncode, out, messages
+
+    def build_library(self):
+        """Calls build.py for the library, and returns its status and whether it is there."""
+        made = self.at / "library" / "out" / "libcap_library.a"
+        words = {**os.environ, "PATH": self.path, "NOTES": str(self.notes)}
+        build = [sys.executable, self.at / "packaging" / "build.py", "--library", made]
+        ran = subprocess.run(build, env=words, timeout=60, stderr=subprocess.DEVNULL)
+        return ran.returncode, made.exists()
 
     def noted(self):
         lines = self.notes.read_text().splitlines() if self.notes.exists() else []
@@ -124,6 +136,15 @@ def try_first(checkout):
     status, out, messages = checkout.call()
     yield "it is built once", (status, out, messages) == (0, "runs infos\n", "")
     yield "and nothing is proved again", checkout.noted() == []
+
+
+def try_library(checkout):
+    yield "the library is built", checkout.build_library() == (0, True)
+    begun = [it for it in checkout.noted() if it.startswith("begin")]
+    yield "of its own crates, behind the program", begun == ["begin only_for_c", "begin cap_library"]
+    yield "the program stays", len([*(checkout.at / "out").glob("built-*")]) == 1
+    yield "it is built once too", checkout.build_library() == (0, True)
+    yield "without a proof", checkout.noted() == []
 
 
 def try_changed(checkout):
@@ -184,7 +205,7 @@ def main():
     with tempfile.TemporaryDirectory() as scratch:
         os.chmod(scratch, 0o755)
         checkout = Checkout(pathlib.Path(scratch))
-        for part in (try_first, try_changed, try_interrupted, try_read_only):
+        for part in (try_first, try_library, try_changed, try_interrupted, try_read_only):
             for what, is_so in part(checkout):
                 passed, failed = passed + is_so, failed + (not is_so)
                 if not is_so:
