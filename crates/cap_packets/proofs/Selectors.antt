@@ -3,7 +3,6 @@ use Rattle.std.proofs.Common.{◌≡◌, ℕ, ◌+◌, ◌^◌, ◌<◌, ◌≤�
 use Rattle.std.proofs.lemmas.Bool.Decides.{nat_tests}
 use Rattle.cap_octet.specs.Packet.{Captured}
 use Rattle.cap_octet.specs.declared.fault.Fault.TheVariants.{TooManyPackets}
-use Rattle.cap_filter.specs.Decisions.{Keep}
 use Rattle.flt_bpf.specs.Content.{Content}
 use Rattle.cap_window.specs.View.{WindowView}
 use Rattle.cap_window.specs.declared.mark.Mark.{Mark}

@@ -16,15 +16,15 @@ use Rattle.cap_io.specs.Text.{text}
 use Rattle.cap_print.specs.declared.print.Options.{Options}
 use Rattle.cap_filter.specs.FilterRules.{Rule}
 use Rattle.cap_inputs.specs.Sequence.{Event, Packet, InputEnd, SequenceEnd, Complete, FaultIn, Sequence, PacketOrder, InTurn, ByTime, InputItems, whole_input, Entry, packet_events, input_sequence, sequence_in_turn, sequence_of, end_of, end_behind, end_at, entries_of, input_entries, comes_before, insert_entry, sort_entries, end_or_more, sequence_of_entries, sequence_by_time, first_end, unless_fault, with_front}
-use Rattle.cap_packets.specs.Verdict.{Policy, Edit, EditRule, Filter, KeepAll, Count, Judgement, SelectorState, initial_state, Verdict, Pass, PassLast, Skip, Refuse, edited_packet_with, judge, judge_by, passes, refuses}
+use Rattle.cap_packets.specs.Verdict.{Policy, Edit, Filter, KeepAll, Count, Judgement, SelectorState, initial_state, Verdict, Pass, PassLast, Skip, Refuse, edited_packet_with, judge, judge_by, passes, refuses}
 use Rattle.cap_packets.specs.Reports.{Report, Tally, nothing_counted, tally_with, reports_text}
-use Rattle.cap_packets.specs.Outcome.{Form, AsCapture, AsReports, AsLines, JobProgress, Work, no_progress, form_refuses, decide_unless, decide, end_with, apply_verdict, apply_event, apply_events, next_progress, end_input, unless_ended, end_unless_ended, final_progress, output_text, closing_text, text_at_end, first_link, lines_text, status, outcome_at, outcome}
+use Rattle.cap_packets.specs.Outcome.{Form, AsCapture, AsReports, AsLines, JobProgress, Work, no_progress, form_refuses, decide_unless, decide, end_with, apply_verdict, apply_event, apply_events, next_progress, end_input, unless_ended, end_unless_ended, final_progress, output_text, text_at_end, first_link, lines_text, status, outcome_at, outcome}
 use Rattle.cap_packets.specs.Selector.{is_count}
 use Rattle.cap_packets.specs.Edits.{coming, packets_selected, unique_behind}
 use Rattle.cap_packets.specs.Lists.{at_most, packets_kept, packets_of, tally_of}
 use Rattle.cap_window.specs.declared.mark.Mark.{Mark}
 use Rattle.cap_window.specs.Marks.{mark_of}
-use Rattle.cap_packets.specs.Whole.{EditKeeps, EditWrites, EditsAlike, HasCarried, MergesOne, copy_of, no_options, InfosReports, MergeWrites, PrintLines, PrintWrites, closing_if, edit_work, event_packets, infos_work, merge_work, file_packets, packets_in_order, print_work, reports_by, reports_of, packets_written, written_text, written_unless}
+use Rattle.cap_packets.specs.Whole.{EditKeeps, EditWrites, EditsAlike, HasCarried, MergesOne, copy_of, no_options, InfosReports, MergeWrites, PrintLines, PrintWrites, closing_if, edit_work, event_packets, merge_work, file_packets, packets_in_order, print_work, reports_by, reports_of, packets_written, written_text, written_unless}
 use Rattle.cap_packets.proofs.Edits.{passes_unique}
 use Rattle.cap_packets.proofs.Lists.{passes_filtered, counted-next}
 use Rattle.cap_packets.proofs.Outcomes.{progress-append, progress-ended}
@@ -280,9 +280,9 @@ report-next names input r rs next k state reports none = by_ending r.items.endin
     by_ending End =
         ap (λ (es : List Event). (apply_events Count (AsReports names) (under_way k state [] reports) es).reports) (append_assoc (packet_events input r.items.packets) (ended ∷ []) later)
         ∙ count-packets names input r.items.packets k state [] reports (whole (tally_of (packets_of r.items.packets))) (ended ∷ later) none
-          (λ k' state' is. next k' (record { passed = state'.passed; window = state'.window; tally = nothing_counted }) (reports ++ report input r state'.tally ∷ []) refl
-            ∙ append_assoc reports (report input r state'.tally ∷ []) more
-            ∙ ap whole is)
+        (λ k' state' is. next k' (record { passed = state'.passed; window = state'.window; tally = nothing_counted }) (reports ++ report input r state'.tally ∷ []) refl
+        ∙ append_assoc reports (report input r state'.tally ∷ []) more
+        ∙ ap whole is)
     by_ending (FaultAt fault offset) =
         ap (λ (es : List Event). (apply_events Count (AsReports names) (under_way k state [] reports) es).reports) (sym (append-nil (packet_events input r.items.packets)))
         ∙ count-packets names input r.items.packets k state [] reports (reports ++ []) [] none (λ k' state' is. sym (append-nil reports))
