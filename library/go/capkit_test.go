@@ -3,6 +3,7 @@ package capkit_test
 import (
 	"bytes"
 	"errors"
+	"fmt"
 	"io"
 	"os"
 	"path/filepath"
@@ -173,6 +174,25 @@ func TestExpressions(t *testing.T) {
 		"tcp port": "not an expression", strings.Repeat("tcp ", 20000): "longer than 65536 bytes"} {
 		if _, err := capkit.NewExpression(text); err == nil || err.Error() != want {
 			t.Errorf("%v, not %s", err, want)
+		}
+	}
+}
+
+func TestExplain(t *testing.T) {
+	long, want := "port 1 or 2", "(src or dst port 1) or (src or dst port 2)"
+	for i := 3; i < 400; i++ {
+		long += fmt.Sprintf(" or %d", i)
+		want = fmt.Sprintf("(%s) or (src or dst port %d)", want, i)
+	}
+	for text, want := range map[string]string{"": "", "tcp": "tcp", long: want} {
+		if got, err := capkit.Explain(text); got != want || err != nil {
+			t.Errorf("%.60s: %.60s, %v", text, got, err)
+		}
+	}
+	for text, place := range map[string]int{"prt 80": 1, "tcp ?": 5, "tcp \xff": 5, "tcp port": 0} {
+		var refused *capkit.CompileError
+		if _, err := capkit.Explain(text); !errors.As(err, &refused) || refused.Place != place {
+			t.Errorf("%q: %v", text, err)
 		}
 	}
 }

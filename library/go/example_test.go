@@ -62,6 +62,16 @@ func ExampleCompile_refused() {
 	// place 5
 }
 
+func ExampleExplain() {
+	meaning, err := capkit.Explain("tcp port 80 or 443 and host 10.0.0.1")
+	fmt.Println(meaning, err)
+	_, err = capkit.Explain("tcp prt 80")
+	fmt.Println(err)
+	// Output:
+	// ((tcp src or dst port 80) or (tcp src or dst port 443)) and (src or dst host 10.0.0.1) <nil>
+	// unknown word (at byte 5)
+}
+
 func ExampleFromInstructions() {
 	length := capkit.Instruction{Code: 128}
 	_, err := capkit.FromInstructions([]capkit.Instruction{length})

@@ -62,6 +62,33 @@ func Compile(expression string, linkType uint16) (*Filter, error) {
 	return &Filter{insns[:number]}, nil
 }
 
+// Explain is what an expression means, as an expression: in parentheses by its tree, with every
+// qualifier written out. Its error is a *CompileError.
+func Explain(expression string) (string, error) {
+	source := []byte(expression)
+	length, err := explainInto(source, nil)
+	if err != nil {
+		return "", err
+	}
+	buffer := make([]byte, length+1) // for a NUL
+	if _, err := explainInto(source, buffer); err != nil {
+		return "", err
+	}
+	return string(buffer[:length]), nil
+}
+
+// explainInto puts what an expression means into a buffer, as far as there is room; the length of the
+// whole.
+func explainInto(source, buffer []byte) (int, error) {
+	var number C.size_t
+	status := C.capkit_explain((*C.char)(start(source)), C.size_t(len(source)), (*C.char)(start(buffer)),
+		C.size_t(len(buffer)), &number)
+	if status != C.CAPKIT_OK {
+		return 0, compileError(status, number)
+	}
+	return int(number), nil
+}
+
 // FromInstructions is a program from elsewhere, as tcpdump -ddd prints it. Its error is a
 // *ProgramError.
 func FromInstructions(instructions []Instruction) (*Filter, error) {

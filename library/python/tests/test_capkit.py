@@ -95,6 +95,19 @@ class FilterTest(unittest.TestCase):
                     capkit.Expression(text)
                 self.assertEqual(caught.exception.place, place)
 
+    def test_explain(self):
+        meaning = "((tcp src or dst port 80) or (tcp src or dst port 443)) and (src or dst host 10.0.0.1)"
+        self.assertEqual(capkit.explain("tcp port 80 or 443 and host 10.0.0.1"), meaning)
+        self.assertEqual(capkit.explain(meaning), meaning)
+        self.assertEqual(capkit.explain(""), "")
+        for text, place in [("tcp prt 80", 5), ("tcp \udcff", 5), ("tcp port", None)]:
+            with self.assertRaises(capkit.CompileError) as caught:
+                capkit.explain(text)
+            self.assertEqual(caught.exception.place, place)
+        long = capkit.explain("port " + " or ".join(map(str, range(400))))
+        self.assertTrue(long.endswith("(src or dst port 398)) or (src or dst port 399)"))
+        self.assertEqual(long.count("("), long.count(")"))
+
     def test_link_types(self):
         with self.assertRaisesRegex(capkit.CompileError, "link type not filtered"):
             capkit.Filter("arp", 276)
@@ -117,7 +130,8 @@ class FilterTest(unittest.TestCase):
             packet(time=1 << 63).line()
 
     def test_long_program(self):
-        hosts = " or ".join(f"host 10.0.{i // 256}.{i % 256}" for i in range(600))
+        # Addresses that no range or mask has in one.
+        hosts = " or ".join(f"host 10.0.{i // 128}.{2 * i % 256}" for i in range(600))
         self.assertGreater(len(capkit.Filter(hosts, capkit.LINK_ETHERNET).instructions), 600)
 
     def test_threads_share_a_filter(self):

@@ -58,6 +58,13 @@ pub struct Packet {
 
 extern "C" {
     pub fn capkit_bound(text: *const u8, length: usize, number: *mut usize) -> u32;
+    pub fn capkit_explain(
+        text: *const u8,
+        length: usize,
+        buffer: *mut u8,
+        room: usize,
+        number: *mut usize,
+    ) -> u32;
     pub fn capkit_compile(
         text: *const u8,
         length: usize,

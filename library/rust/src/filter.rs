@@ -180,6 +180,46 @@ fn bound(expression: &str) -> Result<usize, CompileError> {
     }
 }
 
+/// What an expression means, as an expression: in parentheses by its tree, with every qualifier
+/// written out.
+///
+/// ```
+/// let meaning = capkit::explain("tcp port 80 or 443 and host 10.0.0.1")?;
+/// assert_eq!(
+///     meaning,
+///     "((tcp src or dst port 80) or (tcp src or dst port 443)) and (src or dst host 10.0.0.1)"
+/// );
+/// # Ok::<(), capkit::CompileError>(())
+/// ```
+pub fn explain(expression: &str) -> Result<String, CompileError> {
+    let length = explain_into(expression, &mut [])?;
+    let mut buffer = vec![0; length + 1];
+    explain_into(expression, &mut buffer)?;
+    buffer.pop();
+    Ok(String::from_utf8_lossy(&buffer).into_owned())
+}
+
+/// Puts what an expression means into a buffer, as far as there is room, and a NUL; the length of
+/// the whole.
+fn explain_into(expression: &str, buffer: &mut [u8]) -> Result<usize, CompileError> {
+    let mut number = 0;
+    // SAFETY: the pointers and lengths are those of the text and of the buffer.
+    let status = unsafe {
+        ffi::capkit_explain(
+            expression.as_ptr(),
+            expression.len(),
+            buffer.as_mut_ptr(),
+            buffer.len(),
+            &mut number,
+        )
+    };
+    if status == ffi::OK {
+        Ok(number)
+    } else {
+        Err(CompileError::new(status, number, 0))
+    }
+}
+
 /// An expression, compiled for each link type when a packet has it first.
 ///
 /// ```

@@ -22,6 +22,14 @@
 //! # Ok(())
 //! # }
 //! ```
+//!
+//! [`explain`] says what an expression means:
+//!
+//! ```
+//! let meaning = capkit::explain("tcp port 80 or 443")?;
+//! assert_eq!(meaning, "(tcp src or dst port 80) or (tcp src or dst port 443)");
+//! # Ok::<(), capkit::CompileError>(())
+//! ```
 #![deny(unsafe_op_in_unsafe_fn)]
 
 mod errors;
@@ -31,7 +39,7 @@ mod reading;
 mod writing;
 
 pub use errors::{Check, CompileError, Fault, ProgramError, WriteError};
-pub use filter::{Expression, Filter, Instruction, Step};
+pub use filter::{explain, Expression, Filter, Instruction, Step};
 pub use reading::{Capture, Packet, Packets};
 pub use writing::{Format, Writer};
 

@@ -181,8 +181,9 @@ fn filters() {
     assert!(long.matches(&[], 1000) && !long.matches(&[], 999) && !long.is_portable());
     let same = Filter::from_instructions(long.instructions().to_vec());
     assert_eq!(same, Ok(long));
+    // Addresses that no range or mask has in one.
     let hosts: Vec<_> = (0..600)
-        .map(|i| format!("host 10.0.{}.{}", i / 256, i % 256))
+        .map(|i| format!("host 10.0.{}.{}", i / 128, 2 * i % 256))
         .collect();
     assert!(
         Filter::new(&hosts.join(" or "), LINK_ETHERNET)
@@ -191,6 +192,20 @@ fn filters() {
             .len()
             > 600
     );
+}
+
+#[test]
+fn meanings() {
+    let mut long = String::from("port 1 or 2");
+    let mut meaning = String::from("(src or dst port 1) or (src or dst port 2)");
+    for i in 3..400 {
+        long += &format!(" or {i}");
+        meaning = format!("({meaning}) or (src or dst port {i})");
+    }
+    assert_eq!(explain(&long), Ok(meaning));
+    assert_eq!(explain(""), Ok(String::new()));
+    let error = explain("tcp prt 80");
+    assert_eq!(error, Err(CompileError::UnknownWord { at: 5 }));
 }
 
 #[test]

@@ -9,7 +9,7 @@ A time is in nanoseconds since 1970-01-01 00:00:00 UTC. A link type is the numbe
 for it; expressions are compiled for LINK_ETHERNET, LINK_RAW and LINK_COOKED.
 """
 from .errors import CaptureError, CompileError, ProgramError, WriteError
-from .filters import Expression, Filter, Instruction, Step
+from .filters import Expression, Filter, Instruction, Step, explain
 from .reading import Capture, Packet, packets
 from .writing import Writer
 
@@ -34,5 +34,6 @@ __all__ = [
     "Step",
     "WriteError",
     "Writer",
+    "explain",
     "packets",
 ]

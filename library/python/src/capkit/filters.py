@@ -41,18 +41,36 @@ def _failure(status: int, number: int) -> CompileError:
     return CompileError(status, number if status in _STATUSES_WITH_A_PLACE else None)
 
 
-def _bound(text: bytes) -> int:
-    """How many instructions the program of an expression has at most."""
+def _number_of(call: Any, text: bytes, *arguments: Any) -> int:
+    """The number that a call leaves for an expression; raises CompileError."""
     number = c.c_size_t()
-    status = native.bound(text, len(text), c.byref(number))
+    status = call(text, len(text), *arguments, c.byref(number))
     if status != native.OK:
         raise _failure(status, number.value)
     return number.value
 
 
+def _bound(text: bytes) -> int:
+    """How many instructions the program of an expression has at most."""
+    return _number_of(native.bound, text)
+
+
 def _encoded(text: str) -> bytes:
     # What isn't UTF-8 on a command line comes as lone surrogates, and is given back.
     return text.encode(errors="surrogateescape")
+
+
+def explain(expression: str) -> str:
+    """What an expression means, as an expression; raises CompileError.
+
+    It is in parentheses by its tree, with every qualifier written out: "tcp port 80 or 443" is
+    "(tcp src or dst port 80) or (tcp src or dst port 443)".
+    """
+    text = _encoded(expression)
+    room = _number_of(native.explain, text, None, 0) + 1
+    buffer = c.create_string_buffer(room)
+    _number_of(native.explain, text, buffer, room)
+    return buffer.value.decode()
 
 
 def _insn(code: int, jt: int, jf: int, k: int) -> native.Insn:
@@ -68,12 +86,9 @@ class Filter:
         """Compiles the expression; raises CompileError."""
         native.fits(link_type, 16, "link type")
         text = _encoded(expression)
-        room, number = _bound(text), c.c_size_t()
-        insns = (native.Insn * room)()
-        status = native.compile_(text, len(text), link_type, insns, room, c.byref(number))
-        if status != native.OK:
-            raise _failure(status, number.value)
-        self._insns, self._count = insns, number.value
+        room = _bound(text)
+        self._insns = (native.Insn * room)()
+        self._count = _number_of(native.compile_, text, link_type, self._insns, room)
 
     @classmethod
     def from_instructions(cls, instructions: Iterable[Tuple[int, int, int, int]]) -> Filter:

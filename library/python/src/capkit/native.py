@@ -84,6 +84,7 @@ _text, _size, _pointer, _number = c.c_char_p, c.c_size_t, c.c_void_p, c.c_uint32
 _buffer = (_pointer, _size, c.POINTER(_size))
 
 bound = declare("capkit_bound", _number, _text, _size, c.POINTER(_size))
+explain = declare("capkit_explain", _number, _text, _size, *_buffer)
 compile_ = declare(
     "capkit_compile", _number, _text, _size, c.c_uint16, _pointer, _size, c.POINTER(_size)
 )
