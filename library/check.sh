@@ -27,7 +27,7 @@ if have c++; then
     c++ -std=c++11 -Wall -Wextra -pedantic -Werror -Iinclude -o out/plus out/plus.cc out/libcapkit.a && out/plus || bad=1
 fi
 grep -q "CAPKIT_VERSION \"$(cat ../packaging/version)\"" include/capkit.h || { echo 'another version'; bad=1; }
-# shellcheck disable=SC2046  # three numbers
+# shellcheck disable=SC2046,SC2183  # three numbers
 grep -q "CAPKIT_VERSION_NUMBER $(printf '0x%02x%02x%02x' $(tr . ' ' <../packaging/version))u" include/capkit.h ||
     { echo 'another number of the version'; bad=1; }
 
@@ -47,6 +47,14 @@ for name in day.pcap two-sections.pcapng comments.pcapng damaged.pcap; do
             >/dev/null 2>out/valgrind.txt || test $? != 99 || { cat out/valgrind.txt; bad=1; }
     fi
 done
+# What an expression means; and a refused one.
+meaning='((tcp src or dst port 80) or (tcp src or dst port 443)) and (src or dst host 10.0.0.1)'
+for text in 'tcp port 80 or 443 and host 10.0.0.1' "$meaning"; do
+    test "$(out/explain "$text")" = "$meaning" || { echo "explain: $text"; bad=1; }
+done
+status=0
+out/explain 'tcp prt 80' 2>out/explain.txt || status=$?
+{ test $status = 2 && grep -q '^explain: unknown word (at byte 5)$' out/explain.txt; } || { echo 'explain: no refusal'; bad=1; }
 ./check_packages.sh || bad=1
 if [ -e /usr/include/pcap/pcap.h ]; then
     make -s tests out/pcap_filter
@@ -67,10 +75,14 @@ if [ -e /usr/include/pcap/pcap.h ]; then
     out/fuzz 1 "$rounds" ../samples/*.pcap ../samples/*.pcapng || bad=1
     out/writes 1 "$rounds" || bad=1
     out/compare tests/expressions.txt ../samples/*.pcap || bad=1
+    rm -f out/random.pcap out/few.pcap
     if have python3; then
         python3 tests/random_capture.py "$rounds" >out/random.pcap
         out/compare tests/expressions.txt out/random.pcap || bad=1
+        python3 tests/random_capture.py 2000 >out/few.pcap
     fi
+    # What capkit_explain writes is what the expression says, here and in libpcap.
+    out/meanings 1 "$rounds" tests/expressions.txt ../samples/*.pcap out/few.pcap || bad=1
 else
     echo "without libpcap's headers"
 fi

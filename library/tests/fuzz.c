@@ -5,6 +5,7 @@
 #include <stdio.h>
 #include <stdlib.h>
 #include "guard.h"
+#include "machine.h"
 
 int bpf_validate(const struct bpf_insn *f, int len);
 
@@ -48,15 +49,17 @@ static uint32_t returned(const struct capkit_insn *p, size_t n, const uint8_t *p
     return capkit_run_any(changed, n, packet, len, len, &any);
 }
 
-/* The steps of a run are those of the runs of programs that return what a step shows, and as many
- * are written as there is room for. */
+/* The steps of a run are those of a second interpreter, and of the runs of programs that return
+ * what a step shows, and as many are written as there is room for. */
 static void trace(const struct capkit_insn *p, size_t n, const uint8_t *packet, size_t len,
                   size_t count)
 {
     size_t room = rnd() % 8 ? 16 : rnd() % 16, i, word;
-    struct capkit_step *steps = place(third, room * sizeof *steps);
+    struct capkit_step *steps = place(third, room * sizeof *steps), again[16];
     memset(steps, 0xa5, room * sizeof *steps);
     wrong += capkit_trace(p, n, packet, len, len, steps, room) != count;
+    wrong += states(p, packet, len, len, again) != count;
+    wrong += memcmp(steps, again, (count < room ? count : room) * sizeof *steps) != 0;
     for (i = 0; i < room && i < count; i++) {
         const struct capkit_step *s = steps + i;
         steps_seen++;
@@ -142,6 +145,11 @@ static void random_texts(size_t rounds)
         uint32_t again = capkit_bound(text, len, &bound);
         wrong += (again == 0) != (status == 0 || status == CAPKIT_NO_ROOM) ||
                  (again == 0 && number > bound) || (again && (again != status || bound != number));
+        char *buffer = place(third, room);
+        memset(buffer, '?', room);
+        wrong += capkit_explain(text, len, buffer, room, &number) != again ||
+                 (again && (number != bound || memchr(buffer, '?', room) != (room ? buffer : 0))) ||
+                 (again == 0 && room && strlen(buffer) != (number < room ? number : room - 1));
     }
 }
 
@@ -253,6 +261,7 @@ static void nothing(void)
     size_t steps;
     wrong += capkit_compile(NULL, 0, CAPKIT_LINK_RAW, NULL, 0, &number) != CAPKIT_NO_ROOM;
     wrong += capkit_bound(NULL, 0, &index) != CAPKIT_OK || number > index;
+    wrong += capkit_explain(NULL, 0, NULL, 0, &number) != CAPKIT_OK || number != 0;
     wrong += capkit_check(NULL, 0, &index) != CAPKIT_EMPTY;
     wrong += capkit_run(&accept, 1, NULL, 0, 0, &steps) != 7 || steps != 1;
     wrong += capkit_run_any(NULL, 0, NULL, 0, 0, &any) != 0 || any != 0;
