@@ -15,7 +15,7 @@ install the package for Python that `make -C library python` makes (docs/LIBRARY
 
 
 class Missing(Exception):
-    """The library isn't there, or is older than these tools."""
+    """The library isn't there."""
 
 
 def checkout():
@@ -44,29 +44,17 @@ def load():
     return capkit, native
 
 
-def declared(name, result, *arguments):
-    """A call of the library that the package has no method for."""
-    try:
-        return native.declare(name, result, *arguments)
-    except AttributeError as error:
-        raise Missing(f"the library is older than these tools: it has no {name}") from error
-
-
 try:
     capkit, native = load()
-    if not hasattr(capkit, "explain"):
-        _explain = declared(
-            "capkit_explain", ctypes.c_uint32, ctypes.c_char_p, ctypes.c_size_t, ctypes.c_void_p,
-            ctypes.c_size_t, ctypes.POINTER(ctypes.c_size_t),
-        )  # fmt: skip
-    _run = declared(
+    explained = capkit.explain  # what an expression means, as an expression
+    _run = native.declare(
         "capkit_run", ctypes.c_uint32, ctypes.c_void_p, ctypes.c_size_t, ctypes.c_char_p,
         ctypes.c_size_t, ctypes.c_uint32, ctypes.POINTER(ctypes.c_size_t),
     )  # fmt: skip
-    if not hasattr(capkit.Filter, "trace"):
-        raise Missing("the package capkit is older than these tools: it has no traces")
 except Missing as error:
     sys.exit(f"{pathlib.Path(sys.argv[0]).name}: {error}")
+except AttributeError as error:
+    sys.exit(f"{pathlib.Path(sys.argv[0]).name}: the library is older than these tools: {error}")
 
 WORDS_OF_A_STEP = ctypes.sizeof(native.Step) // 4
 
@@ -115,20 +103,3 @@ class Program:
 def compiled(text, link_type):
     """The program of an expression for a link type; raises capkit.CompileError."""
     return Program(capkit.Filter(text, link_type))
-
-
-def explained(text):
-    """What an expression means, as an expression; raises capkit.CompileError."""
-    capkit.Expression(text)
-    if hasattr(capkit, "explain"):
-        return capkit.explain(text)
-    encoded, length = text.encode(errors="surrogateescape"), ctypes.c_size_t()
-    room = 4096
-    while True:
-        buffer = ctypes.create_string_buffer(room)
-        status = _explain(encoded, len(encoded), buffer, room, ctypes.byref(length))
-        if status != native.OK:
-            raise capkit.CompileError(status, length.value or None)
-        if length.value < room:
-            return buffer.raw[: length.value].decode()
-        room = length.value + 1
