@@ -32,8 +32,10 @@ static void number(uint32_t value) { say(ANY("%u", "%u", "%u", "0x%x", "0%o"), v
 
 enum kind { HOST, HOST6, MAC, NET, NET6, PORT, RANGE, PROTO, ETHER_PROTO, KINDS };
 
-/* What a value alone inherits. */
+/* What a value alone inherits; whether a group in parentheses is between the two, and whether that
+ * was so of any value. libpcap takes then what is before the group, where there is anything. */
 static enum kind last;
+static int has_group, inherits_over_group;
 
 static void value(enum kind kind)
 {
@@ -94,6 +96,7 @@ static void valued(void)
     if (kind > MAC || !*way || rnd() % 4)
         say("%s ", types[kind]);
     value(last = kind);
+    has_group = 0;
 }
 
 static void arithmetic(int depth);
@@ -159,6 +162,7 @@ static void primary(void)
         break;
     case 3:
         value(last);
+        inherits_over_group |= has_group;
         break;
     case 4:
     case 5:
@@ -181,6 +185,7 @@ static void condition(int depth)
             say("(");
             condition(depth - 1);
             say(")");
+            has_group = 1;
         } else {
             primary();
         }
@@ -248,7 +253,7 @@ static const char *meaning_of(const char *source, size_t size)
     return kept;
 }
 
-static size_t held, judged, differ, unread, leveled;
+static size_t held, judged, differ, unread, otherwise;
 
 /* Whether an expression's operators have other levels in libpcap: none of ^ and %, and & one above
  * that of |. */
@@ -294,9 +299,9 @@ static void hold(const char *source, const char *meaning)
         pcap_close(dead);
     }
     held += links > 0;
-    if (here && has_other_levels(source)) {
-        leveled++;
-        printf("has other levels in libpcap: %s\n", source);
+    if (here && (has_other_levels(source) || inherits_over_group)) {
+        otherwise++;
+        printf("libpcap reads otherwise: %s\n", source);
     } else if (here) {
         differ += here;
         printf("libpcap's programs differ on %zu packets: %s\n  %s\n", here, source, meaning);
@@ -381,6 +386,7 @@ int main(int argc, char **argv)
     while (done < rounds) {
         length = 0;
         last = HOST;
+        has_group = inherits_over_group = 0;
         if (rnd() % 1000)
             condition(2);
         else
@@ -397,9 +403,9 @@ int main(int argc, char **argv)
         expressions, deep, refused);
     printf("packets: Ethernet %zu, raw %zu, cooked %zu\n", sets[0].count, sets[1].count,
            sets[2].count);
-    printf("%zu by libpcap, %zu judgements: %zu differ; libpcap refuses %zu meanings; %zu have "
-           "other levels there\n",
-           held, judged, differ, unread, leveled);
+    printf("%zu by libpcap, %zu judgements: %zu differ; libpcap refuses %zu meanings; it reads %zu "
+           "expressions otherwise\n",
+           held, judged, differ, unread, otherwise);
     printf("broken promises: %zu\n", wrong);
     return wrong || differ || unread;
 }

@@ -27,7 +27,7 @@ class Instruction(NamedTuple):
 class Step(NamedTuple):
     """What a run is before one of its instructions."""
 
-    index: int
+    index: int  # type: ignore[assignment]  # in place of a tuple's method
     """That of the instruction, from 0."""
     a: int
     """The register A."""
