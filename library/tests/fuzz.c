@@ -55,10 +55,11 @@ static void trace(const struct capkit_insn *p, size_t n, const uint8_t *packet, 
                   size_t count)
 {
     size_t room = rnd() % 8 ? 16 : rnd() % 16, i, word;
+    struct bytes bytes = {packet, len, len};
     struct capkit_step *steps = place(third, room * sizeof *steps), again[16];
     memset(steps, 0xa5, room * sizeof *steps);
     wrong += capkit_trace(p, n, packet, len, len, steps, room) != count;
-    wrong += states(p, packet, len, len, again) != count;
+    wrong += states(p, &bytes, again) != count;
     wrong += memcmp(steps, again, (count < room ? count : room) * sizeof *steps) != 0;
     for (i = 0; i < room && i < count; i++) {
         const struct capkit_step *s = steps + i;

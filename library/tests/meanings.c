@@ -208,49 +208,60 @@ static void chain(void)
 static size_t expressions, refused, deep, wrong;
 static uint8_t *first, *second;
 
-/* What an expression means, read back; null where it is refused. */
-static const char *meaning_of(const char *source, size_t size)
+/* What an expression means, put into buffers of any room; null where it is refused. */
+static const char *meaning_of(const char *source, size_t size, size_t *number)
 {
     static char kept[1 << 20];
-    static struct capkit_insn ours[CAPKIT_MOST_INSNS], theirs[CAPKIT_MOST_INSNS];
-    static const uint16_t links[] = {CAPKIT_LINK_ETHERNET, CAPKIT_LINK_RAW, CAPKIT_LINK_COOKED};
-    size_t number, bound, room, again, one, other;
-    uint32_t status = capkit_explain(source, size, NULL, 0, &number);
-    uint16_t link = links[rnd() % 3];
+    size_t bound, room, again;
+    uint32_t status = capkit_explain(source, size, NULL, 0, number);
     char *buffer;
-    wrong += capkit_bound(source, size, &bound) != status || (status && number != bound);
+    wrong += capkit_bound(source, size, &bound) != status || (status && *number != bound);
     if (status) {
         refused++;
         return NULL;
     }
-    room = number + 1;
+    room = *number + 1;
     buffer = place(first, room);
-    wrong += capkit_explain(source, size, buffer, room, &again) || again != number ||
-             strlen(buffer) != number;
+    wrong += capkit_explain(source, size, buffer, room, &again) || again != *number ||
+             strlen(buffer) != *number;
     memcpy(kept, buffer, room);
     room = rnd() % room;
     buffer = place(first, room);
-    wrong += capkit_explain(source, size, buffer, room, &again) || again != number ||
+    wrong += capkit_explain(source, size, buffer, room, &again) || again != *number ||
              (room && (memcmp(buffer, kept, room - 1) || buffer[room - 1]));
     expressions++;
-    room = number + 1;
-    buffer = place(first, room);
-    status = capkit_explain(kept, number, buffer, room, &again);
+    return kept;
+}
+
+/* What an expression means, read back; null where it is refused, or nests too deep. */
+static const char *read_back(const char *source, size_t size)
+{
+    static struct capkit_insn ours[CAPKIT_MOST_INSNS], theirs[CAPKIT_MOST_INSNS];
+    static const uint16_t links[] = {CAPKIT_LINK_ETHERNET, CAPKIT_LINK_RAW, CAPKIT_LINK_COOKED};
+    size_t number, again, one, other;
+    const char *meaning = meaning_of(source, size, &number);
+    uint16_t link = links[rnd() % 3];
+    uint32_t status;
+    char *buffer;
+    if (!meaning)
+        return NULL;
+    buffer = place(second, number + 1);
+    status = capkit_explain(meaning, number, buffer, number + 1, &again);
     if (status == CAPKIT_TOO_LONG || status == CAPKIT_NESTED_TOO_DEEP) {
         deep++;
         return NULL;
     }
-    if (status || again != number || memcmp(buffer, kept, room)) {
+    if (status || again != number || memcmp(buffer, meaning, number + 1)) {
         wrong++;
         printf("means something else, read back: %s\n", source);
     }
     if (capkit_compile(source, size, link, ours, CAPKIT_MOST_INSNS, &one) ||
-        capkit_compile(kept, number, link, theirs, CAPKIT_MOST_INSNS, &other) || one != other ||
+        capkit_compile(meaning, number, link, theirs, CAPKIT_MOST_INSNS, &other) || one != other ||
         memcmp(ours, theirs, one * sizeof *ours)) {
         wrong++;
         printf("has another program, read back: %s\n", source);
     }
-    return kept;
+    return meaning;
 }
 
 static size_t held, judged, differ, unread, otherwise;
@@ -380,7 +391,7 @@ int main(int argc, char **argv)
     more_packets();
     while (fgets(text, sizeof text, f)) {
         text[strcspn(text, "\n")] = 0;
-        if (text[0] != '#' && (meaning = meaning_of(text, strlen(text))))
+        if (text[0] != '#' && (meaning = read_back(text, strlen(text))))
             hold(text, meaning);
     }
     while (done < rounds) {
@@ -391,7 +402,7 @@ int main(int argc, char **argv)
             condition(2);
         else
             chain();
-        if (!(meaning = meaning_of(text, length)))
+        if (!(meaning = read_back(text, length)))
             continue;
         done++;
         if (held < BY_LIBPCAP)
