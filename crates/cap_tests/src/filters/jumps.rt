@@ -81,14 +81,23 @@ fn count_jumps(insns: &[Insn]) -> usize {
     count
 }
 
+/// How many instructions a program has at most: 2, so many for each test, and 6 for each node.
+fn bound(for_a_test: usize, tests: usize, nodes: usize) -> usize {
+    let of_tests = tests.saturating_mul(for_a_test);
+    nodes
+        .saturating_mul(6)
+        .saturating_add(of_tests)
+        .saturating_add(2)
+}
+
 /// The jumps of a program are needed. With so many tests of the length behind `ip` it is no longer
 /// than its bound: 2, and 6 for each test and node; where 2, 4 for each test and 6 for each node are
 /// at most 256, no longer than that, and without `ja`.
 fn meets_bounds(insns: &[Insn], times: usize) -> bool {
-    let (tests, nodes) = (times + 1, 2 * times);
-    let short = 2 + 4 * tests + 6 * nodes;
+    let (tests, nodes) = (times.saturating_add(1), times.saturating_mul(2));
+    let short = bound(4, tests, nodes);
     jumps_are_needed(insns)
-        && insns.len() <= 2 + 6 * (tests + nodes)
+        && insns.len() <= bound(6, tests, nodes)
         && (short > 256 || count_jumps(insns) == 0 && insns.len() <= short)
 }
 
@@ -103,7 +112,8 @@ fn longest_has(alloc: Global, step: usize) -> Result<usize, Fail> {
             return Err(Fail::new(format_args!("{times} times")));
         }
         jumps = count_jumps(&insns);
-        text.push_str(&format!(in alloc; " or len = {}", 1 + step * times)?)?;
+        let length = step.saturating_mul(times).saturating_add(1);
+        text.push_str(&format!(in alloc; " or len = {length}")?)?;
     }
     Ok(jumps)
 }
