@@ -446,7 +446,7 @@ def build(top, product):
         if not RATTLE.exists():
             raise Refused(f"the prover of rt's kit is looked for at {RATTLE}, and isn't there")
         what = "program" if top == PROGRAM else "library"
-        say(f"proving and building the {what}: once, some 40 minutes of processor time")
+        say(f"proving and building the {what}: once, some 50 minutes of processor time from nothing")
         crates = crates_of((ROOT / "crates.txt").read_text(), top)
         tidy()
         measure(crates)
