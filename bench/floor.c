@@ -190,7 +190,7 @@ static unsigned half(const unsigned char *at)
     return (unsigned)at[0] << 8 | at[1];
 }
 
-/* Ports behind a TCP header's place, where the captured bytes reach. */
+/* Ports after a TCP header's place, where the captured bytes reach. */
 static int is_web_at(const struct reader *input, size_t place)
 {
     if (input->captured < place + 4)

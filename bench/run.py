@@ -6,7 +6,7 @@ usage: run.py [--packets N] [--rounds N] [--capkit PROGRAM] [--instructions] [NA
 A capture is made in a temporary folder. Each job is run by all programs in turn, ROUNDS times (5), and the
 best time of each counts: processor time, the user's and the system's, in seconds. Memory is the most that was
 resident, in MiB, as GNU time tells it, where that is installed. What capkit and the other tool write is compared
-first, behind the file header; a report is compared by its number of packets. NAMEs choose jobs; none means all.
+first, after the file header; a report is compared by its number of packets. NAMEs choose jobs; none means all.
 
 Beside some jobs hand-written C is measured (floor.c, where there is a C compiler), which does the least that such
 a job can do. Instructions a packet are counted by valgrind's callgrind, where that is installed, as the difference
@@ -27,6 +27,9 @@ import tempfile
 import make_capture
 
 ROOT = pathlib.Path(__file__).resolve().parent.parent
+sys.path.append(str(ROOT / "tools"))
+
+from built import built_program
 
 # 300 ports, six of them common, and 50 hosts, half of them common.
 chooser = random.Random(7)
@@ -60,14 +63,6 @@ FLOOR = {
 
 # The packets of both captures whose instructions are counted.
 FEW, MANY = 10_000, 30_000
-
-
-def built_program():
-    """The program that the launcher built last; the launcher itself would count its own time."""
-    programs = sorted((ROOT / "out").glob("built-*/capkit"), key=os.path.getmtime)
-    if not programs:
-        sys.exit("capkit is not built yet: run ./capkit --help first, or name a program by --capkit")
-    return str(programs[-1])
 
 
 def parts_of(capture, count, folder):
@@ -160,7 +155,7 @@ def memory_of(words, folder):
 
 
 def packets_of(path):
-    """What stands behind the header of a pcap file."""
+    """What follows the header of a pcap file."""
     with open(path, "rb") as file:
         return file.read()[24:]
 
@@ -231,7 +226,7 @@ def chosen_jobs(arguments, folder):
     make_capture.write_capture(capture, 1000 if arguments.instructions else arguments.packets)
     if not arguments.instructions:
         print(f"{arguments.packets} packets, {os.path.getsize(capture)} bytes; seconds of a processor, MiB")
-    for name, peer, own, other in jobs(arguments.capkit or built_program(), capture, folder):
+    for name, peer, own, other in jobs(arguments.capkit or str(built_program()), capture, folder):
         if arguments.names and name not in arguments.names:
             continue
         if shutil.which(peer) is None and not arguments.instructions:
@@ -243,7 +238,7 @@ def chosen_jobs(arguments, folder):
 def measure_jobs(arguments, folder):
     """Prints a line for each job, and returns the ratios to the other tools."""
     floor = compiled_floor(folder)
-    small = list(small_jobs(arguments.capkit or built_program(), folder)) if shutil.which("valgrind") else None
+    small = list(small_jobs(arguments.capkit or str(built_program()), folder)) if shutil.which("valgrind") else None
     ratios = []
     heads = ("capkit", "peer", "ratio", "C", "capkit/C", "MiB", "peer's", "insns", "C's")
     for name, peer, own, other in chosen_jobs(arguments, folder):

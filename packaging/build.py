@@ -16,6 +16,9 @@ program's own check takes. Such a call keeps nothing for the next one. So a crat
 `rt check` has kept work, in its out/incremental, is proved over that, as rt does. While a crate is
 proved other runs of rt wait for its folder, and for those of the crates that it needs.
 
+Where the kit isn't laid out as this script knows it, rt's own commands prove one crate after
+another: `rt lib` each library, and `rt run` the program. That takes longer.
+
 The program is copied to PROGRAM in one step, so that no launch finds a part of it, and so is the library
 to ARCHIVE. The status is 1 where a crate isn't proved or something can't be written.
 """
@@ -40,17 +43,22 @@ OUT = ROOT / "out"
 PROGRAM, LIBRARY = "capkit_main", "cap_library"
 # What a job of a check takes of memory, in bytes.
 MEMORY = 2_000_000_000
-# A byte of code costs as much to check as so many bytes of definitions and proofs. That and what
+# A byte of code costs as much to check as this many bytes of definitions and proofs. That and what
 # follows was fitted to what 22 crates took.
 CODE = 13
 # How many bytes of definitions and proofs are worth one more job.
 SIZE = 150_000
-# What the check of a crate costs before its first function, as so many bytes.
+# What the check of a crate costs before its first function, in bytes of definitions.
 OVERHEAD = 140_000
 PROCESSORS = len(os.sched_getaffinity(0))
-# The folder of the kit that rt is from.
+# The folder of the kit that rt is from, its prover, and what else the prover's calls name there.
 KIT = pathlib.Path(shutil.which("rt") or "").resolve().parent.parent
 RATTLE = KIT / "bin" / "rattle"
+LINKER = KIT / "bin" / "rattle-link"
+LOGIC, LOGIC_BUILT = KIT / "rattle" / "logic" / "antt-project.json", KIT / "logic_built"
+RLIBS, TOOLCHAIN = KIT / "rlibs", KIT / "toolchain"
+LIBRARIES_OF_C = [KIT / "c" / "libos_c.a", KIT / "c" / "liblibc_c.a"]
+PARTS = [RATTLE, LINKER, LOGIC, LOGIC_BUILT, RLIBS, TOOLCHAIN, *LIBRARIES_OF_C]
 
 
 class Refused(Exception):
@@ -161,14 +169,13 @@ def words_of(crate, crates, jobs):
     root = "main" if crate.is_program else "lib"
     words = [RATTLE, "build", "--crate-name", crate.name, f"src/{root}.rt"]
     for it in crate.of_kit:
-        words += ["--extern", f"{it}={KIT}/rlibs/{it}.rlib"]
-    words += ["-L", f"dependency={KIT}/rlibs"]
+        words += ["--extern", f"{it}={RLIBS}/{it}.rlib"]
+    words += ["-L", f"dependency={RLIBS}"]
     for it in crate.needs:
         words += ["--extern", f"{it}={crates[it].library}"]
     for it in crate.below:
         words += ["-L", f"dependency={crates[it].library.parent}"]
-    words += ["--antt-project", KIT / "rattle" / "logic" / "antt-project.json"]
-    words += ["--logic-built", KIT / "logic_built", "--links", f"{crate.name}="]
+    words += ["--antt-project", LOGIC, "--logic-built", LOGIC_BUILT, "--links", f"{crate.name}="]
     words += ["--jobs", str(jobs)]
     is_last = crate.is_program or crate.is_static
     if crate.is_kept:
@@ -179,15 +186,19 @@ def words_of(crate, crates, jobs):
         words += ["--crate-type", "staticlib"]
     if is_last:
         made = crate.archive if crate.is_static else f"{crate.program}.o"
-        return [*words, "--toolchain", KIT / "toolchain", "-o", made]
+        return [*words, "--toolchain", TOOLCHAIN, "-o", made]
     return [*words, "-o", crate.library]
 
 
 def link_words(crate):
     """Returns the words that link the program."""
-    words = [KIT / "bin" / "rattle-link", "--target", "x86_64-unknown-linux-gnu"]
-    words += ["--toolchain", KIT / "toolchain", "-o", crate.program, f"{crate.program}.o"]
-    return [*words, KIT / "c" / "libos_c.a", KIT / "c" / "liblibc_c.a"]
+    words = [LINKER, "--target", "x86_64-unknown-linux-gnu", "--toolchain", TOOLCHAIN]
+    return [*words, "-o", crate.program, f"{crate.program}.o", *LIBRARIES_OF_C]
+
+
+def rt_words(crate):
+    """Returns the words by which rt proves a crate, and builds its library or runs its program."""
+    return ["rt", "run", "--", "--version"] if crate.is_program else ["rt", "lib"]
 
 
 def sum_of(crate, crates):
@@ -220,6 +231,19 @@ class Build:
                 name, status = self.events.get()
                 if status is not None:
                     self.end(self.crates[name], status)
+        finally:
+            self.screen.hide()
+            self.stop()
+
+    def prove_by_rt(self):
+        """Proves all crates by rt's own commands, the lowest first."""
+        try:
+            for crate in self.crates.values():
+                self.running[crate.name] = 1, time.monotonic()
+                self.screen.show(self.progress())
+                with crate.log.open("w") as log:
+                    status = self.run(crate, log, rt_words(crate))
+                self.end(crate, status)
         finally:
             self.screen.hide()
             self.stop()
@@ -443,14 +467,17 @@ def build(top, product):
     with lock() as held:
         if product.exists():
             return False
-        if not RATTLE.exists():
-            raise Refused(f"the prover of rt's kit is looked for at {RATTLE}, and isn't there")
+        missing = [it for it in PARTS if not it.exists()]
         what = "program" if top == PROGRAM else "library"
         say(f"proving and building the {what}: once, some 50 minutes of processor time from nothing")
         crates = crates_of((ROOT / "crates.txt").read_text(), top)
         tidy()
         measure(crates)
-        Build(crates, held).prove()
+        if missing:
+            say(f"rt's kit has no {missing[0]}: rt proves one crate after another, which takes longer")
+            Build(crates, held).prove_by_rt()
+        else:
+            Build(crates, held).prove()
         new = OUT / f"new-{os.getpid()}"
         shutil.copy2(crates[top].product, new)
         product.parent.mkdir(parents=True, exist_ok=True)

@@ -45,6 +45,19 @@ case $word in
 esac
 printf 'end %s\\n' "$name" >>"$NOTES"
 """
+# What else the prover's calls name of the kit.
+PARTS = ["rattle/logic/antt-project.json", "logic_built", "rlibs", "toolchain", "c/libos_c.a", "c/liblibc_c.a"]
+# It notes what it is called for, and makes what rt makes.
+RT = """#!/bin/sh
+name=${PWD##*/}
+printf '%s %s\\n' "$1" "$name" >>"$NOTES"
+sleep "${SLEEP-0}"
+[ "$name" != "${FAILS-}" ] || { echo 'not proved: f'; exit 1; }
+mkdir -p "out/rlib/$name.rlib" && : >"out/lib$name.a"
+[ "$1" = run ] || exit 0
+[ "$*" = 'run -- --version' ] || exit 9
+printf '#!/bin/sh\\necho "runs $*"\\n' >"out/$name" && chmod +x "out/$name" && "out/$name" --version
+"""
 LINK = """#!/bin/sh
 while [ "$1" != -o ]; do shift; done
 printf '#!/bin/sh\\necho "runs $*"\\n' >"$2" && chmod +x "$2"
@@ -66,9 +79,11 @@ class Checkout:
             (self.at / "crates" / name / "src").mkdir(parents=True)
             (self.at / "crates" / name / "src" / root).write_text(f"// {name}\n")
         (at / "bin").mkdir()
-        for name, text in (("rt", "#!/bin/sh\n"), ("rattle", RATTLE), ("rattle-link", LINK)):
+        for name, text in (("rt", RT), ("rattle", RATTLE), ("rattle-link", LINK)):
             (at / "bin" / name).write_text(text)
             (at / "bin" / name).chmod(0o755)
+        for name in PARTS:
+            (at / name).mkdir(parents=True)
         self.path = f"{at}/bin:{os.environ['PATH']}"
 
     def begin(self, user=None, **words):
@@ -141,7 +156,7 @@ def try_first(checkout):
 def try_library(checkout):
     yield "the library is built", checkout.build_library() == (0, True)
     begun = [it for it in checkout.noted() if it.startswith("begin")]
-    yield "of its own crates, behind the program", begun == ["begin only_for_c", "begin cap_library"]
+    yield "of its own crates, after the program", begun == ["begin only_for_c", "begin cap_library"]
     yield "the program stays", len([*(checkout.at / "out").glob("built-*")]) == 1
     yield "it is built once too", checkout.build_library() == (0, True)
     yield "without a proof", checkout.noted() == []
@@ -185,6 +200,37 @@ def try_interrupted(checkout):
     yield "then it is built", (status, out, checkout.logs()) == (0, "runs infos\n", [])
 
 
+def try_other_kit(checkout):
+    """The kit has its folders elsewhere."""
+    rlibs = checkout.at.parent / "rlibs"
+    rlibs.rename(rlibs.with_name("elsewhere"))
+    (checkout.at / "crates" / "low_a" / "src" / "lib.rt").write_text("// for another kit\n")
+    checkout.noted()
+    status, out, messages = checkout.call()
+    yield "with another kit the program is built too", (status, out) == (0, "runs infos\n")
+    yield "and what the kit lacks is named", f"has no {rlibs}:" in messages
+    noted = checkout.noted()
+    lowest_first = ["lib low_a", "lib middle", "lib low_b", "run capkit_main"]
+    yield "by rt's own commands, one crate after another", noted == lowest_first
+    yield "which it says", "capkit_main in 0 s, 4 of 4 crates" in messages
+    yield "nothing is left of that build", checkout.logs() == []
+    shutil.rmtree(checkout.at / "library")
+    yield "the library is built too", checkout.build_library() == (0, True)
+    yield "by rt alone", checkout.noted()[-2:] == ["lib only_for_c", "lib cap_library"]
+    (checkout.at / "crates" / "low_b" / "src" / "lib.rt").write_text("// for another kit\n")
+    status, out, messages = checkout.call(FAILS="middle")
+    yield "a crate that rt doesn't prove ends the build", (status, out) == (1, "")
+    yield "and is named with its output", "not proved: f\ncapkit: middle wasn't built" in messages
+    yield "and nothing is tried after it", checkout.noted()[-1] == "lib middle"
+    build = checkout.begin(SLEEP="30")
+    wait_for(checkout.notes.exists)
+    below = pathlib.Path(f"/proc/{build.pid}/task/{build.pid}/children").read_text()
+    os.kill(int(below.split()[0]), signal.SIGTERM)
+    build.communicate(timeout=20)
+    yield "a build by rt can be interrupted", build.returncode == 130
+    rlibs.with_name("elsewhere").rename(rlibs)
+
+
 def try_read_only(checkout):
     (checkout.at / "crates" / "low_b" / "src" / "lib.rt").write_text("// once more\n")
     checkout.noted()
@@ -205,7 +251,7 @@ def main():
     with tempfile.TemporaryDirectory() as scratch:
         os.chmod(scratch, 0o755)
         checkout = Checkout(pathlib.Path(scratch))
-        for part in (try_first, try_library, try_changed, try_interrupted, try_read_only):
+        for part in (try_first, try_library, try_changed, try_interrupted, try_other_kit, try_read_only):
             for what, is_so in part(checkout):
                 passed, failed = passed + is_so, failed + (not is_so)
                 if not is_so:

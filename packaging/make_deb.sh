@@ -18,8 +18,7 @@ if [ $# -gt 0 ]; then
     program=$1
 else
     "$root/capkit" --help >/dev/null
-    # shellcheck disable=SC2012  # the launcher's own names
-    program=$(ls -t "$root"/out/built-*/capkit | head -n 1)
+    program=$(python3 "$root/tools/built.py")
 fi
 
 # The program tells its version itself.
@@ -42,9 +41,9 @@ mkdir "$work/debian"
 : >"$work/debian/control"
 needs=$(cd "$work" && dpkg-shlibdeps -O "$tree/usr/bin/capkit" | sed -n 's/^shlibs:Depends=//p')
 
-# What a user copies to work on many machines.
-install -D -m 644 -t "$documents/scale" "$root/scale/filter.sbatch" "$root/scale/filter.py"
-install -D -m 644 -t "$documents/scripts" "$root/scripts/salvage.py"
+# What a user copies to read a damaged capture, or to work on many machines.
+install -D -m 644 -t "$documents/examples" "$root/examples/salvage.py"
+install -D -m 644 -t "$documents/examples/scale" "$root/examples/scale/filter.sbatch" "$root/examples/scale/filter.py"
 
 # The manual pages and completions.
 place() {
@@ -80,7 +79,6 @@ awk '/^## / { is_left_out = $2 ~ /^(Run|Install|Test)$/ } !is_left_out && !/^\| 
 for page in "$documents"/*.md "$documents"/docs/*.md "$documents"/docs/inside/*.md; do
     drop_dead_links "$page"
 done
-ln -s samples "$documents/examples"
 install -m 644 "$root/packaging/copyright" "$documents/"
 write_changelog "$documents/changelog.Debian.gz"
 gzip -9nc "$root/CHANGELOG.md" >"$documents/changelog.gz"

@@ -60,7 +60,7 @@ class Help:
     """The parts of the help of a command."""
     # The command; empty: the program.
     name: str
-    # The words that a line has behind the options that may be left out.
+    # The words that a line has after the options that may be left out.
     usage: list
     commands: list
     arguments: list
@@ -271,7 +271,7 @@ def language_parts():
 # ---- the completion for bash
 
 def all_names(options):
-    """The names of options, a blank behind each."""
+    """The names of options, a blank after each."""
     return "".join(name + " " for option in options for name in option.options)
 
 
@@ -314,10 +314,10 @@ def zsh_action(entry):
 
 
 def zsh_option(option, name):
-    """An option under one of its names. Its value may be part of that word, behind `=` if the name is a long one."""
+    """An option under one of its names. Its value may be part of that word, after `=` if the name is a long one."""
     joint = "=" if name.startswith("--") else "+"
-    before, behind = (joint, f":{option.value}:{zsh_action(option)}") if option.value else ("", "")
-    return f"            '{name}{before}[{zsh(option.text)}]{behind}' \\"
+    before, after = (joint, f":{option.value}:{zsh_action(option)}") if option.value else ("", "")
+    return f"            '{name}{before}[{zsh(option.text)}]{after}' \\"
 
 
 def zsh_argument(argument):
@@ -350,7 +350,7 @@ def fish(words, text):
 
 
 def fish_option(option):
-    """How an option is named to `complete`, and what stands behind it."""
+    """How an option is named to `complete`, and what follows it."""
     names = [f" -l {name[2:]}" if name.startswith("--") else f" -s {name[1:]}" for name in option.options]
     if option.is_file:
         names.append(" -r -F")
@@ -368,7 +368,7 @@ def fish_command(help):
 def fish_parts(program, commands):
     first = "__fish_use_subcommand"
     names = " ".join(command.form for command in program.commands)
-    behind_help = f"'__fish_seen_subcommand_from help; and not __fish_seen_subcommand_from {names}'"
+    after_help = f"'__fish_seen_subcommand_from help; and not __fish_seen_subcommand_from {names}'"
     options = [fish(first + fish_option(option), option.text) for option in program.options]
 
     def offered(place):
@@ -376,7 +376,7 @@ def fish_parts(program, commands):
 
     return {
         "@first": options + offered(first),
-        "@help": offered(behind_help),
+        "@help": offered(after_help),
         "@commands": [line for command in commands for line in fish_command(command)],
     }
 

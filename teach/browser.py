@@ -99,7 +99,7 @@ class Browser:
         raise BrowserError(f"{method}: no answer in {SECONDS} seconds")
 
     def tab(self, width=1400, height=1000):
-        """A new tab, of so many pixels."""
+        """A new tab, of this many pixels."""
         target = self.call("Target.createTarget", url="about:blank")["targetId"]
         session = self.call("Target.attachToTarget", targetId=target, flatten=True)["sessionId"]
         return Tab(self, session, width, height)

@@ -57,7 +57,7 @@
       !e.querySelector(".spoken").textContent.trim()).map(start),
   };
 
-  // ---- contrasts, as WCAG 2.1 defines them, of each text and what is drawn behind it
+  // ---- contrasts, as WCAG 2.1 defines them, of each text and what it is drawn on
 
   const numbers = (colour) => (colour.match(/[\d.]+/g) || [0, 0, 0, 0]).map(Number);
   const linear = (value) => (value <= 0.03928 ? value / 12.92 : ((value + 0.055) / 1.055) ** 2.4);

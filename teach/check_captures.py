@@ -76,7 +76,7 @@ def empty(path):
 
 
 def many_hosts(instructions):
-    """An expression whose program has so many instructions, or a few less."""
+    """An expression whose program has this many instructions, or a few less."""
     text, shortest = "host 10.0.0.0", 0
     for hosts in range(1, 600):
         # Addresses apart, which no range of an optimizer gathers.

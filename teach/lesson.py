@@ -46,7 +46,7 @@ def arguments_of(words):
     parser.add_argument("--code", action="store_true", help="EXPRESSION is the name of a listing")
     parser.add_argument(
         "--packets", type=int, default=MOST_PACKETS, metavar="COUNT",
-        help=f"at most so many packets, the first ones (default {MOST_PACKETS})",
+        help=f"at most COUNT packets, the first ones (default {MOST_PACKETS})",
     )  # fmt: skip
     parser.add_argument("expression", metavar="EXPRESSION")
     parser.add_argument("capture", metavar="CAPTURE")

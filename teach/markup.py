@@ -8,7 +8,7 @@ import unicodedata
 import pictures
 import runs
 
-# Above so many instructions the ways through a program aren't drawn.
+# Above this number of instructions the ways through a program aren't drawn.
 MOST_DRAWN = 4096
 HIDDEN_KINDS = {"Cc", "Cf", "Cs", "Co", "Cn", "Zl", "Zp"}
 

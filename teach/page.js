@@ -82,7 +82,7 @@ function choose(show) {
   tellShown(shown);
 }
 
-// The packet that is so many shown ones further; the last one where there are fewer.
+// The packet that is some shown ones further; the last one where there are fewer.
 function further(place, steps) {
   const way = Math.sign(steps);
   let found = place;

@@ -93,7 +93,7 @@ func TestRefusedPacketsLeaveTheCapture(t *testing.T) {
 	}
 }
 
-// full is an output that fails once it has so many bytes.
+// full is an output that fails once it has that many bytes.
 type full struct{ room int }
 
 func (f *full) Write(bytes []byte) (int, error) {

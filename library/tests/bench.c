@@ -1,6 +1,6 @@
 /* Measures libcapkit beside libpcap on the Ethernet packets of captures.
  *
- * usage: bench ROUNDS EXPRESSIONS FILE..       processor time: the least of so many rounds, in each
+ * usage: bench ROUNDS EXPRESSIONS FILE..       processor time: the least of ROUNDS rounds, in each
  * of which every call is measured in turn bench WHAT TIMES EXPRESSION FILE..    does one thing so
  * often, for a count of instructions; WHAT is compile, pcap_compile, run or bpf_filter
  */

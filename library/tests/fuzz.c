@@ -1,4 +1,4 @@
-/* Random instructions, texts, and captures that are damaged or cut, right behind a page that can't
+/* Random instructions, texts, and captures that are damaged or cut, right after a page that can't
  * be touched or right before one. usage: fuzz SEED ROUNDS FILE.. */
 #include <capkit.h>
 #include <pcap/pcap.h>
@@ -34,8 +34,8 @@ static void print(const struct capkit_insn *p, uint32_t index)
     wrong += length != strlen(theirs) || (room && strncmp(buffer, theirs, room - 1));
 }
 
-/* What a program returns that has other instructions at a place and behind it, the second a return
- * of A. A run comes to a place once at most, and then to no place before it. */
+/* What a program returns that has other instructions at a place and after it, the second a return
+ * of A. A run reaches a place once at most, and then to no place before it. */
 static uint32_t returned(const struct capkit_insn *p, size_t n, const uint8_t *packet, size_t len,
                          size_t at, uint16_t code, uint32_t k)
 {
@@ -154,7 +154,7 @@ static void random_texts(size_t rounds)
     }
 }
 
-/* A copy of so many bytes, next to a page that can't be touched. */
+/* A copy of some bytes, next to a page that can't be touched. */
 static uint8_t *memory_of(const uint8_t *file, size_t size)
 {
     uint8_t *capture = place(first, size);
@@ -227,7 +227,7 @@ static void captures(const char *name, size_t rounds)
     }
 }
 
-/* A capture cut behind each of its bytes: its packets lie before the cut, and none is lost. */
+/* A capture cut after each of its bytes: its packets lie before the cut, and none is lost. */
 static void cuts(const char *name)
 {
     static uint8_t file[1 << 20];
@@ -301,7 +301,7 @@ int main(int argc, char **argv)
     printf("%zu runs of programs that capkit_is_portable takes\n", portable);
     printf("%zu steps of runs; %zu instructions printed as libpcap prints them\n", steps_seen,
            printed);
-    printf("%zu captures that were cut behind each of their bytes\n", cut_captures);
+    printf("%zu captures that were cut after each of their bytes\n", cut_captures);
     printf("broken promises: %zu\n", wrong);
     return wrong != 0;
 }

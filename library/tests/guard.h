@@ -15,7 +15,7 @@ static uint32_t rnd(void)
     return seed >> 16;
 }
 
-/* So much memory with a page before it and one behind it. */
+/* Memory of GUARDED bytes with a page before it and one after it. */
 static uint8_t *guarded(void)
 {
     uint8_t *m = mmap(0, GUARDED + 8192, PROT_NONE, MAP_PRIVATE | MAP_ANONYMOUS, -1, 0);
@@ -23,7 +23,7 @@ static uint8_t *guarded(void)
     return m + 4096;
 }
 
-/* A place for so many bytes of such memory: right behind the first page, or right before the last.
+/* A place for some bytes of such memory: right after the first page, or right before the last.
  */
 static void *place(uint8_t *memory, size_t size)
 {

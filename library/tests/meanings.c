@@ -73,7 +73,7 @@ static void value(enum kind kind)
     }
 }
 
-/* A value behind its qualifiers. A host needs no type where it has others. */
+/* A value after its qualifiers. A host needs no type where it has others. */
 static void valued(void)
 {
     static const char *const types[KINDS] = {"host", "host",      "host",  "net",  "net",
@@ -194,7 +194,7 @@ static void condition(int depth)
     }
 }
 
-/* Values that inherit, so many that the meaning of some nests too deep. */
+/* Values that inherit, enough for the meaning of some to nest too deep. */
 static void chain(void)
 {
     unsigned count = rnd() % 200;

@@ -1,4 +1,4 @@
-"""Writes a pcap capture of so many Ethernet packets, half of them random beyond what an expression looks at first."""
+"""Writes a pcap capture of Ethernet packets, as many as are asked for, half of them random beyond what an expression looks at first."""
 import random
 import struct
 import sys

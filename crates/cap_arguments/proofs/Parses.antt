@@ -6,6 +6,8 @@ use Rattle.clap.specs.declared.builder.value_parser.ValueParser.TheVariants as p
 use Rattle.clap.specs.declared.error.Error.{Error}
 use Rattle.clap.specs.declared.error.kind.ErrorKind.TheVariants.{OutOfMemory}
 use Rattle.clap.specs.declared.parser.matches.ArgMatches.{ArgMatches}
+use Rattle.cap_octet.specs.Format.{all_formats}
+use Rattle.cap_octet.specs.Link.{all_links}
 use Rattle.cap_arguments.specs.Arguments.{AreChoices, RefusesWords, TakesWords, format_names, line_app, link_names}
 
 simple_line : (formats links : ValueParser) → is_simple (line_app formats links) ≡ true
@@ -44,11 +46,11 @@ choices : List Text → ValueParser
 choices texts = parser.Names (record { ref_ptr = (0, 0); now = map (λ text. record { ref_ptr = (0, 0); now = text }) texts })
 
 are_formats : AreChoices format_names (choices format_names)
-unfolding choices
+unfolding choices all_formats
 are_formats = refl
 
 are_links : AreChoices link_names (choices link_names)
-unfolding choices
+unfolding choices all_links
 are_links = refl
 
 -- out of memory, any words are refused

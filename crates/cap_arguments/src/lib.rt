@@ -3,5 +3,6 @@
 
 pub mod arguments;
 mod examples;
+pub mod ids;
 pub mod laws;
 pub mod options;

@@ -1,6 +1,8 @@
 //! The subcommands and their arguments, as tables.
 
 use crate::examples::{COMPILE_HELP, EDIT_HELP, INFOS_HELP, MERGE_HELP, PRINT_HELP};
+use crate::ids;
+use cap_command::{LEAST_WINDOW, MOST_WINDOW};
 
 /// How an argument is named.
 #[derive(Clone, Copy)]
@@ -64,21 +66,21 @@ const MOST: i64 = 4_294_967_295;
 const FORMAT_HELP: &str = "Format to write, pcapng if none is given{n}";
 
 const FILE: Argument = Argument {
-    id: "FILE",
+    id: ids::FILE,
     name: Name::Place,
     value: Value::NeededFile,
     help: "The capture that is read, or - for standard input",
 };
 
 const MORE: Argument = Argument {
-    id: "MORE",
+    id: ids::MORE,
     name: Name::Place,
     value: Value::Words,
     help: "More captures",
 };
 
 const WORD: Argument = Argument {
-    id: "WORD",
+    id: ids::WORD,
     name: Name::Place,
     value: Value::Words,
     help: "The words of an expression, as in pcap-filter(7)",
@@ -90,79 +92,79 @@ const EDIT: CommandRow = CommandRow {
     examples: EDIT_HELP,
     arguments: &[
         Argument {
-            id: "keep",
+            id: ids::KEEP,
             name: Name::Letter('r'),
             value: Value::Flag,
             help: "Keep the packets of the ranges, and no others",
         },
         Argument {
-            id: "start",
+            id: ids::START,
             name: Name::Letter('A'),
             value: Value::Text("T"),
             help: "Keep times from T on: 2026-01-31T12:00:00Z, or seconds",
         },
         Argument {
-            id: "stop",
+            id: ids::STOP,
             name: Name::Letter('B'),
             value: Value::Text("T"),
             help: "Keep times before T",
         },
         Argument {
-            id: "chop_start",
+            id: ids::CHOP_START,
             name: Name::Long("chop-start"),
             value: Value::Number("N", 0, MOST),
             help: "Remove the first N captured bytes of each packet",
         },
         Argument {
-            id: "chop_end",
+            id: ids::CHOP_END,
             name: Name::Long("chop-end"),
             value: Value::Number("N", 0, MOST),
             help: "Remove the last N captured bytes, after --chop-start",
         },
         Argument {
-            id: "snap",
+            id: ids::SNAP,
             name: Name::Letter('s'),
             value: Value::Number("N", 1, MOST),
             help: "Keep at most N captured bytes, after the chops",
         },
         Argument {
-            id: "later",
+            id: ids::LATER,
             name: Name::Long("later"),
             value: Value::Text("S"),
             help: "Move times S seconds later, as 0.000000001",
         },
         Argument {
-            id: "earlier",
+            id: ids::EARLIER,
             name: Name::Long("earlier"),
             value: Value::Text("S"),
             help: "Move times S seconds earlier",
         },
         Argument {
-            id: "window",
+            id: ids::WINDOW,
             name: Name::Letter('D'),
-            value: Value::Number("N", 2, 1_000_000),
+            value: Value::Number("N", LEAST_WINDOW as i64, MOST_WINDOW as i64),
             help: "Leave out duplicates within N packets, 2 to 1000000",
         },
         Argument {
-            id: "FORMAT",
+            id: ids::FORMAT,
             name: Name::Letter('F'),
             value: Value::Format,
             help: FORMAT_HELP,
         },
         Argument {
-            id: "IN",
+            id: ids::IN,
             name: Name::Place,
             value: Value::NeededFile,
             help: "The capture that is read, or - for standard input",
         },
         Argument {
-            id: "OUT",
+            id: ids::OUT,
             name: Name::Place,
             value: Value::NeededFile,
             help: "The capture that is written, or - for standard output",
         },
         Argument {
-            id: "RANGE",
+            id: ids::RANGE,
             name: Name::Place,
             value: Value::Words,
             help: "Packets by their numbers from 1 on: N, or N-M from N to M",
@@ -176,19 +178,19 @@ const MERGE: CommandRow = CommandRow {
     examples: MERGE_HELP,
     arguments: &[
         Argument {
-            id: "append",
+            id: ids::APPEND,
             name: Name::Letter('a'),
             value: Value::Flag,
             help: "Join the captures, one behind another, and don't merge by time",
         },
         Argument {
-            id: "FORMAT",
+            id: ids::FORMAT,
             name: Name::Letter('F'),
             value: Value::Format,
             help: FORMAT_HELP,
         },
         Argument {
-            id: "OUT",
+            id: ids::OUT,
             name: Name::Letter('w'),
             value: Value::NeededFile,
             help: "The capture that is written, or - for standard output",
@@ -212,37 +214,37 @@ const PRINT: CommandRow = CommandRow {
     examples: PRINT_HELP,
     arguments: &[
         Argument {
-            id: "count",
+            id: ids::COUNT,
             name: Name::Letter('c'),
             value: Value::Wide("N", 1, u64::MAX),
             help: "End after N packets that match, 1 or more",
         },
         Argument {
-            id: "link",
+            id: ids::LINK_HEADER,
             name: Name::Letter('e'),
             value: Value::Flag,
             help: "Print the link header of each packet too",
         },
         Argument {
-            id: "bytes",
+            id: ids::BYTES,
             name: Name::Letter('x'),
             value: Value::Flag,
             help: "Print the bytes behind the link header too",
         },
         Argument {
-            id: "OUT",
+            id: ids::OUT,
             name: Name::Letter('w'),
             value: Value::File,
             help: "Write the packets to OUT (- is standard output) instead",
         },
         Argument {
-            id: "FORMAT",
+            id: ids::FORMAT,
             name: Name::Long("format"),
             value: Value::Format,
             help: FORMAT_HELP,
         },
         Argument {
-            id: "LISTING",
+            id: ids::LISTING,
             name: Name::Long("code"),
             value: Value::File,
             help: "Program to match by, in place of an expression",
@@ -258,7 +260,7 @@ const COMPILE: CommandRow = CommandRow {
     examples: COMPILE_HELP,
     arguments: &[
         Argument {
-            id: "LINK",
+            id: ids::LINK,
             name: Name::Long("link"),
             value: Value::Link,
             help: "What packets begin with, ether if none is given{n}",

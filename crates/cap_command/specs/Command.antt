@@ -41,12 +41,16 @@ is_proper_shift (shift.Earlier span) = is_time span
 abbrev pub is_at_least_one : ℕ → Bool
 is_at_least_one n = nat_le 1 n
 
--- how many packets a window for duplicates has at most, the one that is looked up among them
+-- how many packets a window for duplicates has at least, the one that is looked up among them, and
+-- at most
+abbrev pub least_window : ℕ
+least_window = 2
+
 abbrev pub most_window : ℕ
 most_window = 1_000_000
 
 abbrev pub is_window : ℕ → Bool
-is_window n = nat_le 2 n && nat_le n most_window
+is_window n = nat_le least_window n && nat_le n most_window
 
 -- ranges, times, the bytes that are kept, a shift and a window keep their bounds, where there are
 -- some

@@ -18,7 +18,10 @@ pub const MOST_RANGES: usize = 512;
 /// How many inputs a merge or a report has at most.
 pub const MOST_INPUTS: usize = 256;
 
-/// How many packets a window for duplicates has at most, the one that is looked up among them.
+/// How many packets a window for duplicates has at least, the one that is looked up among them.
+pub const LEAST_WINDOW: u32 = 2;
+
+/// How many packets it has at most.
 pub const MOST_WINDOW: u32 = 1_000_000;
 
 /// A command, over the allocator of its lists.
@@ -53,8 +56,8 @@ pub struct Edit<A: Allocator = Global> {
     pub snap: Option<u32>,
     /// What is done to times.
     pub shift: Shift,
-    /// Where there is one, a packet is left out that is a duplicate within so many packets in a
-    /// row, itself among them: 2 to 1,000,000.
+    /// Where there is one, a packet is left out that is a duplicate within this number of packets
+    /// in a row, itself among them: `LEAST_WINDOW` to `MOST_WINDOW`.
     pub window: Option<u32>,
     /// The format that is written.
     pub format: Format,
@@ -109,10 +112,10 @@ pub struct Compile<A: Allocator = Global> {
 impl<A: Allocator> Command<A> {
     /// Whether the command may be run on so many inputs.
     ///
-    /// - An edit has one input, at most 512 ranges, each from 1 on, in order and below 2^63, times
-    ///   and spans below 2^63 nanoseconds, packets that keep at least 1 byte, and a window of 2 to
-    ///   1,000,000 packets.
-    /// - A merge and a report have 1 to 256 inputs.
+    /// - An edit has one input, at most `MOST_RANGES` ranges, each from 1 on, in order and below
+    ///   2^63, times and spans below 2^63 nanoseconds, packets that keep at least 1 byte, and a
+    ///   window of `LEAST_WINDOW` to `MOST_WINDOW` packets.
+    /// - A merge and a report have 1 to `MOST_INPUTS` inputs.
     /// - A print has one input, no listing beside words, a count of at least 1, and a format only
     ///   where its lines have neither link headers nor bytes.
     /// - A compilation has no input.
@@ -128,7 +131,7 @@ impl<A: Allocator> Command<A> {
     }
 }
 
-/// Whether a merge or a report may have so many inputs: 1 to 256.
+/// Whether a merge or a report may have this number of inputs.
 fn is_input_count(inputs: usize) -> bool
     ensures { result ≡ is_input_count inputs }
 {
@@ -191,7 +194,7 @@ fn allows_window(window: Option<u32>) -> bool
     ensures { result ≡ option_map_or is_window window true }
 {
     match window {
-        Some(count) => 2 <= count && count <= MOST_WINDOW,
+        Some(count) => LEAST_WINDOW <= count && count <= MOST_WINDOW,
         None => true,
     }
 }

@@ -2,9 +2,8 @@
 #![tactic(auto)]
 
 mod command;
-mod engine;
 
 pub use command::{
-    Command, Compile, Edit, MOST_INPUTS, MOST_RANGES, MOST_WINDOW, Merge, Print, Shift, is_range,
+    Command, Compile, Edit, LEAST_WINDOW, MOST_INPUTS, MOST_RANGES, MOST_WINDOW, Merge, Print,
+    Shift, is_range,
 };
-pub use engine::Engine;

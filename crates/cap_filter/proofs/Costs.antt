@@ -6,7 +6,7 @@ use Rattle.flt_tree.specs.Tree.{Expression, empty, truth}
 use Rattle.flt_tree.specs.Counts.{bound_of}
 use Rattle.cap_octet.specs.declared.link.Link.{Link}
 use Rattle.cap_filter.specs.Programs.{AreMade, IsMade, HasPrograms, steps_of_run, met_on, ran_at, spent_in}
-use Rattle.cap_filter.specs.Links.{link_types}
+use Rattle.cap_octet.specs.Link.{all_links}
 use Rattle.cap_filter.specs.FilterRules.{by_reading}
 use Rattle.cap_filter.specs.Filters.{most_cost}
 
@@ -16,12 +16,12 @@ made-cost program e link p made =
     let is : steps_of_run (met_on p program.insns) ≡ d.count = ap steps_of_run d.answered in
     omega (arith, is, d.upper_bound, made.right.bounded)
 
-cost-at : (e : Expression) (rows : List (ℕ × Link)) (programs : List Content) (i : ℕ) (p : Captured) → AreMade e rows programs → spent_in (ran_at i p programs) ≤ spent_in programs + bound_of e
-cost-at e rows [] i p made = omega arith
+cost-at : (e : Expression) (links : List Link) (programs : List Content) (i : ℕ) (p : Captured) → AreMade e links programs → spent_in (ran_at i p programs) ≤ spent_in programs + bound_of e
+cost-at e links [] i p made = omega arith
 cost-at e [] (program ∷ programs) i p made = absurd made
-cost-at e (row ∷ rows) (program ∷ programs) zero p made = let upper_bound = made-cost program e row.1 p made.0 in omega (arith, upper_bound)
-cost-at e (row ∷ rows) (program ∷ programs) (suc i) p made = let upper_bound = cost-at e rows programs i p made.1 in omega (arith, upper_bound)
+cost-at e (link ∷ links) (program ∷ programs) zero p made = let upper_bound = made-cost program e link p made.0 in omega (arith, upper_bound)
+cost-at e (link ∷ links) (program ∷ programs) (suc i) p made = let upper_bound = cost-at e links programs i p made.1 in omega (arith, upper_bound)
 
 pub bounded-ran : (e : Expression) (programs : List Content) (i : ℕ) (p : Captured) → HasPrograms e programs → spent_in (ran_at i p programs) ≤ spent_in programs + most_cost (by_reading e)
 bounded-ran empty programs i p sound = absurd sound.some
-bounded-ran (truth a) programs i p sound = cost-at (truth a) link_types programs i p sound.made
+bounded-ran (truth a) programs i p sound = cost-at (truth a) all_links programs i p sound.made

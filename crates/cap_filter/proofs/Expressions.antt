@@ -6,8 +6,8 @@ use Rattle.flt_words.specs.declared.fault.ExprFault.TheVariants as fault
 use Rattle.flt_words.specs.declared.token.Token.{Token}
 use Rattle.flt_words.specs.Tokens.{Tokens}
 use Rattle.flt_tree.specs.Tree.{Expression}
-use Rattle.flt_reader.specs.Grammar.{IsReadAs, kinds_of}
-use Rattle.flt_reader.specs.Nesting.{IsTooDeep}
+use Rattle.flt_lang.specs.Grammar.{IsReadAs, kinds_of}
+use Rattle.flt_lang.specs.Nesting.{IsTooDeep}
 use Rattle.flt_tree.specs.Filled.{fill_expression}
 use Rattle.flt_tree.specs.Resolved.{fill_fault}
 use Rattle.flt_tree.specs.Checks.{check_fault}

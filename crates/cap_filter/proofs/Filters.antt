@@ -3,9 +3,10 @@ use Rattle.std.proofs.Common.{◌≡◌, ◌≢◌, ◌↔◌, ◌<◌, All, ℕ
 use Rattle.std.proofs.Math.Seq.{take-append_seam}
 use Rattle.std.proofs.lemmas.Bool.{ltb-true, ne_eqb}
 use Rattle.std.proofs.lemmas.List.Elements.{All-append}
-use Rattle.std.proofs.lemmas.Option.{slice_get-get_or}
-use Rattle.std.specs.List.{position, position_or_len}
-use Rattle.std.specs.Option.{option_map}
+use Rattle.std.proofs.lemmas.Bool.Decides.{nat_tests}
+use Rattle.std.proofs.lemmas.List.Folds.{find_at}
+use Rattle.std.proofs.lemmas.Option.{slice_get-get_or, slice_get_past}
+use Rattle.std.specs.List.{find, position, position_or_len}
 use Rattle.cap_octet.specs.declared.fault.Fault.TheVariants.{LinkTypeNotFiltered}
 use Rattle.cap_octet.specs.Packet.{Captured}
 use Rattle.flt_bpf.specs.declared.insn.Insn.{Insn}
@@ -19,9 +20,9 @@ use Rattle.flt_code.specs.Elementary.{Reading, Yes, No, Rejected}
 use Rattle.flt_gen.specs.Reading.{holds}
 use Rattle.cap_filter.specs.Decisions.{ReturnsDecision}
 use Rattle.cap_filter.specs.Programs.{AreMade, IsMade, HasPrograms, steps_of_run, met_on, ran_at, ran_if, ran_on}
-use Rattle.cap_filter.specs.Links.{link_of_row, link_of, link_types, row_of_link_type}
+use Rattle.cap_octet.specs.Link.{all_links, link_of, link_type}
 use Rattle.cap_filter.specs.FilterRules.{by_reading, expression_decides, decision_of, read_on}
-use Rattle.cap_filter.specs.Filters.{spent_on}
+use Rattle.cap_filter.specs.Filters.{program_place, spent_on}
 
 -- ---- the answer
 
@@ -49,19 +50,19 @@ run-answers prog e link p n answer count is met =
 
 -- ---- the programs of a table
 
-pub made-length : (e : Expression) (rows : List (ℕ × Link)) (programs : List Content) → AreMade e rows programs → length programs ≡ length rows
+pub made-length : (e : Expression) (links : List Link) (programs : List Content) → AreMade e links programs → length programs ≡ length links
 made-length e [] [] made = refl
 made-length e [] (program ∷ programs) made = absurd made
-made-length e (row ∷ rows) [] made = absurd made
-made-length e (row ∷ rows) (program ∷ programs) made = ap (λ n. suc n) (made-length e rows programs made.1)
+made-length e (link ∷ links) [] made = absurd made
+made-length e (link ∷ links) (program ∷ programs) made = ap (λ n. suc n) (made-length e links programs made.1)
 
 -- one program more
-pub made-put : (e : Expression) (rows : List (ℕ × Link)) (programs : List Content) (row : ℕ × Link) (program : Content) → AreMade e rows programs → IsMade program e row.1
-    → AreMade e (rows ++ row ∷ []) (programs ++ program ∷ [])
-made-put e [] [] row program made is = (is, tt)
-made-put e [] (other ∷ programs) row program made is = absurd made
-made-put e (first ∷ rows) [] row program made is = absurd made
-made-put e (first ∷ rows) (other ∷ programs) row program made is = (made.0, made-put e rows programs row program made.1 is)
+pub made-put : (e : Expression) (links : List Link) (programs : List Content) (link : Link) (program : Content) → AreMade e links programs → IsMade program e link
+    → AreMade e (links ++ link ∷ []) (programs ++ program ∷ [])
+made-put e [] [] link program made is = (is, tt)
+made-put e [] (other ∷ programs) link program made is = absurd made
+made-put e (first ∷ links) [] link program made is = absurd made
+made-put e (first ∷ links) (other ∷ programs) link program made is = (made.0, made-put e links programs link program made.1 is)
 
 fresh-one : (program : Content) → program.spent ≡ 0 → All (λ (c : Content). c.spent ≡ 0) (program ∷ [])
 fresh-one program is zero d within = is
@@ -71,23 +72,23 @@ pub fresh-put : (programs : List Content) (program : Content) → All (λ (c : C
 fresh-put programs program fresh is =
     All-append (λ (c : Content). c.spent ≡ 0) programs (program ∷ []) fresh (fresh-one program is)
 
--- the program of a row
-pub made-at : (e : Expression) (rows : List (ℕ × Link)) (programs : List Content) (i : ℕ) (row : ℕ × Link) (d : Content) → AreMade e rows programs → slice_get rows i ≡ Some row
-    → IsMade (get_or programs i d) e row.1
-made-at e [] programs i row d made is = (cc)
-made-at e (first ∷ rows) [] i row d made is = absurd made
-made-at e (first ∷ rows) (program ∷ programs) zero row d made is =
-    let same : first ≡ row = (cc is) in
-    subst (λ (r : ℕ × Link). IsMade program e r.1) same made.0
-made-at e (first ∷ rows) (program ∷ programs) (suc i) row d made is = made-at e rows programs i row d made.1 is
+-- the program of a link
+pub made-at : (e : Expression) (links : List Link) (programs : List Content) (i : ℕ) (link : Link) (d : Content) → AreMade e links programs → slice_get links i ≡ Some link
+    → IsMade (get_or programs i d) e link
+made-at e [] programs i link d made is = (cc)
+made-at e (first ∷ links) [] i link d made is = absurd made
+made-at e (first ∷ links) (program ∷ programs) zero link d made is =
+    let same : first ≡ link = (cc is) in
+    subst (IsMade program e) same made.0
+made-at e (first ∷ links) (program ∷ programs) (suc i) link d made is = made-at e links programs i link d made.1 is
 
 -- programs keep their instructions when they run
-pub made-ran : (e : Expression) (rows : List (ℕ × Link)) (programs : List Content) (i : ℕ) (p : Captured) → AreMade e rows programs → AreMade e rows (ran_at i p programs)
+pub made-ran : (e : Expression) (links : List Link) (programs : List Content) (i : ℕ) (p : Captured) → AreMade e links programs → AreMade e links (ran_at i p programs)
 made-ran e [] [] i p made = tt
 made-ran e [] (program ∷ programs) i p made = absurd made
-made-ran e (row ∷ rows) [] i p made = absurd made
-made-ran e (row ∷ rows) (program ∷ programs) zero p made = (record { valid = made.0.valid; right = made.0.right }, made.1)
-made-ran e (row ∷ rows) (program ∷ programs) (suc i) p made = (made.0, made-ran e rows programs i p made.1)
+made-ran e (link ∷ links) [] i p made = absurd made
+made-ran e (link ∷ links) (program ∷ programs) zero p made = (record { valid = made.0.valid; right = made.0.right }, made.1)
+made-ran e (link ∷ links) (program ∷ programs) (suc i) p made = (made.0, made-ran e links programs i p made.1)
 
 -- ---- the cost
 
@@ -122,42 +123,54 @@ put-back n i p items lent new same count is =
 
 -- ---- the program of a packet
 
-position-within : {X : Type 0} (test : X → Bool) (xs : List X) (i : ℕ) → position test xs ≡ Some i → i < length xs
-position-within test xs i is = by_test (nat_lt (position_or_len test xs) (length xs)) refl is
+position-is : {X : Type 0} (test : X → Bool) (xs : List X) (i : ℕ) → position test xs ≡ Some i → (position_or_len test xs ≡ i) × (i < length xs)
+position-is test xs i is = by_test (nat_lt (position_or_len test xs) (length xs)) refl is
   where
-    by_test : (b : Bool) → nat_lt (position_or_len test xs) (length xs) ≡ b → cond b (Some (position_or_len test xs)) None ≡ Some i → i < length xs
+    by_test : (b : Bool) → nat_lt (position_or_len test xs) (length xs) ≡ b → cond b (Some (position_or_len test xs)) None ≡ Some i → (position_or_len test xs ≡ i) × (i < length xs)
     by_test true less is =
         let same : position_or_len test xs ≡ i = (cc is) in
-        subst (λ n. n < length xs) same (ltb-true (position_or_len test xs) (length xs) less)
+        (same, subst (λ n. n < length xs) same (ltb-true (position_or_len test xs) (length xs) less))
     by_test false less is = (cc is)
 
--- a link type's row is in the table
-pub place-within : (e : Expression) (programs : List Content) (n i : ℕ) → HasPrograms e programs → row_of_link_type n ≡ Some i → i < length programs
+found-at : {X : Type 0} (test : X → Bool) (xs : List X) (i : ℕ) → position test xs ≡ Some i → find test xs ≡ slice_get xs i
+found-at test xs i is = find_at test xs ∙ ap (slice_get xs) (position-is test xs i is).0
+
+found-nowhere : {X : Type 0} (test : X → Bool) (xs : List X) → position test xs ≡ None → find test xs ≡ None
+found-nowhere test xs is = find_at test xs ∙ by_test (nat_lt (position_or_len test xs) (length xs)) refl is
+  where
+    by_test : (b : Bool) → nat_lt (position_or_len test xs) (length xs) ≡ b → cond b (Some (position_or_len test xs)) None ≡ None → slice_get xs (position_or_len test xs) ≡ None
+    by_test true less is = (cc is)
+    by_test false less is = slice_get_past xs (position_or_len test xs) (grind (arith, nat_tests))
+
+-- a link type's program is there
+pub place-within : (e : Expression) (programs : List Content) (n i : ℕ) → HasPrograms e programs → program_place n ≡ Some i → i < length programs
 place-within e programs n i sound is =
-    subst (λ count. i < count) (sym (made-length e link_types programs sound.made)) (position-within (λ row. row.0 == n) link_types i is)
+    subst (λ count. i < count) (sym (made-length e all_links programs sound.made)) (position-is (λ link. link_type link == n) all_links i is).1
 
--- a link type without a row has no link
-pub answers-none : (e : Expression) (programs : List Content) (p : Captured) → HasPrograms e programs → row_of_link_type p.link ≡ None → ReturnsDecision (expression_decides e p) (Err LinkTypeNotFiltered)
+-- a link type without a program has no link
+pub answers-none : (e : Expression) (programs : List Content) (p : Captured) → HasPrograms e programs → program_place p.link ≡ None → ReturnsDecision (expression_decides e p) (Err LinkTypeNotFiltered)
 answers-none empty programs p sound none = absurd sound.some
-answers-none (truth a) programs p sound none = rw none refl
+answers-none (truth a) programs p sound none =
+    rw (found-nowhere (λ link. link_type link == p.link) all_links none) refl
 
--- the program of its row accepts it where a packet passes
-pub answers-at : (e : Expression) (programs : List Content) (p : Captured) (i answer count : ℕ) → HasPrograms e programs → row_of_link_type p.link ≡ Some i
+-- the program of its link accepts it where a packet passes
+pub answers-at : (e : Expression) (programs : List Content) (p : Captured) (i answer count : ℕ) → HasPrograms e programs → program_place p.link ≡ Some i
     → ((d : Content) → met_on p (get_or programs i d).insns ≡ Answered answer count) → ReturnsDecision (expression_decides e p) (Ok (not (nat_eq answer 0)))
 answers-at empty programs p i answer count sound is met = absurd sound.some
 answers-at (truth a) programs p i answer count sound is met =
-    let row : ℕ × Link = get_or link_types i (0, Ether) in
-    let here : slice_get link_types i ≡ Some row = slice_get-get_or link_types i (0, Ether) (position-within (λ row. row.0 == p.link) link_types i is) in
-    let linked : link_of p.link ≡ Some row.1 = ap link_of_row is ∙ ap (λ (o : Option (ℕ × Link)). option_map (λ (row : ℕ × Link). row.1) o) here in
+    let test : Link → Bool = λ link. link_type link == p.link in
+    let link : Link = get_or all_links i Ether in
+    let here : slice_get all_links i ≡ Some link = slice_get-get_or all_links i Ether (position-is test all_links i is).1 in
+    let linked : link_of p.link ≡ Some link = found-at test all_links i is ∙ here in
     let none : Content = record { insns = []; spent = 0 } in
     let program : Content = get_or programs i none in
     subst (λ (l : Option Link). ReturnsDecision (read_on (truth a) l p) (Ok (not (nat_eq answer 0)))) (sym linked)
-    (run-answers program.insns (truth a) row.1 p.bytes p.orig answer count (made-at (truth a) link_types programs i row none sound.made here).right (met none))
+    (run-answers program.insns (truth a) link p.bytes p.orig answer count (made-at (truth a) all_links programs i link none sound.made here).right (met none))
 
 pub sound-ran : (e : Expression) (programs : List Content) (p : Captured) (i : ℕ) → HasPrograms e programs → HasPrograms e (ran_at i p programs)
-sound-ran e programs p i sound = record { some = sound.some; made = made-ran e link_types programs i p sound.made }
+sound-ran e programs p i sound = record { some = sound.some; made = made-ran e all_links programs i p sound.made }
 
 -- which program an expression runs that isn't empty
-pub reading-spends : (e : Expression) (programs : List Content) (p : Captured) (place : Option ℕ) → HasPrograms e programs → row_of_link_type p.link ≡ place → spent_on (by_reading e) p programs ≡ ran_if place p programs
+pub reading-spends : (e : Expression) (programs : List Content) (p : Captured) (place : Option ℕ) → HasPrograms e programs → program_place p.link ≡ place → spent_on (by_reading e) p programs ≡ ran_if place p programs
 reading-spends empty programs p place sound is = absurd sound.some
 reading-spends (truth a) programs p place sound is = rw is refl

@@ -1,4 +1,3 @@
 pub mod Costs
 pub mod Expressions
 pub mod Filters
-pub mod Refusals

@@ -15,7 +15,7 @@ use Rattle.cap_filter.specs.declared.refusal.Refusal.{Refusal}
 use Rattle.cap_filter.specs.declared.refusal.Refusal.TheVariants as refusal
 use Rattle.cap_filter.specs.Decisions.{Decision, Keep, Skip, Refuse, keep_if}
 use Rattle.cap_filter.specs.Expressions.{IsExpression, IsTextFault}
-use Rattle.cap_filter.specs.Links.{link_of}
+use Rattle.cap_octet.specs.Link.{link_of}
 
 -- ---- which packets pass
 

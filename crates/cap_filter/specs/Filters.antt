@@ -1,5 +1,5 @@
 -- What a contract sees of a filter: its rule and its programs, and what their runs cost.
-use Rattle.std.specs.Prelude.{◌≡◌, ℕ, List, [], ◌∷◌, All, length, Option, None, Some}
+use Rattle.std.specs.Prelude.{◌≡◌, ◌==◌, ℕ, List, [], ◌∷◌, All, length, Option, None, Some}
 use Rattle.cap_octet.specs.Packet.{Captured}
 use Rattle.flt_bpf.specs.Content.{Content}
 use Rattle.flt_tree.specs.Counts.{bound_of}
@@ -7,7 +7,8 @@ use Rattle.flt_tree.specs.Tree.{empty, truth}
 use Rattle.cap_filter.specs.declared.filter.Filter.{Filter}
 use Rattle.cap_filter.specs.declared.filter.Filter.TheVariants as filter
 use Rattle.cap_filter.specs.Programs.{AreMade, ran_if}
-use Rattle.cap_filter.specs.Links.{link_types, row_of_link_type}
+use Rattle.std.specs.List.{position}
+use Rattle.cap_octet.specs.Link.{all_links, link_type}
 use Rattle.cap_filter.specs.FilterRules.{Rule, by_reading, by_answer}
 
 -- ---- the filter
@@ -17,7 +18,7 @@ rule_of filter.All = by_reading empty
 rule_of (filter.Expression compiled) = by_reading compiled.tree
 rule_of (filter.Listing program) = by_answer program.insns
 
--- its programs: of an expression one for each link type, in their order; or the listing's
+-- its programs: of an expression one for each link, in their order; or the listing's
 abbrev pub programs_of : {Z : Type 0} → Filter Z → List Content
 programs_of filter.All = []
 programs_of (filter.Expression compiled) = compiled.programs
@@ -28,13 +29,17 @@ programs_of (filter.Listing program) = program ∷ []
 abbrev pub AreNew : Rule → List Content → Type 0
 AreNew (by_reading empty) programs = programs ≡ []
 AreNew (by_reading (truth a)) programs =
-    AreMade (truth a) link_types programs × All (λ program. program.spent ≡ 0) programs
+    AreMade (truth a) all_links programs × All (λ program. program.spent ≡ 0) programs
 AreNew (by_answer prog) programs = programs ≡ record { insns = prog; spent = 0 } ∷ []
+
+-- the place of the program for a link type, if expressions are read on it
+abbrev pub program_place : ℕ → Option ℕ
+program_place n = position (λ link. link_type link == n) all_links
 
 -- the place of the program that decides the packets of a link type, if one is needed
 abbrev pub place_by : Rule → ℕ → Option ℕ
 place_by (by_reading empty) n = None
-place_by (by_reading (truth a)) n = row_of_link_type n
+place_by (by_reading (truth a)) n = program_place n
 place_by (by_answer prog) n = Some 0
 
 -- how many instructions deciding a packet meets at most: what the bound of the expression says, or

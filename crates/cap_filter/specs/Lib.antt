@@ -2,8 +2,6 @@ pub mod Decisions
 pub mod Compilation
 pub mod Programs
 pub mod Expressions
-pub mod Links
-pub mod Messages
 pub mod FilterRules
 pub mod Filters
-pub mod Outcome
+pub mod Refusals

@@ -12,11 +12,11 @@ use Rattle.flt_tree.specs.contracts.node.Node as stored
 use Rattle.flt_tree.specs.Nodes.{expr_nodes, tree_of, tree_back}
 use Rattle.cap_octet.specs.declared.link.Link.{Link}
 use Rattle.flt_gen.specs.Correct.{IsProgramOf}
-use Rattle.cap_filter.specs.Links.{link_types}
+use Rattle.cap_octet.specs.Link.{all_links}
 
 -- ---- an expression with its programs
 
--- an expression, and its programs in the order of the table of link types
+-- an expression, and its programs in the order of the links
 pub record CompiledView : Type 0 where
   pub tree : Expression
   pub programs : List Content
@@ -37,17 +37,17 @@ pub record IsMade (program : Content) (e : Expression) (link : Link) : Type 0 wh
   pub valid : IsValid program.insns
   pub right : IsProgramOf program.insns e link
 
--- one such program for each row of a table of link types, in its order
-abbrev pub AreMade : Expression → List (ℕ × Link) → List Content → Type 0
+-- one such program for each of some links, in their order
+abbrev pub AreMade : Expression → List Link → List Content → Type 0
 AreMade e [] [] = Unit {0}
 AreMade e [] (program ∷ programs) = ⊥
-AreMade e (row ∷ rows) [] = ⊥
-AreMade e (row ∷ rows) (program ∷ programs) = IsMade program e row.1 × AreMade e rows programs
+AreMade e (link ∷ links) [] = ⊥
+AreMade e (link ∷ links) (program ∷ programs) = IsMade program e link × AreMade e links programs
 
--- the expression isn't empty, and has its program for each link type
+-- the expression isn't empty, and has its program for each link
 pub record HasPrograms (e : Expression) (programs : List Content) : Type 0 where
   pub some : IsTruth e
-  pub made : AreMade e link_types programs
+  pub made : AreMade e all_links programs
 
 -- ---- runs
 

@@ -4,9 +4,9 @@ ghost use Rattle.cap_octet.specs.Packet.{captured};
 ghost use Rattle.flt_bpf.specs.Content.{Content};
 ghost use Rattle.flt_bpf.specs.Machine.{Answered};
 ghost use Rattle.cap_filter.specs.Programs.{AreMade, met_on, ran_at};
-ghost use Rattle.cap_filter.specs.Links.{row_of_link_type};
+ghost use Rattle.cap_filter.specs.Filters.{program_place};
+ghost use Rattle.cap_octet.specs.Link.{link_type};
 
-use cap_octet::assigned::{LINKTYPE_ETHERNET, LINKTYPE_LINUX_SLL, LINKTYPE_RAW};
 use cap_octet::{Fault, Link, Packet};
 use flt_bpf::{Program, run};
 use flt_gen::generate;
@@ -14,15 +14,7 @@ use flt_lang::Checked;
 use std::alloc::{AllocError, Allocator};
 use std::marker::Model;
 
-/// The link types whose packets expressions are read on, and their links.
-const LINK_TYPES: [(u16, Link); 3] = [
-    (LINKTYPE_ETHERNET, Link::Ether),
-    (LINKTYPE_RAW, Link::Raw),
-    (LINKTYPE_LINUX_SLL, Link::Cooked),
-];
-
-/// An expression that isn't empty, and its program for each link type, in the order of the table
-/// above.
+/// An expression that isn't empty, and its program for each link, in the order of `Link::ALL`.
 #[derive(Drop)]
 pub struct Compiled<A: Allocator> {
     tree: Checked<A>,
@@ -42,31 +34,31 @@ impl<A: Allocator> Model for Compiled<A> {
     ghost invariant = { λ c. HasPrograms c.tree.expr c.programs.items };
 }
 
-fn place_in(table: &[(u16, Link)], number: u16) -> Option<usize>
-    ensures { result ≡ position (λ row. row.0 == number) table.now }
+fn place_in(links: &[Link], number: u16) -> Option<usize>
+    ensures { result ≡ position (λ link. link_type link == number) links.now }
 {
-    table.iter().position(|row| row.0 == number)
+    links.iter().position(|link| link.link_type() == number)
 }
 
-/// The row of a link type in the table, if expressions are read on it.
-#[tactic(auto, unfolding(crate::specs::Links::link_types))]
-fn place_of(number: u16) -> Option<usize>
-    ensures { result ≡ row_of_link_type number }
+/// The place of the program for a link type, if expressions are read on it.
+#[tactic(auto, unfolding(cap_octet::specs::Link::all_links))]
+fn program_place(number: u16) -> Option<usize>
+    ensures { result ≡ program_place number }
 {
-    place_in(&LINK_TYPES, number)
+    place_in(&Link::ALL, number)
 }
 
-/// A program for each row of a table. An error means that memory ran out.
+/// A program for each of some links. An error means that memory ran out.
 fn make_programs<A: Allocator + Copy + Drop>(
     alloc: A,
     tree: &Checked<A>,
-    table: &[(u16, Link)],
+    links: &[Link],
 ) -> Result<Vec<Program<A>, A>, AllocError>
-    ensures made { IfOk result (λ programs. AreMade tree.now.expr table.now programs.items) }
+    ensures made { IfOk result (λ programs. AreMade tree.now.expr links.now programs.items) }
     ensures fresh { IfOk result (λ programs. All (λ program. program.spent ≡ 0) programs.items) }
 {
     let mut programs = Vec::new(alloc);
-    for (_, link) in table {
+    for link in links {
         let program = generate(alloc, tree, *link)?;
         // The proof learns here that the program is valid.
         let _ = program.insns();
@@ -95,22 +87,22 @@ impl<A: Allocator> Compiled<A> {
     ghost use Rattle.cap_octet.specs.Packet.{captured};
     ghost use Rattle.cap_filter.specs.Decisions.{ReturnsDecision};
     ghost use Rattle.cap_filter.specs.Programs.{AreMade, IsTruth, spent_in};
-    ghost use Rattle.cap_filter.specs.Links.{link_types};
+    ghost use Rattle.cap_octet.specs.Link.{all_links};
     ghost use Rattle.cap_filter.specs.FilterRules.{by_reading, expression_decides};
     ghost use Rattle.cap_filter.specs.Filters.{most_cost, spent_on};
 
     /// Makes the programs of a tree. An error means that memory ran out.
-    #[tactic(auto, unfolding(crate::specs::Links::link_types))]
+    #[tactic(auto, unfolding(cap_octet::specs::Link::all_links))]
     pub fn new(alloc: A, tree: Checked<A>) -> Result<Self, AllocError>
     where
         A: Copy + Drop,
         requires { IsTruth tree.expr }
         ensures tree { IfOk result (λ compiled. compiled.tree ≡ tree.expr) }
-        ensures made { IfOk result (λ compiled. AreMade tree.expr link_types compiled.programs) }
+        ensures made { IfOk result (λ compiled. AreMade tree.expr all_links compiled.programs) }
         ensures fresh { IfOk result (λ compiled. All (λ program. program.spent ≡ 0)
             compiled.programs) }
     {
-        let programs = make_programs(alloc, &tree, &LINK_TYPES)?;
+        let programs = make_programs(alloc, &tree, &Link::ALL)?;
         Ok(Compiled { tree, programs })
     }
 
@@ -126,7 +118,7 @@ impl<A: Allocator> Compiled<A> {
     {
         // The proof learns here that the expression isn't empty.
         let _ = &self.tree;
-        let Some(place) = place_of(packet.link) else {
+        let Some(place) = program_place(packet.link) else {
             return Err(Fault::LinkTypeNotFiltered);
         };
         let (answer, _) = run_at(&mut self.programs, place, packet);

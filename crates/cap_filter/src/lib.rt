@@ -5,5 +5,4 @@ pub mod compile;
 mod compiled;
 pub mod expression;
 pub mod filter;
-pub mod message;
 pub mod refusal;

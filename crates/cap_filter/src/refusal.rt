@@ -1,6 +1,6 @@
 //! Why a filter is refused.
 ghost use Rattle.std.specs.Prelude.{◌≡◌};
-ghost use Rattle.cap_filter.specs.Messages.{refusal_status};
+ghost use Rattle.cap_filter.specs.Refusals.{refusal_status};
 
 use flt_bpf::{CheckFault, ListingFault};
 use flt_words::ExprFault;

@@ -2,9 +2,10 @@
 use Rattle.std.proofs.Common.{◌≡◌, ℕ, List, [], ◌∷◌, map, length, Bool, refl, ◌∙◌, ap}
 use Rattle.cap_inputs.specs.declared.inputs.Schedule.{Schedule}
 use Rattle.cap_inputs.specs.Cursor.{first_schedule, ordering_of}
-use Rattle.cap_inputs.specs.Sequence.{PacketOrder, InTurn, ByTime, order_of}
+use Rattle.cap_io.specs.Sequence.{PacketOrder, InTurn, ByTime, order_of}
 use Rattle.cap_inputs.specs.Inputs.{InputView}
-use Rattle.cap_inputs.specs.Fresh.{FreshInput, fresh_view, fresh_inputs}
+use Rattle.cap_octet.specs.Views.{FreshInput}
+use Rattle.cap_inputs.specs.Fresh.{fresh_view, fresh_inputs}
 
 map-map : {X : Type 0} (f : X → FreshInput) (xs : List X) → map (λ x. fresh_view (f x)) xs ≡ map fresh_view (map f xs)
 map-map f [] = refl

@@ -14,7 +14,7 @@ use Rattle.cap_inputs.specs.Queue.{Queue, NotAfter, Precedes, IsFirstWaiting, is
 use Rattle.cap_octet.specs.declared.fault.Fault.{Fault}
 use Rattle.cap_inputs.specs.Cursor.{EntersQueue, HasPlaceFor, HoldsQueue, IsNextAt, IsQueued, Leaves, TakesFirst, first_schedule, is_merge, schedule_after, schedule_behind, waiting_total, waits_with}
 use Rattle.cap_inputs.specs.Inputs.{InputView, NoneWaits, IsLeast, KeysOver, KeysFrom, IsInput, is_packet_found, key_of, waiting_count}
-use Rattle.cap_inputs.specs.Sequence.{order_of}
+use Rattle.cap_io.specs.Sequence.{order_of}
 use Rattle.cap_inputs.proofs.Cursors.{set-here}
 
 -- ---- tests

@@ -4,7 +4,7 @@ use Rattle.std.proofs.lemmas.List.{append_assoc}
 use Rattle.std.proofs.lemmas.Bool.Decides.{nat_tests}
 use Rattle.cap_octet.specs.declared.fault.Fault.{Fault}
 use Rattle.cap_io.specs.Capture.{Placed, Items, Ending}
-use Rattle.cap_inputs.specs.Sequence.{Event, Packet, SequenceEnd, Complete, FaultIn, Sequence, with_front, InputItems, Entry, end_behind, entries_of, input_entries, all_entries, comes_before, insert_entry, sort_entries, end_or_more, sequence_of_entries, end_at, first_end, fault_in_front, unless_fault, sequence_by_time}
+use Rattle.cap_io.specs.Sequence.{Event, Packet, SequenceEnd, Complete, FaultIn, Sequence, with_front, InputItems, Entry, end_behind, entries_of, input_entries, all_entries, comes_before, insert_entry, sort_entries, end_or_more, sequence_of_entries, end_at, first_end, fault_in_front, unless_fault, sequence_by_time}
 
 -- a fact of each
 abbrev pub Each : (Entry → Type 0) → List Entry → Type 0

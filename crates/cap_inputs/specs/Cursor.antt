@@ -11,7 +11,7 @@ use Rattle.cap_inputs.specs.declared.inputs.Schedule.{Schedule}
 use Rattle.cap_inputs.specs.declared.inputs.Schedule.TheVariants.{Turn, Merge}
 use Rattle.cap_inputs.specs.declared.inputs.Next.{Next}
 use Rattle.cap_inputs.specs.declared.inputs.Next.TheVariants as next
-use Rattle.cap_inputs.specs.Sequence.{PacketOrder, InTurn, ByTime}
+use Rattle.cap_io.specs.Sequence.{PacketOrder, InTurn, ByTime}
 use Rattle.cap_inputs.specs.Inputs.{InputView, IsInput, IsLeast, IsOpen, IsReady, NoneEnded, NoneWaits, AllReady, key_of, waiting_count}
 
 abbrev pub ordering_of : Schedule → PacketOrder

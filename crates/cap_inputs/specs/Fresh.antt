@@ -1,25 +1,9 @@
 -- Inputs as they are handed over.
-use Rattle.std.specs.Prelude.{ℕ, ◌+◌, false, List, [], length, map, Option}
-use Rattle.cap_octet.specs.declared.device.Input as input
+use Rattle.std.specs.Prelude.{ℕ, ◌+◌, false, List, [], length, map}
+use Rattle.cap_octet.specs.Views.{FreshInput}
 use Rattle.cap_io.specs.Source.{source_at}
-use Rattle.cap_inputs.specs.Sequence.{PacketOrder}
+use Rattle.cap_io.specs.Sequence.{PacketOrder}
 use Rattle.cap_inputs.specs.Inputs.{DeviceLimits, InputView, InputsView, InputPast}
-
--- an input of which nothing is read
-pub record FreshInput : Type 0 where
-  pub text : List ℕ
-  pub given : ℕ
-  pub failures : ℕ
-  pub sure : Option ℕ
-
-abbrev pub fresh_input : {I : Type 0} → input.Ghosts I → I → FreshInput
-fresh_input device i =
-    record {
-      text = device.unread i;
-      given = device.given i;
-      failures = device.failures i;
-      sure = device.sure i;
-    }
 
 abbrev pub fresh_view : FreshInput → InputView
 fresh_view o =

@@ -9,7 +9,7 @@ use Rattle.cap_io.specs.Source.{SourceView, Phase, Reading, Ended, Failed, Advan
 use Rattle.cap_io.specs.Position.{IsAt, given_in_all}
 use Rattle.cap_inputs.specs.declared.inputs.Next.{Next}
 use Rattle.cap_inputs.specs.declared.inputs.Next.TheVariants as next
-use Rattle.cap_inputs.specs.Sequence.{InputItems, Event, Sequence, PacketOrder, InTurn, ByTime, sequence_of, sequence_in_turn, sequence_by_time, with_front}
+use Rattle.cap_io.specs.Sequence.{InputItems, Event, Sequence, PacketOrder, InTurn, ByTime, sequence_of, sequence_in_turn, sequence_by_time, with_front}
 
 -- ---- views
 

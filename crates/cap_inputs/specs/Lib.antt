@@ -2,4 +2,3 @@ pub mod Cursor
 pub mod Fresh
 pub mod Inputs
 pub mod Queue
-pub mod Sequence

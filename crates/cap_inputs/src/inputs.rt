@@ -6,8 +6,9 @@ ghost use Rattle.cap_inputs.specs.Cursor.{EntersQueue, HasPlaceFor, IsAtCursor, 
 ghost use Rattle.cap_inputs.specs.Cursor.{IsQueued};
 ghost use Rattle.cap_inputs.specs.Cursor.{Leaves, first_schedule, is_merge, schedule_after};
 ghost use Rattle.cap_inputs.specs.Cursor.{schedule_behind};
-ghost use Rattle.cap_inputs.specs.Fresh.{fresh_view, fresh_input};
-ghost use Rattle.cap_inputs.specs.Sequence.{order_of};
+ghost use Rattle.cap_inputs.specs.Fresh.{fresh_view};
+ghost use Rattle.cap_io.specs.Sequence.{order_of};
+ghost use Rattle.cap_octet.specs.Views.{fresh_input};
 ghost use Rattle.cap_inputs.specs.Inputs.{first_declared_link, is_packet_found, key_of};
 ghost use Rattle.cap_inputs.specs.Inputs.{packet_time};
 

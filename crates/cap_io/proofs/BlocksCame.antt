@@ -14,9 +14,10 @@ use Rattle.cap_pcapng.specs.Interface.{Described}
 use Rattle.cap_pcapng.specs.Unit.{IsBlock, Section, block_size, checks_among, frame_behind, interfaces_before, order_before, packet_by, packets_in, parts_behind, section_after, section_by, unit_fault}
 use Rattle.cap_pcapng.proofs.Units.{passes, frame_checks-append, frame_in-append, unit_fault-frame, unit_fault-short, unit_fault-block, unit_fault-among, parts_in-append, block_checks-append}
 use Rattle.cap_pcapng.specs.declared.frames.Frame.{Frame}
-use Rattle.cap_io.specs.Blocks.{AddsInterface, Enters, IsEntryFault, PacketIfAny, held_packet, section_of}
-use Rattle.cap_io.specs.Reading.{RestMissing, span_bytes, most_in_unit, length_by_front, block_length, decisive_block_length, is_interface}
-use Rattle.cap_io.specs.declared.file_state.PacketSpans.{PacketSpans}
+use Rattle.cap_pcapng.specs.Effect.{AddsInterface, Enters, IsEntryFault, PacketIfAny, held_packet, section_of}
+use Rattle.cap_io.specs.Reading.{RestMissing, most_in_unit, length_by_front, block_length, decisive_block_length}
+use Rattle.cap_pcapng.specs.Effect.{span_bytes, is_interface}
+use Rattle.cap_pcapng.specs.declared.effect.PacketSpans.{PacketSpans}
 use Rattle.cap_io.proofs.OwnFaults.{entry-not_failed, frame-not_failed, frame-not_memory}
 
 -- ---- what came
@@ -184,12 +185,12 @@ entry_refused before section interfaces text unread' block buffer frame fault is
     let P : List ℕ → Type 0 = λ t. BlockMissing before t unread' fault in
     subst P (sym splits) (record {
       why = elim entry [
-        | inl fails ↦ inl (unit_fault-block before (block ++ unread') fault (omega arith) f.framed (omega arith) (blocked ∙ fails))
-        | inr more ↦ elim more [
-          | inl among ↦ inl (unit_fault-among before (block ++ unread') (omega arith) f.framed (omega arith) (blocked ∙ among.0)
+        | inl checked ↦ elim checked [
+          | inl fails ↦ inl (unit_fault-block before (block ++ unread') fault (omega arith) f.framed (omega arith) (blocked ∙ fails))
+          | inr among ↦ inl (unit_fault-among before (block ++ unread') (omega arith) f.framed (omega arith) (blocked ∙ among.0)
               ∙ ap₂ (λ (i : List Described) (p : Parts). first_failing (checks_among i p)) same parts ∙ among.1)
-          | inr memory ↦ inr (inr memory.0)
         ]
+        | inr memory ↦ inr (inr memory.0)
       ];
       count = frame.length;
       within = λ none. omega (arith, whole);

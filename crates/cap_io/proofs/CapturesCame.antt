@@ -23,12 +23,14 @@ use Rattle.cap_octet.specs.declared.device.Input.{Ghosts}
 use Rattle.cap_pcapng.specs.declared.frames.Frame.{Frame}
 use Rattle.cap_io.specs.declared.file_state.NextUnit.{NextUnit}
 use Rattle.cap_io.specs.declared.file_state.NextUnit.TheVariants as next_unit
-use Rattle.cap_io.specs.declared.file_state.PacketSpans.{PacketSpans}
+use Rattle.cap_pcapng.specs.declared.effect.PacketSpans.{PacketSpans}
+use Rattle.cap_io.specs.declared.next_unit.UnitReader.{UnitReader}
 use Rattle.cap_io.specs.declared.file_state.FileState.{FileState}
 use Rattle.cap_io.specs.declared.file_state.FileState.TheVariants as state
-use Rattle.cap_io.specs.Blocks.{Enters, KnowsIfAny, held_packet, section_of}
+use Rattle.cap_pcapng.specs.Effect.{Enters, KnowsIfAny, held_packet, section_of}
 use Rattle.cap_io.specs.Capture.{Declared, Nothing, PcapFile, PcapngFile, Front, IsUnit, a_pcap_header, a_first_block, a_block, file_after, first_link_after, front_of, front_of_block, is_pcapng}
-use Rattle.cap_io.specs.Reading.{BeginsBlock, FrontMissing, HasInterface, HeaderCame, IsSized, IsConsistent, PacketCame, ReadsUnit, NoUnitCame, RestMissing, TakesMemory, UnitCame, UnitPassed, declared_by, read_failures, known_first_link, known_order, span_bytes, most_taken, packet_in_unit, decisive_length, block_length, decisive_block_length, is_interface, section_before, unit_size}
+use Rattle.cap_io.specs.Reading.{BeginsBlock, FrontMissing, HasInterface, HeaderCame, IsSized, IsConsistent, PacketCame, ReadsUnit, NoUnitCame, RestMissing, TakesMemory, UnitCame, UnitPassed, declared_by, read_failures, known_first_link, known_order, most_taken, packet_in_unit, decisive_length, block_length, decisive_block_length, section_before, unit_size}
+use Rattle.cap_pcapng.specs.Effect.{span_bytes, is_interface}
 use Rattle.cap_io.proofs.BlocksCame.{BlockCame, BlockMissing, Describes}
 use Rattle.cap_io.proofs.Came.{Taken-behind, most_taken-file}
 use Rattle.cap_io.proofs.Fronts.{front_of-behind, front_of-pcapng, front_of_block-none, is_pcapng-append, most_taken-block, decisive_length-pcapng, decisive_block_length-few, is_section-append}
@@ -318,15 +320,15 @@ begun-front (state.Pcap head) interfaces unread unread' fault begun m = absurd (
 begun-front (state.Pcapng order first) interfaces unread unread' fault begun m = block_front first (section_of order interfaces) unread unread' fault m
 
 -- what reading behind the first bytes of a unit did is what reading it all did
-pub ReadsUnit-behind : {I : Type 0} (device : Ghosts I) (old mid : I) (front : List ℕ) (file : FileState) (interfaces : List Described) (room : ℕ) (r : Result NextUnit Fault) (new : I) (buffer : List ℕ) (spans : PacketSpans) (file' : FileState) (interfaces' : List Described)
-    → device.given mid ≡ device.given old + length front → device.failures mid ≡ device.failures old → device.sure mid ≡ device.sure old
-    → (IsTrue device.tells → device.given mid + length (device.unread mid) ≡ device.given old + length (device.unread old))
+pub ReadsUnit-behind : {I A : Type 0} (device : Ghosts I) (old : UnitReader I A) (mid : I) (front : List ℕ) (r : Result NextUnit Fault) (new : UnitReader I A)
+    → device.given mid ≡ device.given old.input + length front → device.failures mid ≡ device.failures old.input → device.sure mid ≡ device.sure old.input
+    → (IsTrue device.tells → device.given mid + length (device.unread mid) ≡ device.given old.input + length (device.unread old.input))
     → (0 < length front → device.given mid < 2 ^ 63)
-    → (IsTrue device.tells → device.unread old ≡ front ++ device.unread mid)
-    → ReadsUnit device mid front file interfaces room r new buffer spans file' interfaces' → ReadsUnit device old [] file interfaces room r new buffer spans file' interfaces'
-ReadsUnit-behind device old mid front file interfaces room (Ok c) new buffer spans file' interfaces' given failed sure told small splits reads =
+    → (IsTrue device.tells → device.unread old.input ≡ front ++ device.unread mid)
+    → ReadsUnit device (record { input = mid; file = old.file; buffer = old.buffer; table = old.table; spans = old.spans }) front r new → ReadsUnit device old [] r new
+ReadsUnit-behind device old mid front (Ok c) new given failed sure told small splits reads =
     let m = reads.moves in
-    let P : List ℕ → Type 0 = λ t. UnitCame (declared_by file interfaces) t buffer spans c (declared_by file' interfaces') (device.unread new) in
+    let P : List ℕ → Type 0 = λ t. UnitCame (declared_by old.file old.table) t new.buffer.items new.spans c (declared_by new.file new.table) (device.unread new.input) in
     record {
       moves = record {
         counted = omega (arith, given, m.counted);
@@ -350,13 +352,13 @@ ReadsUnit-behind device old mid front file interfaces room (Ok c) new buffer spa
       memory = λ e. (cc);
     }
   where
-    is_small : (c : NextUnit) → IsSized spans c buffer (device.given new) → 0 < unit_size spans c → device.given new < 2 ^ 63
+    is_small : (c : NextUnit) → IsSized new.spans c new.buffer.items (device.given new.input) → 0 < unit_size new.spans c → device.given new.input < 2 ^ 63
     is_small (next_unit.Other size) sized some = sized.1
     is_small next_unit.Packet sized some = sized.1
     is_small next_unit.End sized some = absurd (omega arith)
-ReadsUnit-behind device old mid front file interfaces room (Err fault) new buffer spans file' interfaces' given failed sure told small splits reads =
+ReadsUnit-behind device old mid front (Err fault) new given failed sure told small splits reads =
     let m = reads.moves in
-    let P : List ℕ → Type 0 = λ t. NoUnitCame (declared_by file interfaces) t (device.unread new) fault in
+    let P : List ℕ → Type 0 = λ t. NoUnitCame (declared_by old.file old.table) t (device.unread new.input) fault in
     record {
       moves = record {
         counted = tt;
@@ -377,5 +379,5 @@ ReadsUnit-behind device old mid front file interfaces room (Err fault) new buffe
       grown = reads.grown;
       bounded = reads.bounded;
       fits = tt;
-      memory = λ e t. subst (λ (text : List ℕ). TakesMemory (length buffer) (declared_by file interfaces) text) (sym (splits t)) (reads.memory e t);
+      memory = λ e t. subst (λ (text : List ℕ). TakesMemory (length new.buffer.items) (declared_by old.file old.table) text) (sym (splits t)) (reads.memory e t);
     }

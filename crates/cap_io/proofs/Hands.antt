@@ -6,7 +6,7 @@ use Rattle.cap_octet.specs.Checks.{checked, first_failing}
 use Rattle.cap_pcap.specs.declared.header.Head.{Head}
 use Rattle.cap_pcap.specs.declared.header.RecordHead.{RecordHead}
 use Rattle.cap_pcap.specs.Record.{field_checks, most_captured, record_header_in}
-use Rattle.cap_io.specs.declared.file_state.PacketSpans.{PacketSpans}
+use Rattle.cap_pcapng.specs.declared.effect.PacketSpans.{PacketSpans}
 use Rattle.cap_io.specs.Reading.{PacketCame, most_in_unit, record_spans, packet_in_unit}
 use Rattle.cap_io.specs.Capture.{Declared, PcapFile}
 use Rattle.cap_io.specs.Source.{SourceView, Reading, IsBetween, TakesNext}

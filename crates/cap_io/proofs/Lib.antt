@@ -1,7 +1,6 @@
 pub mod Fitting
 pub mod Fronts
 pub mod Came
-pub mod Entered
 pub mod OwnFaults
 pub mod BlocksCame
 pub mod Passing

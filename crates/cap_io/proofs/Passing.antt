@@ -12,13 +12,14 @@ use Rattle.cap_io.specs.declared.source.Stage.{Stage}
 use Rattle.cap_io.specs.declared.source.Stage.TheVariants as stage
 use Rattle.cap_octet.specs.declared.fault.Fault.{Fault}
 use Rattle.cap_octet.specs.declared.fault.Fault.TheVariants.{NoMemory}
-use Rattle.cap_io.specs.declared.file_state.PacketSpans.{PacketSpans}
-use Rattle.cap_io.specs.declared.file_state.Span.{Span}
+use Rattle.cap_pcapng.specs.declared.effect.PacketSpans.{PacketSpans}
+use Rattle.cap_pcapng.specs.declared.effect.Span.{Span}
 use Rattle.cap_io.specs.Capture.{Declared, Nothing, PcapFile, PcapngFile, AreUnits, no_unit}
 use Rattle.cap_io.proofs.Items.{AreUnits-append}
 use Rattle.cap_io.proofs.Fitting.{FitUnits-append, FitUnits-wider, one_unit_fits}
 use Rattle.cap_io.proofs.Units.{one_unit}
-use Rattle.cap_io.specs.Reading.{EndCame, HasInterface, PacketCame, NoUnitCame, TakesMemory, UnitPassed, held_length, no_unit_fits, packet_in_unit, span_bytes}
+use Rattle.cap_io.specs.Reading.{EndCame, HasInterface, PacketCame, NoUnitCame, TakesMemory, UnitPassed, held_length, no_unit_fits, packet_in_unit}
+use Rattle.cap_pcapng.specs.Effect.{span_bytes}
 use Rattle.cap_io.specs.Source.{SourceView, Reading, Ended, Failed, SkipsUnits, IsBetween, IsBroken, FindsPacket, FindsEnd, FindsFault, HoldsIfAny, block_at, end_offset, phase_at}
 
 -- ---- no unit is gone over

@@ -14,8 +14,9 @@ use Rattle.cap_pcapng.specs.Padding.{padded_length}
 use Rattle.cap_pcapng.specs.Encoding as pcapng
 use Rattle.cap_io.specs.declared.sink.SinkState.{SinkState}
 use Rattle.cap_io.specs.declared.sink.SinkState.TheVariants.{Empty, Started, Broken}
-use Rattle.cap_io.specs.Text.{FitFile, Interface, interface_of, interfaces_of, number_among, descriptions, most_output_interfaces, file_start, packet_text, packets_text, text, added_text, has_first_link, put_checks, refusal_of}
-use Rattle.cap_io.specs.Sink.{SinkView, sink_at, state_after, kept_interfaces, HasPut, HasPackets, takes_memory, PutsAfter, WritesPacket, PutsPacket, PutWrites, IsPutAnswer, Finishes, FinishWrites, FinishesEmpty, link_or_ethernet, AddsPacket, checks_in, refusal_in, takes_memory_in, file_start_in, appended_packet, added_in, state_after_packet, interfaces_after_packet, interfaces_after_put}
+use Rattle.cap_io.specs.Text.{Interface, interface_of, interfaces_of, number_among, descriptions, most_output_interfaces, file_start, packet_text, packets_text, text, added_text, has_first_link, put_checks, refusal_of}
+use Rattle.cap_io.specs.Sink.{SinkView, sink_at, state_after, kept_interfaces, HasPut, HasPackets, takes_memory, AddsPacket, PutsNext, WritesPacket, PutsPacket, PutWrites, IsPutAnswer, Finishes, FinishWrites, FinishesEmpty, link_or_ethernet, checks_in, refusal_in, takes_memory_in, file_start_in, appended_packet, added_in, state_after_packet, interfaces_after_packet}
+use Rattle.cap_io.specs.Laws.{EachPutGoesByPackets, PutExtendsText}
 use Rattle.cap_io.proofs.Interfaces.{interfaces_of-push, among-interfaces_of, new-interfaces_of}
 
 -- ---- faults that refuse no packet
@@ -121,112 +122,100 @@ added-after : (format : Format) (ps : List Captured) (p : Captured) → file_sta
 added-after format [] p = ap (λ (l : List ℕ). file_start format p.link ++ l) (packet-after format [] p)
 added-after format (q ∷ qs) p = packet-after format (q ∷ qs) p
 
-pub refusal-put : (sink : SinkView) (ps : List Captured) (p : Captured) → HasPut sink ps → refusal_in sink p ≡ refusal_of sink.format ps p
-refusal-put sink ps p has =
-    ap₂ (λ (s : SinkState) (l : List Interface). first_failing (checks_in sink.format s l p)) has.state has.interfaces
-    ∙ ap first_failing (checks-after sink.format ps p)
+-- what a sink keeps decides what all of these packets do
+pub by-packets : EachPutGoesByPackets
+by-packets sink ps p has = record {
+  refusal =
+      ap₂ (λ (s : SinkState) (l : List Interface). first_failing (checks_in sink.format s l p)) has.state has.interfaces
+      ∙ ap first_failing (checks-after sink.format ps p);
+  memory = ap (λ (l : List Interface). takes_memory_in sink.format l p) has.interfaces ∙ takes-after sink.format ps p;
+  added =
+      ap₂ (λ (s : SinkState) (l : List Interface). file_start_in sink.format s p.link ++ appended_packet sink.format l p) has.state has.interfaces
+      ∙ added-after sink.format ps p;
+  state = ap (λ (s : SinkState). state_after_packet s p) has.state ∙ state-after ps p;
+  interfaces = ap (λ (l : List Interface). interfaces_after_packet sink.format l p) has.interfaces ∙ interfaces-after sink.format ps p;
+}
 
-pub added-put : (sink : SinkView) (ps : List Captured) (p : Captured) → HasPut sink ps → added_in sink p ≡ added_text sink.format ps p
-added-put sink ps p has =
-    ap₂ (λ (s : SinkState) (l : List Interface). file_start_in sink.format s p.link ++ appended_packet sink.format l p) has.state has.interfaces
-    ∙ added-after sink.format ps p
-
-takes-put : (sink : SinkView) (ps : List Captured) (p : Captured) → HasPut sink ps → takes_memory_in sink.format sink.interfaces p ≡ takes_memory sink.format ps p
-takes-put sink ps p has = ap (λ (l : List Interface). takes_memory_in sink.format l p) has.interfaces ∙ takes-after sink.format ps p
-
--- a packet is added
-pub puts-ok : (ps : List Captured) (old : SinkView) (p : Captured) (new : SinkView) → HasPut old ps → AddsPacket old p (Ok tt) new → FitFile new.interfaces → PutsAfter ps old p (Ok tt) new
-puts-ok ps old p new has adds upper_bound = record {
-  answer = rw (← refusal-put old ps p has, ← takes-put old ps p has) adds.answer;
-  state = adds.state ∙ ap (λ (s : SinkState). state_after_packet s p) has.state ∙ state-after ps p;
-  interfaces = adds.interfaces ∙ ap (λ (l : List Interface). interfaces_after_packet old.format l p) has.interfaces ∙ interfaces-after old.format ps p;
+-- a sink that failed is as it was when the packet wasn't added, but for its state
+pub adds-broken : (old : SinkView) (p : Captured) (fault : Fault) (mid new : SinkView) → AddsPacket old p (Err fault) mid
+    → new ≡ record { format = mid.format; state = Broken fault; interfaces = mid.interfaces; written = mid.written; failures = mid.failures; room = mid.room }
+    → AddsPacket old p (Err fault) new
+adds-broken old p fault mid new adds is = rw is (record {
+  answer = adds.answer;
+  state = tt;
+  interfaces = adds.interfaces;
   format = adds.format;
-  bounds = upper_bound;
   failures = adds.failures;
   room = adds.room;
   filled = adds.filled;
-}
-
--- it isn't
-pub puts-err : (ps : List Captured) (old : SinkView) (p : Captured) (fault : Fault) (mid new : SinkView) → HasPut old ps → AddsPacket old p (Err fault) mid
-    → new ≡ record { format = mid.format; state = Broken fault; interfaces = mid.interfaces; written = mid.written; failures = mid.failures; room = mid.room }
-    → FitFile new.interfaces → PutsAfter ps old p (Err fault) new
-puts-err ps old p fault mid new has adds is upper_bound = record {
-  answer = rw (← refusal-put old ps p has, ← takes-put old ps p has) adds.answer;
-  state = ap (λ (s : SinkView). s.state) is;
-  interfaces = ap (λ (s : SinkView). s.interfaces) is ∙ adds.interfaces
-      ∙ ap₂ (interfaces_after_put (Err fault)) has.interfaces (ap (λ (l : List Interface). interfaces_after_packet old.format l p) has.interfaces ∙ interfaces-after old.format ps p);
-  bounds = upper_bound;
-  format = ap (λ (s : SinkView). s.format) is ∙ adds.format;
-  failures = ap (λ (s : SinkView). s.failures) is ∙ adds.failures;
-  room = ap (λ (s : SinkView). s.room) is ∙ adds.room;
-  filled = λ failed. rw (ap (λ (s : SinkView). s.written) is) (adds.filled failed);
-}
-
--- what is written of it
-pub writes-put : (ps : List Captured) (old : SinkView) (p : Captured) (r : Result (Unit {0}) Fault) (written' : List ℕ) → HasPut old ps
-    → WritesPacket (refusal_in old p) (added_in old p) old.written r written' → WritesPacket (refusal_of old.format ps p) (added_text old.format ps p) old.written r written'
-writes-put ps old p r written' has writes = rw (← refusal-put old ps p has, ← added-put old ps p has) writes
+})
 
 -- ---- a put by the state before it
 
 pub puts-tell : (state : SinkState) (old : SinkView) (p : Captured) (r : Result (Unit {0}) Fault) (new : SinkView) → ((fault : Fault) → state ≡ Broken fault → ⊥)
-    → ((ps : List Captured) → HasPut old ps → PutsAfter ps old p r new) → PutsPacket state old p r new
+    → PutsNext old p r new → PutsPacket state old p r new
 puts-tell Empty old p r new sound puts = puts
 puts-tell (Started link) old p r new sound puts = puts
 puts-tell (Broken fault) old p r new sound puts = absurd (sound fault refl)
 
 pub put-writes-tell : (state : SinkState) (old : SinkView) (p : Captured) (r : Result (Unit {0}) Fault) (new : SinkView) → ((fault : Fault) → state ≡ Broken fault → ⊥)
     → WritesPacket (refusal_in old p) (added_in old p) old.written r new.written → PutWrites state old p r new
-put-writes-tell Empty old p r new sound writes = λ ps has. writes-put ps old p r new.written has writes
-put-writes-tell (Started link) old p r new sound writes = λ ps has. writes-put ps old p r new.written has writes
+put-writes-tell Empty old p r new sound writes = writes
+put-writes-tell (Started link) old p r new sound writes = writes
 put-writes-tell (Broken fault) old p r new sound writes = absurd (sound fault refl)
 
-answers-after : (ps : List Captured) (old : SinkView) (p : Captured) (r : Result (Unit {0}) Fault) (new : SinkView) → HasPut old ps → PutsPacket (state_after ps) old p r new → PutsAfter ps old p r new
-answers-after [] old p r new has puts = puts [] has
-answers-after (q ∷ qs) old p r new has puts = puts (q ∷ qs) has
+-- ---- a put to a sink to which these packets were put
 
-writes-after : (ps : List Captured) (old : SinkView) (p : Captured) (r : Result (Unit {0}) Fault) (new : SinkView) → HasPut old ps → PutWrites (state_after ps) old p r new
-    → WritesPacket (refusal_of old.format ps p) (added_text old.format ps p) old.written r new.written
-writes-after [] old p r new has writes = writes [] has
-writes-after (q ∷ qs) old p r new has writes = writes (q ∷ qs) has
+next-after : (ps : List Captured) (old : SinkView) (p : Captured) (r : Result (Unit {0}) Fault) (new : SinkView) → PutsPacket (state_after ps) old p r new → PutsNext old p r new
+next-after [] old p r new puts = puts
+next-after (q ∷ qs) old p r new puts = puts
 
-pub put-answers : (before : List ℕ) (ps : List Captured) (old : SinkView) (p : Captured) (r : Result (Unit {0}) Fault) (new : SinkView)
-    → HasPackets before old ps → PutsPacket old.state old p r new → PutsAfter ps old p r new
-put-answers before ps old p r new has puts =
-    answers-after ps old p r new has.put (let P : SinkState → Type 0 = λ st. PutsPacket st old p r new in subst P has.put.state puts)
+writes-after : (ps : List Captured) (old : SinkView) (p : Captured) (r : Result (Unit {0}) Fault) (new : SinkView) → PutWrites (state_after ps) old p r new
+    → WritesPacket (refusal_in old p) (added_in old p) old.written r new.written
+writes-after [] old p r new writes = writes
+writes-after (q ∷ qs) old p r new writes = writes
 
-pub put-writes : (before : List ℕ) (ps : List Captured) (old : SinkView) (p : Captured) (r : Result (Unit {0}) Fault) (new : SinkView)
-    → HasPackets before old ps → PutWrites old.state old p r new → WritesPacket (refusal_of old.format ps p) (added_text old.format ps p) old.written r new.written
-put-writes before ps old p r new has writes =
-    writes-after ps old p r new has.put (let P : SinkState → Type 0 = λ st. PutWrites st old p r new in subst P has.put.state writes)
+pub put-next : (ps : List Captured) (old : SinkView) (p : Captured) (r : Result (Unit {0}) Fault) (new : SinkView)
+    → HasPut old ps → PutsPacket old.state old p r new → PutsNext old p r new
+put-next ps old p r new has puts = next-after ps old p r new (let P : SinkState → Type 0 = λ st. PutsPacket st old p r new in subst P has.state puts)
+
+-- why it is put, or isn't
+pub put-answer : (ps : List Captured) (old : SinkView) (p : Captured) (r : Result (Unit {0}) Fault) (new : SinkView)
+    → HasPut old ps → PutsNext old p r new → IsPutAnswer (refusal_of old.format ps p) (takes_memory old.format ps p) r
+put-answer ps old p r new has puts =
+    let by = by-packets old ps p has in
+    rw (← by.refusal, ← by.memory) puts.adds.answer
+
+-- what is written of it
+pub put-writes : (ps : List Captured) (old : SinkView) (p : Captured) (r : Result (Unit {0}) Fault) (new : SinkView)
+    → HasPut old ps → PutWrites old.state old p r new → WritesPacket (refusal_of old.format ps p) (added_text old.format ps p) old.written r new.written
+put-writes ps old p r new has writes =
+    let by = by-packets old ps p has in
+    rw (← by.refusal, ← by.added) (writes-after ps old p r new (let P : SinkState → Type 0 = λ st. PutWrites st old p r new in subst P has.state writes))
 
 -- a packet that is put isn't refused
-taken-answer : (refusal : Option Fault) (takes : Bool) → IsPutAnswer refusal takes (Ok tt) → refusal ≡ None
-taken-answer None takes answer = refl
-taken-answer (Some fault) takes answer = absurd answer
-
-pub put-taken : (ps : List Captured) (old : SinkView) (p : Captured) (new : SinkView) → PutsAfter ps old p (Ok tt) new → refusal_of old.format ps p ≡ None
-put-taken ps old p new puts = taken-answer (refusal_of old.format ps p) (takes_memory old.format ps p) puts.answer
+pub put-taken : (refusal : Option Fault) (takes : Bool) → IsPutAnswer refusal takes (Ok tt) → refusal ≡ None
+put-taken None takes answer = refl
+put-taken (Some fault) takes answer = absurd answer
 
 written-ok : (refusal : Option Fault) (bytes written written' : List ℕ) → WritesPacket refusal bytes written (Ok tt) written' → written' ≡ written ++ bytes
 written-ok refusal bytes written written' writes = writes
 
 -- by a put it has one packet more
-pub HasPackets-put : (before : List ℕ) (ps : List Captured) (old : SinkView) (p : Captured) (new : SinkView)
-    → HasPackets before old ps → PutsPacket old.state old p (Ok tt) new → PutWrites old.state old p (Ok tt) new → HasPackets before new (ps ++ p ∷ [])
+pub HasPackets-put : PutExtendsText
 HasPackets-put before ps old p new has puts writes =
-    let after = put-answers before ps old p (Ok tt) new has puts in
+    let adds = (put-next ps old p (Ok tt) new has.put puts).adds in
+    let by = by-packets old ps p has.put in
     let bytes : new.written ≡ old.written ++ added_text old.format ps p =
-    written-ok (refusal_of old.format ps p) (added_text old.format ps p) old.written new.written (put-writes before ps old p (Ok tt) new has writes) in
+    written-ok (refusal_of old.format ps p) (added_text old.format ps p) old.written new.written (put-writes ps old p (Ok tt) new has.put writes) in
     record {
       written =
           bytes
-          ∙ rw (has.written, after.format)
+          ∙ rw (has.written, adds.format)
           (append_assoc before (text old.format ps) (added_text old.format ps p) ∙ ap (λ (t : List ℕ). before ++ t) (sym (text-push old.format ps p)));
       put = record {
-        state = after.state;
-        interfaces = after.interfaces ∙ ap (λ (f : Format). kept_interfaces f (ps ++ p ∷ [])) (sym after.format);
+        state = adds.state ∙ by.state;
+        interfaces = adds.interfaces ∙ by.interfaces ∙ ap (λ (f : Format). kept_interfaces f (ps ++ p ∷ [])) (sym adds.format);
       };
     }
 

@@ -1,7 +1,11 @@
--- Laws of the definitions: each text is cut in one way, which tells its items.
-use Rattle.std.specs.Prelude.{◌≡◌, ℕ, List, length, Option}
+-- Laws of the definitions: each text is cut in one way, which tells its items; and what a sink does
+-- with one more packet, by what it keeps, is what all packets so far decide.
+use Rattle.std.specs.Prelude.{◌≡◌, ℕ, List, [], ◌∷◌, ◌++◌, length, Ok, Option}
+use Rattle.cap_octet.specs.Packet.{Captured}
 use Rattle.cap_octet.specs.declared.fault.Fault.{Fault}
 use Rattle.cap_io.specs.Capture.{Declared, Placed, IsCut, Stops, front_of, items, ending_by}
+use Rattle.cap_io.specs.Text.{added_text, refusal_of}
+use Rattle.cap_io.specs.Sink.{SinkView, HasPackets, HasPut, PutsPacket, PutWrites, added_in, interfaces_after_packet, kept_interfaces, refusal_in, state_after, state_after_packet, takes_memory, takes_memory_in}
 
 -- some cut of a text
 pub record Cut (text : List ℕ) : Type 0 where
@@ -33,3 +37,26 @@ EachHasOneCut = (text : List ℕ) (one other : Cut text) → IsSameCut one other
 
 abbrev pub CutTellsItems : Type 0
 CutTellsItems = (text : List ℕ) (c : Cut text) → TellsItems text c.done c.rest c.packets c.declared
+
+-- A packet that is put to a sink is refused, takes memory and adds bytes as it does after all of
+-- these packets; and the sink keeps of it what it would keep of all of them.
+pub record GoesByPackets (sink : SinkView) (packets : List Captured) (p : Captured) : Type 0 where
+  pub refusal : refusal_in sink p ≡ refusal_of sink.format packets p
+  pub memory : takes_memory_in sink.format sink.interfaces p ≡ takes_memory sink.format packets p
+  pub added : added_in sink p ≡ added_text sink.format packets p
+  pub state : state_after_packet sink.state p ≡ state_after (packets ++ p ∷ [])
+  pub interfaces : interfaces_after_packet sink.format sink.interfaces p
+      ≡ kept_interfaces sink.format (packets ++ p ∷ [])
+
+-- a sink to which these packets were put
+abbrev pub EachPutGoesByPackets : Type 0
+EachPutGoesByPackets =
+    (sink : SinkView) (packets : List Captured) (p : Captured) → HasPut sink packets
+    → GoesByPackets sink packets p
+
+-- A packet that is put extends the text of those before it.
+abbrev pub PutExtendsText : Type 0
+PutExtendsText =
+    (before : List ℕ) (packets : List Captured) (old : SinkView) (p : Captured) (new : SinkView)
+    → HasPackets before old packets → PutsPacket old.state old p (Ok tt) new
+    → PutWrites old.state old p (Ok tt) new → HasPackets before new (packets ++ p ∷ [])

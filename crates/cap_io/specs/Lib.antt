@@ -1,6 +1,6 @@
 pub mod Capture
+pub mod Sequence
 pub mod Reading
-pub mod Blocks
 pub mod Source
 pub mod Text
 pub mod Numbering

@@ -11,7 +11,6 @@ use Rattle.cap_octet.specs.declared.device.Input.{Ghosts}
 use Rattle.cap_pcap.specs.Header.{IsHeader, form_in}
 use Rattle.cap_pcap.specs.Record.{field_checks, most_captured, record_header_in, record_size}
 use Rattle.cap_octet.specs.Device.{HasGiven}
-use Rattle.cap_pcapng.specs.Block.{Parts, SectionParts, InterfaceParts, EnhancedParts, SimpleParts, SkippedParts}
 use Rattle.cap_pcapng.specs.Comment.{comment_in}
 use Rattle.cap_pcapng.specs.Frame.{frame_checks, is_section, most_block}
 use Rattle.cap_pcapng.specs.Interface.{Described, FitSection}
@@ -20,9 +19,10 @@ use Rattle.cap_pcap.specs.declared.header.Head.{Head}
 use Rattle.cap_pcap.specs.declared.header.RecordHead.{RecordHead}
 use Rattle.cap_io.specs.declared.file_state.NextUnit.{NextUnit}
 use Rattle.cap_io.specs.declared.file_state.NextUnit.TheVariants as next_unit
-use Rattle.cap_io.specs.declared.file_state.PacketSpans.{PacketSpans}
+use Rattle.cap_pcapng.specs.Effect.{is_interface, span_bytes}
+use Rattle.cap_pcapng.specs.declared.effect.PacketSpans.{PacketSpans}
+use Rattle.cap_io.specs.declared.next_unit.UnitReader.{UnitReader}
 use Rattle.cap_io.specs.declared.file_state.FileState.{FileState}
-use Rattle.cap_io.specs.declared.file_state.Span.{Span}
 use Rattle.cap_io.specs.declared.file_state.FileState.TheVariants as state
 use Rattle.cap_io.specs.Capture.{Declared, Nothing, PcapFile, PcapngFile, IsUnit, Front, Whole, Stops, first_link_after, front_of, is_pcapng}
 
@@ -103,13 +103,6 @@ unit_length Nothing text = if is_pcapng text then block_length None text else 0
 unit_length (PcapFile head) text =
     length_by_front (first_failing (field_checks head text)) 0 (record_size head text)
 unit_length (PcapngFile first section) text = block_length (Some section) text
-
-abbrev pub is_interface : Parts → Bool
-is_interface SectionParts = false
-is_interface (InterfaceParts link snap order options) = true
-is_interface (EnhancedParts number ticks captured orig order rest) = false
-is_interface (SimpleParts orig rest) = false
-is_interface SkippedParts = false
 
 -- a block that describes an interface, and fails no check
 abbrev pub DescribesInterface : Declared → List ℕ → Type 0
@@ -205,10 +198,6 @@ IsConsistent (state.Pcapng order first) interfaces =
     × FitSection interfaces
 
 -- ---- the current packet
-
--- these bytes of a text
-abbrev pub span_bytes : Span → List ℕ → List ℕ
-span_bytes span text = take span.length (drop span.start text)
 
 -- its unit lies in the buffer, and its data and its options in its unit
 pub record FitsBuffer (spans : PacketSpans) (buffer : List ℕ) : Type 0 where
@@ -347,32 +336,30 @@ BeginsBlock state.Unknown front = is_section front ≡ true
 BeginsBlock (state.Pcap head) front = ⊥
 BeginsBlock (state.Pcapng order first) front = Unit {0}
 
--- What reading a unit whose first bytes had come did: to the device, to the buffer, which had room
--- for so many bytes, to where a packet lies in it, and to what is known of the file. A fault leaves
--- what is known.
-pub record ReadsUnit {I : Type 0} (device : Ghosts I) (old : I) (front : List ℕ) (file : FileState)
-    (interfaces : List Described) (room : ℕ) (r : Result NextUnit Fault) (new : I)
-    (buffer : List ℕ) (spans : PacketSpans) (file' : FileState)
-    (interfaces' : List Described) : Type 0 where
-  pub moves : Moves device old new (length front) (unit_size spans) most_in_unit r
-  pub sized : IfOk r (λ came. IsSized spans came buffer (device.given new))
-  pub consistent : OnOk r (IsConsistent file' interfaces')
-  pub known : IfOk r (HasInterfaceIfAny (declared_by file' interfaces') spans)
+-- What reading a unit whose first bytes had come did: to the device, to the buffer, to where a
+-- packet lies in it, and to what is known of the file. A fault leaves what is known.
+pub record ReadsUnit {I A : Type 0} (device : Ghosts I) (old : UnitReader I A) (front : List ℕ)
+    (r : Result NextUnit Fault) (new : UnitReader I A) : Type 0 where
+  pub moves : Moves device old.input new.input (length front) (unit_size new.spans) most_in_unit r
+  pub sized : IfOk r (λ came. IsSized new.spans came new.buffer.items (device.given new.input))
+  pub consistent : OnOk r (IsConsistent new.file new.table)
+  pub known : IfOk r (HasInterfaceIfAny (declared_by new.file new.table) new.spans)
   pub ok : IfOk r
       (λ came. IsTrue device.tells
-      → UnitCame (declared_by file interfaces) (front ++ device.unread old) buffer spans came
-      (declared_by file' interfaces') (device.unread new))
+      → UnitCame (declared_by old.file old.table) (front ++ device.unread old.input)
+      new.buffer.items new.spans came (declared_by new.file new.table) (device.unread new.input))
   pub err : IfErr r
       (λ fault. IsTrue device.tells
-      → NoUnitCame (declared_by file interfaces) (front ++ device.unread old)
-      (device.unread new) fault)
-  pub kept : OnErr r ((file' ≡ file) × (interfaces' ≡ interfaces))
+      → NoUnitCame (declared_by old.file old.table) (front ++ device.unread old.input)
+      (device.unread new.input) fault)
+  pub kept : OnErr r ((new.file ≡ old.file) × (new.table ≡ old.table))
   -- the buffer has room for the unit, and never less; it has no more than a unit may need
-  pub grown : room ≤ length buffer
-  pub bounded : room ≤ most_in_unit → length buffer ≤ most_in_unit
+  pub grown : length old.buffer.items ≤ length new.buffer.items
+  pub bounded : length old.buffer.items ≤ most_in_unit → length new.buffer.items ≤ most_in_unit
   pub fits : IfOk r
-      (λ came. held_length (declared_by file interfaces) (declared_by file' interfaces')
-      (unit_size spans came) ≤ length buffer)
+      (λ came. held_length (declared_by old.file old.table) (declared_by new.file new.table)
+      (unit_size new.spans came) ≤ length new.buffer.items)
   -- memory runs out only for a unit that takes some
   pub memory : r ≡ Err NoMemory → IsTrue device.tells
-      → TakesMemory (length buffer) (declared_by file interfaces) (front ++ device.unread old)
+      → TakesMemory (length new.buffer.items) (declared_by old.file old.table)
+      (front ++ device.unread old.input)

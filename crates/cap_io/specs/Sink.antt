@@ -1,5 +1,5 @@
 -- What a contract sees of a sink, and what its calls do.
-use Rattle.std.specs.Prelude.{◌≡◌, ◌⊎◌, ◌==◌, ℕ, Bool, true, false, not, ◌+◌, ◌≤◌, List, [], ◌∷◌, ◌++◌, length, map, nat_le, Option, None, Some, Result, Ok, Err, IsTrue, OnOk, unwrap_or}
+use Rattle.std.specs.Prelude.{◌≡◌, ◌⊎◌, ◌==◌, ℕ, Bool, true, false, not, ◌+◌, ◌≤◌, List, [], ◌∷◌, ◌++◌, length, map, nat_le, Option, None, Some, Result, Ok, Err, IfErr, IsTrue, OnOk, unwrap_or}
 use Rattle.cap_octet.specs.Assigned.{LINKTYPE_ETHERNET}
 use Rattle.cap_octet.specs.Device.{AppendsOrStops, Stops, failures_of}
 use Rattle.cap_octet.specs.Packet.{Captured}
@@ -16,7 +16,7 @@ use Rattle.cap_octet.specs.declared.device.Output.{Ghosts}
 use Rattle.cap_io.specs.declared.numbering.InterfaceNumber.{InterfaceNumber}
 use Rattle.cap_io.specs.declared.sink.SinkState.{SinkState}
 use Rattle.cap_io.specs.declared.sink.SinkState.TheVariants.{Empty, Started, Broken}
-use Rattle.cap_io.specs.Text.{FitFile, Interface, interface_of, interfaces_of, is_among, new_among, number_among, most_output_interfaces, file_start, record_text, descriptions, text, added_text, refusal_of}
+use Rattle.cap_io.specs.Text.{Interface, interface_of, interfaces_of, is_among, new_among, number_among, most_output_interfaces, file_start, record_text, descriptions, text}
 
 pub record SinkView : Type 0 where
   pub format : Format
@@ -63,19 +63,92 @@ pub record HasPackets (before : List ℕ) (sink : SinkView) (packets : List Capt
   pub written : sink.written ≡ before ++ text sink.format packets
   pub put : HasPut sink packets
 
+-- whether a packet that comes after these takes memory: in pcapng, where its interface is new
+abbrev pub takes_memory : Format → List Captured → Captured → Bool
+takes_memory Pcap packets p = false
+takes_memory NsecPcap packets p = false
+takes_memory Pcapng packets p = not (is_among (map interface_of packets) (interface_of p))
+
+-- ---- a packet that is put, by what the sink keeps
+
+-- whether a packet has the link type of the first
+abbrev pub has_link : SinkState → Captured → Bool
+has_link Empty p = true
+has_link (Started link) p = link == p.link
+has_link (Broken fault) p = true
+
+abbrev pub sink_record_checks : SinkState → Captured → List (Bool × Fault)
+sink_record_checks state p = (has_link state p, LinkTypesDiffer) ∷ pcap.record_fit_checks p
+
+abbrev pub sink_block_checks : List Interface → Captured → List (Bool × Fault)
+sink_block_checks interfaces p =
+    pcapng.block_fit_checks p
+    ++ (
+      nat_le
+          (length
+          (interfaces
+          ++ new_among interfaces (interface_of p))) most_output_interfaces,
+      TooManyOutputInterfaces,
+    )
+    ∷ []
+
+-- the checks of a packet, in order
+abbrev pub checks_in : Format → SinkState → List Interface → Captured → List (Bool × Fault)
+checks_in Pcap state interfaces p = sink_record_checks state p
+checks_in NsecPcap state interfaces p = sink_record_checks state p
+checks_in Pcapng state interfaces p = sink_block_checks interfaces p
+
+-- why a packet isn't written
+abbrev pub refusal_in : SinkView → Captured → Option Fault
+refusal_in sink p = first_failing (checks_in sink.format sink.state sink.interfaces p)
+
+-- whether a packet takes memory: in pcapng, where its interface is new
+abbrev pub takes_memory_in : Format → List Interface → Captured → Bool
+takes_memory_in Pcap interfaces p = false
+takes_memory_in NsecPcap interfaces p = false
+takes_memory_in Pcapng interfaces p = not (is_among interfaces (interface_of p))
+
+-- the file header or section header is written in front of the first packet
+abbrev pub file_start_in : Format → SinkState → ℕ → List ℕ
+file_start_in format Empty link = file_start format link
+file_start_in format (Started first) link = []
+file_start_in format (Broken fault) link = []
+
+abbrev pub appended_packet : Format → List Interface → Captured → List ℕ
+appended_packet Pcap interfaces p = record_text Microseconds p
+appended_packet NsecPcap interfaces p = record_text Nanoseconds p
+appended_packet Pcapng interfaces p =
+    descriptions (new_among interfaces (interface_of p))
+    ++ pcapng.packet_block (number_among interfaces (interface_of p)) p
+
+-- the bytes that a packet adds
+abbrev pub added_in : SinkView → Captured → List ℕ
+added_in sink p =
+    file_start_in sink.format sink.state p.link ++ appended_packet sink.format sink.interfaces p
+
+-- a packet of pcapng by the number of its interface
+abbrev pub description_text : Bool → Captured → List ℕ
+description_text true p = pcapng.interface_text p.link p.snap p.name
+description_text false p = []
+
+abbrev pub packet_block_text : InterfaceNumber → Captured → List ℕ
+packet_block_text interface p =
+    description_text interface.is_new p ++ pcapng.packet_block interface.number p
+
+-- These bytes are appended to a device; or a prefix of them, not the whole, where it failed.
+pub record Appends {Device : Type 0} (d : Ghosts Device) (old : Device) (bytes : List ℕ)
+    (r : Result (Unit {0}) DeviceFault) (new : Device) : Type 0 where
+  pub appended : IsTrue d.tells → AppendsOrStops r (d.written old) bytes (d.written new)
+  pub failed : d.failures new ≡ d.failures old + failures_of r
+  pub room : d.room new ≡ d.room old
+
+-- ---- put
+
 -- how often the device failed in a call: only a failed write tells that it did
 abbrev pub write_failures : {X : Type 0} → Result X Fault → ℕ
 write_failures (Ok value) = 0
 write_failures (Err WriteFailed) = 1
 write_failures (Err fault) = 0
-
--- ---- put
-
--- whether a packet takes memory: in pcapng, where its interface is new
-abbrev pub takes_memory : Format → List Captured → Captured → Bool
-takes_memory Pcap packets p = false
-takes_memory NsecPcap packets p = false
-takes_memory Pcapng packets p = not (is_among (map interface_of packets) (interface_of p))
 
 -- A packet that isn't refused is added; or there was no memory, where it takes some; or the device
 -- failed.
@@ -85,10 +158,6 @@ IsPutAnswer None takes (Err fault) = (fault ≡ WriteFailed) ⊎ ((fault ≡ NoM
 IsPutAnswer (Some refusal) takes (Ok done) = ⊥
 IsPutAnswer (Some refusal) takes (Err fault) = fault ≡ refusal
 
-abbrev pub state_put : List Captured → Captured → Result (Unit {0}) Fault → SinkState
-state_put packets p (Ok done) = state_after (packets ++ p ∷ [])
-state_put packets p (Err fault) = Broken fault
-
 -- The interfaces that are left of those before a packet and those behind it: it is numbered before
 -- its bytes are written, so where the device fails they are those behind it.
 abbrev pub interfaces_after_put : Result (Unit {0}) Fault → (before behind : List Interface)
@@ -97,15 +166,24 @@ interfaces_after_put (Ok done) before behind = behind
 interfaces_after_put (Err WriteFailed) before behind = behind
 interfaces_after_put (Err fault) before behind = before
 
--- what a put does to a sink that these packets were put to, whatever the device
-pub record PutsAfter (packets : List Captured) (old : SinkView) (p : Captured)
-    (r : Result (Unit {0}) Fault) (new : SinkView) : Type 0 where
-  pub answer : IsPutAnswer (refusal_of old.format packets p) (takes_memory old.format packets p) r
-  pub state : new.state ≡ state_put packets p r
+-- the state and the interfaces behind a packet
+abbrev pub state_after_packet : SinkState → Captured → SinkState
+state_after_packet Empty p = Started p.link
+state_after_packet (Started link) p = Started link
+state_after_packet (Broken fault) p = Broken fault
+
+abbrev pub interfaces_after_packet : Format → List Interface → Captured → List Interface
+interfaces_after_packet Pcap interfaces p = interfaces
+interfaces_after_packet NsecPcap interfaces p = interfaces
+interfaces_after_packet Pcapng interfaces p = interfaces ++ new_among interfaces (interface_of p)
+
+-- what adding a packet does to a sink that did not fail, whatever the device
+pub record AddsPacket (old : SinkView) (p : Captured) (r : Result (Unit {0}) Fault)
+    (new : SinkView) : Type 0 where
+  pub answer : IsPutAnswer (refusal_in old p) (takes_memory_in old.format old.interfaces p) r
+  pub state : OnOk r (new.state ≡ state_after_packet old.state p)
   pub interfaces : new.interfaces
-      ≡ interfaces_after_put r (kept_interfaces old.format packets)
-      (kept_interfaces old.format (packets ++ p ∷ []))
-  pub bounds : FitFile new.interfaces
+      ≡ interfaces_after_put r old.interfaces (interfaces_after_packet old.format old.interfaces p)
   pub format : new.format ≡ old.format
   pub failures : new.failures ≡ old.failures + write_failures r
   pub room : new.room ≡ old.room
@@ -124,24 +202,24 @@ WritesPacket refusal bytes written (Ok done) written' = written' ≡ written ++ 
 WritesPacket (Some refusal) bytes written (Err fault) written' = written' ≡ written
 WritesPacket None bytes written (Err fault) written' = BreaksOff fault bytes written written'
 
+-- What a put does to it: it adds the packet, and where that fails, the sink has failed.
+pub record PutsNext (old : SinkView) (p : Captured) (r : Result (Unit {0}) Fault)
+    (new : SinkView) : Type 0 where
+  pub adds : AddsPacket old p r new
+  pub broken : IfErr r (λ fault. new.state ≡ Broken fault)
+
 -- a sink that failed returns that again, and stays
 abbrev pub PutsPacket : SinkState → SinkView → Captured → Result (Unit {0}) Fault → SinkView
     → Type 0
-PutsPacket Empty old p r new =
-    (packets : List Captured) → HasPut old packets → PutsAfter packets old p r new
-PutsPacket (Started link) old p r new =
-    (packets : List Captured) → HasPut old packets → PutsAfter packets old p r new
+PutsPacket Empty old p r new = PutsNext old p r new
+PutsPacket (Started link) old p r new = PutsNext old p r new
 PutsPacket (Broken fault) old p r new = (r ≡ Err fault) × (new ≡ old)
 
 abbrev pub PutWrites : SinkState → SinkView → Captured → Result (Unit {0}) Fault → SinkView → Type 0
 PutWrites Empty old p r new =
-    (packets : List Captured) → HasPut old packets
-    → WritesPacket (refusal_of old.format packets p)
-    (added_text old.format packets p) old.written r new.written
+    WritesPacket (refusal_in old p) (added_in old p) old.written r new.written
 PutWrites (Started link) old p r new =
-    (packets : List Captured) → HasPut old packets
-    → WritesPacket (refusal_of old.format packets p)
-    (added_text old.format packets p) old.written r new.written
+    WritesPacket (refusal_in old p) (added_in old p) old.written r new.written
 PutWrites (Broken fault) old p r new = new ≡ old
 
 -- ---- finish
@@ -183,94 +261,3 @@ FinishWrites Empty old first r new =
     AppendsOrStops r old.written (file_start old.format (link_or_ethernet first)) new.written
 FinishWrites (Started link) old first r new = new ≡ old
 FinishWrites (Broken fault) old first r new = new ≡ old
-
--- ---- by what a sink keeps, whatever packets were put
-
-abbrev pub has_link : SinkState → Captured → Bool
-has_link Empty p = true
-has_link (Started link) p = link == p.link
-has_link (Broken fault) p = true
-
-abbrev pub sink_record_checks : SinkState → Captured → List (Bool × Fault)
-sink_record_checks state p = (has_link state p, LinkTypesDiffer) ∷ pcap.record_fit_checks p
-
-abbrev pub sink_block_checks : List Interface → Captured → List (Bool × Fault)
-sink_block_checks interfaces p =
-    pcapng.block_fit_checks p
-    ++ (
-      nat_le
-          (length
-          (interfaces
-          ++ new_among interfaces (interface_of p))) most_output_interfaces,
-      TooManyOutputInterfaces,
-    )
-    ∷ []
-
-abbrev pub checks_in : Format → SinkState → List Interface → Captured → List (Bool × Fault)
-checks_in Pcap state interfaces p = sink_record_checks state p
-checks_in NsecPcap state interfaces p = sink_record_checks state p
-checks_in Pcapng state interfaces p = sink_block_checks interfaces p
-
-abbrev pub refusal_in : SinkView → Captured → Option Fault
-refusal_in sink p = first_failing (checks_in sink.format sink.state sink.interfaces p)
-
-abbrev pub takes_memory_in : Format → List Interface → Captured → Bool
-takes_memory_in Pcap interfaces p = false
-takes_memory_in NsecPcap interfaces p = false
-takes_memory_in Pcapng interfaces p = not (is_among interfaces (interface_of p))
-
--- the file header or section header is written in front of the first packet
-abbrev pub file_start_in : Format → SinkState → ℕ → List ℕ
-file_start_in format Empty link = file_start format link
-file_start_in format (Started first) link = []
-file_start_in format (Broken fault) link = []
-
-abbrev pub appended_packet : Format → List Interface → Captured → List ℕ
-appended_packet Pcap interfaces p = record_text Microseconds p
-appended_packet NsecPcap interfaces p = record_text Nanoseconds p
-appended_packet Pcapng interfaces p =
-    descriptions (new_among interfaces (interface_of p))
-    ++ pcapng.packet_block (number_among interfaces (interface_of p)) p
-
-abbrev pub added_in : SinkView → Captured → List ℕ
-added_in sink p =
-    file_start_in sink.format sink.state p.link ++ appended_packet sink.format sink.interfaces p
-
--- a packet of pcapng by the number of its interface
-abbrev pub description_text : Bool → Captured → List ℕ
-description_text true p = pcapng.interface_text p.link p.snap p.name
-description_text false p = []
-
-abbrev pub packet_block_text : InterfaceNumber → Captured → List ℕ
-packet_block_text interface p =
-    description_text interface.is_new p ++ pcapng.packet_block interface.number p
-
--- These bytes are appended to a device; or a prefix of them, not the whole, where it failed.
-pub record Appends {Device : Type 0} (d : Ghosts Device) (old : Device) (bytes : List ℕ)
-    (r : Result (Unit {0}) DeviceFault) (new : Device) : Type 0 where
-  pub appended : IsTrue d.tells → AppendsOrStops r (d.written old) bytes (d.written new)
-  pub failed : d.failures new ≡ d.failures old + failures_of r
-  pub room : d.room new ≡ d.room old
-
--- the state and the interfaces behind a packet
-abbrev pub state_after_packet : SinkState → Captured → SinkState
-state_after_packet Empty p = Started p.link
-state_after_packet (Started link) p = Started link
-state_after_packet (Broken fault) p = Broken fault
-
-abbrev pub interfaces_after_packet : Format → List Interface → Captured → List Interface
-interfaces_after_packet Pcap interfaces p = interfaces
-interfaces_after_packet NsecPcap interfaces p = interfaces
-interfaces_after_packet Pcapng interfaces p = interfaces ++ new_among interfaces (interface_of p)
-
--- what adding a packet does to a sink that did not fail, whatever the device
-pub record AddsPacket (old : SinkView) (p : Captured) (r : Result (Unit {0}) Fault)
-    (new : SinkView) : Type 0 where
-  pub answer : IsPutAnswer (refusal_in old p) (takes_memory_in old.format old.interfaces p) r
-  pub state : OnOk r (new.state ≡ state_after_packet old.state p)
-  pub interfaces : new.interfaces
-      ≡ interfaces_after_put r old.interfaces (interfaces_after_packet old.format old.interfaces p)
-  pub format : new.format ≡ old.format
-  pub failures : new.failures ≡ old.failures + write_failures r
-  pub room : new.room ≡ old.room
-  pub filled : r ≡ Err WriteFailed → old.room ≤ length new.written

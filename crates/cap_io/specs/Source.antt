@@ -1,16 +1,17 @@
 -- What a contract sees of a source, and what its calls do.
 use Rattle.std.specs.Prelude.{◌≡◌, ℕ, ◌+◌, ◌^◌, ◌<◌, ◌≤◌, Bool, true, false, IsTrue, List, [], ◌∷◌, ◌++◌, length, take, Option, None, Some, Result, Ok, Err, OnOk, OnErr, is_some}
 use Rattle.cap_octet.specs.Device.{HasGiven}
+use Rattle.cap_octet.specs.declared.device.Input.{Ghosts}
 use Rattle.cap_octet.specs.Packet.{Captured}
 use Rattle.cap_octet.specs.declared.fault.Fault.{Fault}
 use Rattle.cap_octet.specs.declared.fault.Fault.TheVariants.{NoMemory}
-use Rattle.cap_pcapng.specs.Interface.{FitSection, Described}
+use Rattle.cap_pcapng.specs.Interface.{FitSection}
 use Rattle.cap_io.specs.declared.source.Stage.{Stage}
 use Rattle.cap_io.specs.declared.source.Stage.TheVariants as stage
 use Rattle.cap_io.specs.declared.file_state.NextUnit.{NextUnit}
 use Rattle.cap_io.specs.declared.file_state.NextUnit.TheVariants as next_unit
-use Rattle.cap_io.specs.declared.file_state.PacketSpans.{PacketSpans}
-use Rattle.cap_io.specs.declared.file_state.FileState.{FileState}
+use Rattle.cap_pcapng.specs.declared.effect.PacketSpans.{PacketSpans}
+use Rattle.cap_io.specs.declared.next_unit.UnitReader.{UnitReader}
 use Rattle.cap_io.specs.Capture.{Declared, Nothing, PcapFile, PcapngFile, IsUnit, AreUnits, Stops, front_of}
 use Rattle.cap_io.specs.Reading.{most_in_unit, read_failures, HasInterface, IsReason, IsTaken, FitsBuffer, FitUnits, TakesMemory, IsConsistent, declared_by, packet_in_unit}
 
@@ -76,19 +77,18 @@ packet_at stage.InHand spans declared buffer =
 packet_at stage.Ended spans declared buffer = None
 packet_at (stage.Failed fault) spans declared buffer = None
 
-abbrev pub view_of : Stage → PacketSpans → FileState → List Described → List ℕ → ℕ → List ℕ → ℕ → ℕ
-    → Option ℕ → SourceView
-view_of stage spans file interfaces buffer offset unread given failures sure = record {
+abbrev pub view_of : {I A : Type 0} → Ghosts I → Stage → UnitReader I A → ℕ → SourceView
+view_of device stage r offset = record {
   phase = phase_at stage;
-  declared = declared_by file interfaces;
-  packet = packet_at stage spans (declared_by file interfaces) buffer;
-  block = block_at stage spans buffer;
+  declared = declared_by r.file r.table;
+  packet = packet_at stage r.spans (declared_by r.file r.table) r.buffer.items;
+  block = block_at stage r.spans r.buffer.items;
   offset = offset;
-  unread = unread;
-  given = given;
-  failures = failures;
-  sure = sure;
-  room = length buffer;
+  unread = device.unread r.input;
+  given = device.given r.input;
+  failures = device.failures r.input;
+  sure = device.sure r.input;
+  room = length r.buffer.items;
 }
 
 abbrev pub HoldsIfAny : Stage → PacketSpans → List ℕ → Type 0
@@ -104,14 +104,14 @@ HasInterfaceIfInHand stage.Ended spans declared = Unit {0}
 HasInterfaceIfInHand (stage.Failed fault) spans declared = Unit {0}
 
 -- what holds of each source's fields
-pub record IsSound (stage : Stage) (spans : PacketSpans) (file : FileState)
-    (interfaces : List Described) (offset : ℕ) (buffer : List ℕ) (given : ℕ) : Type 0 where
-  pub fits : offset + length (block_at stage spans buffer) < 2 ^ 63
-  pub counted : offset + length (block_at stage spans buffer) ≤ given
-  pub lies : HoldsIfAny stage spans buffer
-  pub known : HasInterfaceIfInHand stage spans (declared_by file interfaces)
-  pub consistent : IsConsistent file interfaces
-  pub bounded : length buffer ≤ most_in_unit
+pub record IsSound {I A : Type 0} (device : Ghosts I) (stage : Stage) (r : UnitReader I A)
+    (offset : ℕ) : Type 0 where
+  pub fits : offset + length (block_at stage r.spans r.buffer.items) < 2 ^ 63
+  pub counted : offset + length (block_at stage r.spans r.buffer.items) ≤ device.given r.input
+  pub lies : HoldsIfAny stage r.spans r.buffer.items
+  pub known : HasInterfaceIfInHand stage r.spans (declared_by r.file r.table)
+  pub consistent : IsConsistent r.file r.table
+  pub bounded : length r.buffer.items ≤ most_in_unit
 
 -- ---- what an advance does
 

@@ -3,16 +3,16 @@ ghost use Rattle.std.specs.Prelude.{◌≡◌, ◌+◌, ◌≤◌, length, take}
 ghost use Rattle.std.specs.Option.{IfSome, option_map};
 ghost use Rattle.cap_octet.specs.Packet.{captured};
 ghost use Rattle.cap_io.specs.Reading.{FitsBuffer, declared_by, known_first_link, known_order};
-ghost use Rattle.cap_io.specs.Reading.{most_in_unit, packet_in_unit, span_bytes};
+ghost use Rattle.cap_io.specs.Reading.{most_in_unit, packet_in_unit};
 
 use cap_octet::{Order, Packet};
 use cap_pcap::Head;
-use cap_pcapng::{Options, Table};
+use cap_pcapng::{Options, PacketSpans, Table};
 use std::alloc::Allocator;
 
 /// What the units that were read declare of those behind them, beside the interfaces of a section.
 #[derive(Clone, Copy)]
-pub(crate) enum FileState {
+pub enum FileState {
     /// Nothing was read.
     Unknown,
     Pcap(Head),
@@ -81,64 +81,6 @@ impl FileState {
                     comment: Options { order, rest }.comment(),
                 })
             }
-        }
-    }
-}
-
-/// Bytes of a unit.
-#[derive(Clone, Copy)]
-pub(crate) struct Span {
-    /// Where they begin in the unit.
-    pub(crate) start: u32,
-    /// How many they are.
-    pub(crate) length: u32,
-}
-
-impl Span {
-    /// So many bytes from this one on.
-    pub(crate) fn new(start: u32, length: u32) -> Self
-        ensures { result ≡ record { start = start; length = length } }
-    {
-        Span { start, length }
-    }
-
-    /// These bytes of a buffer that begins with the unit.
-    pub(crate) fn of(self, bytes: &[u8]) -> &[u8]
-        requires { self.start + self.length ≤ length bytes.now }
-        ensures { result.now ≡ span_bytes self bytes.now }
-    {
-        &bytes[self.start as usize..][..self.length as usize]
-    }
-}
-
-/// Where a packet lies in its unit, which is at the start of the block buffer, and what is in front
-/// of its data.
-#[derive(Clone, Copy)]
-pub(crate) struct PacketSpans {
-    /// The size of its unit, in bytes.
-    pub(crate) size: u32,
-    /// Where its data lie.
-    pub(crate) bytes: Span,
-    /// Where the options of its block lie; none but in an enhanced packet.
-    pub(crate) options: Span,
-    /// The number of its interface in its section; 0 in pcap.
-    pub(crate) interface: u32,
-    /// Nanoseconds since 1970-01-01 00:00:00 UTC, below 2^63.
-    pub(crate) time: u64,
-    /// The original length, in bytes.
-    pub(crate) orig: u32,
-}
-
-impl PacketSpans {
-    /// Of no packet.
-    pub(crate) fn of_no_packet() -> Self {
-        PacketSpans {
-            size: 0,
-            bytes: Span::new(0, 0),
-            options: Span::new(0, 0),
-            interface: 0,
-            time: 0,
-            orig: 0,
         }
     }
 }

@@ -1,5 +1,6 @@
 //! Laws of the definitions: each is the contract of a function that does nothing.
 ghost use Rattle.cap_io.specs.Laws.{EachHasCut, EachHasOneCut, CutTellsItems};
+ghost use Rattle.cap_io.specs.Laws.{EachPutGoesByPackets, PutExtendsText};
 ghost use Rattle.cap_io.specs.RoundTrip.{ItemsBack};
 
 /// Each text is cut into units in one way, and the cut tells its items.
@@ -12,4 +13,11 @@ pub fn one_cut()
 /// What is written of packets that a format carries reads back as they are.
 pub fn items_back()
     ensures { ItemsBack }
+{}
+
+/// What a sink keeps decides of one more packet what all packets so far do, and a packet that is
+/// put extends their text.
+pub fn put_extends_text()
+    ensures by_packets { EachPutGoesByPackets }
+    ensures text { PutExtendsText }
 {}

@@ -12,5 +12,6 @@ mod source;
 mod unit;
 mod writing;
 
+pub use file_state::FileState;
 pub use sink::{Sink, SinkState};
 pub use source::{Kind, Source};

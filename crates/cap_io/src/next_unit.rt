@@ -4,12 +4,12 @@ ghost use Rattle.cap_io.specs.Capture.{Nothing};
 ghost use Rattle.cap_io.specs.Reading.{IsConsistent, Moves, ReadsUnit, NoUnitCame};
 ghost use Rattle.cap_io.specs.declared.file_state.FileState.TheVariants as state;
 
-use crate::file_state::{FileState, NextUnit, PacketSpans};
-use crate::pcap::{next_record, read_header};
-use crate::pcapng::{BLOCK_FRONT, next_block, read_block};
+use crate::file_state::{FileState, NextUnit};
+use crate::pcap::read_header;
+use crate::pcapng::BLOCK_FRONT;
 use crate::unit::read_rest;
 use cap_octet::{Fault, Input, read_full};
-use cap_pcapng::{Table, begins_section};
+use cap_pcapng::{PacketSpans, Table, begins_section};
 use std::alloc::Allocator;
 
 /// The bytes of the file header of pcap.
@@ -34,45 +34,47 @@ fn read_first<I: Input>(input: &mut I) -> Result<[u8; 4], Fault>
     Ok(first)
 }
 
-/// Reads the first unit of a file: a section header, or the file header of pcap.
-fn first_unit<I: Input, A: Allocator>(
-    input: &mut I,
-    file: &mut FileState,
-    buffer: &mut Vec<u8, A>,
-    table: &mut Table<A>,
-    spans: &mut PacketSpans,
-) -> Result<NextUnit, Fault>
-    requires unknown { file.old ≡ state.Unknown }
-    requires empty { table.old ≡ [] }
-    ensures { ReadsUnit I.Input input.old [] file.old table.old (length buffer.old.items) result
-        input.new buffer.new.items spans.new file.new table.new }
-{
-    let first = read_first(input)?;
-    if !begins_section(&first) {
-        *file = FileState::Pcap(read_header(input, &first)?);
-        return Ok(NextUnit::Other(FILE_HEADER));
-    }
-    let mut front = [0; BLOCK_FRONT];
-    read_rest(input, &first, &mut front, BLOCK_FRONT)?;
-    read_block(input, file, &front, buffer, table, spans)
+/// Reads the units of a file, one at a time, through one block of memory.
+#[derive(Drop)]
+pub(crate) struct UnitReader<I: Input, A: Allocator> {
+    pub(crate) input: I,
+    /// What the units so far declare, beside the interfaces of a section.
+    pub(crate) file: FileState,
+    /// The current unit is at its start.
+    pub(crate) buffer: Vec<u8, A>,
+    /// The interfaces of the current section.
+    pub(crate) table: Table<A>,
+    /// Where the packet of the current unit lies, where it has one.
+    pub(crate) spans: PacketSpans,
 }
 
-/// Reads the next unit of a file of which this much is known, or finds the clean end. A packet
-/// is then at the start of the buffer. A fault leaves what is known.
-pub(crate) fn read_unit<I: Input, A: Allocator>(
-    input: &mut I,
-    file: &mut FileState,
-    buffer: &mut Vec<u8, A>,
-    table: &mut Table<A>,
-    spans: &mut PacketSpans,
-) -> Result<NextUnit, Fault>
-    requires { IsConsistent file.old table.old }
-    ensures { ReadsUnit I.Input input.old [] file.old table.old (length buffer.old.items) result
-        input.new buffer.new.items spans.new file.new table.new }
-{
-    match &*file {
-        FileState::Unknown => first_unit(input, file, buffer, table, spans),
-        FileState::Pcap(head) => next_record(input, head, buffer, spans),
-        FileState::Pcapng(_, _) => next_block(input, file, buffer, table, spans),
+impl<I: Input, A: Allocator> UnitReader<I, A> {
+    /// Reads the first unit of a file: a section header, or the file header of pcap.
+    fn first_unit(&mut self) -> Result<NextUnit, Fault>
+        requires unknown { self.old.file ≡ state.Unknown }
+        requires empty { self.old.table ≡ [] }
+        ensures { ReadsUnit I.Input self.old [] result self.new }
+    {
+        let first = read_first(&mut self.input)?;
+        if !begins_section(&first) {
+            self.file = FileState::Pcap(read_header(&mut self.input, &first)?);
+            return Ok(NextUnit::Other(FILE_HEADER));
+        }
+        let mut front = [0; BLOCK_FRONT];
+        read_rest(&mut self.input, &first, &mut front, BLOCK_FRONT)?;
+        self.read_block(&front)
+    }
+
+    /// Reads the next unit, or finds the clean end. A packet is then at the start of the buffer. A
+    /// fault leaves what is known of the file.
+    pub(crate) fn next_unit(&mut self) -> Result<NextUnit, Fault>
+        requires { IsConsistent self.old.file self.old.table }
+        ensures { ReadsUnit I.Input self.old [] result self.new }
+    {
+        match self.file {
+            FileState::Unknown => self.first_unit(),
+            FileState::Pcap(head) => self.next_record(&head),
+            FileState::Pcapng(_, _) => self.next_block(),
+        }
     }
 }

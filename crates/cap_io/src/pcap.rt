@@ -2,17 +2,18 @@
 ghost use Rattle.std.specs.Prelude.{◌≡◌, ℕ, ◌+◌, ◌^◌, ◌<◌, ◌≤◌, ◌++◌, false, IsTrue, IfOk, IfErr};
 ghost use Rattle.std.specs.Prelude.{List, [], length, IfSome, IsNone};
 ghost use Rattle.cap_pcapng.specs.Frame.{is_section};
-ghost use Rattle.cap_pcapng.specs.Interface.{Described};
 ghost use Rattle.cap_io.specs.Capture.{Nothing};
 ghost use Rattle.cap_io.specs.Reading.{HeaderCame, Moves, NothingTaken, ReadsUnit, RecordTaken};
 ghost use Rattle.cap_io.specs.Reading.{NoUnitCame, record_spans};
 ghost use Rattle.cap_pcap.specs.Record.{most_captured};
 ghost use Rattle.cap_io.specs.declared.file_state.FileState.TheVariants as state;
 
-use crate::file_state::{NextUnit, PacketSpans, Span};
+use crate::file_state::NextUnit;
+use crate::next_unit::UnitReader;
 use crate::unit::{copy_unit, make_room, read_front, read_rest};
 use cap_octet::{Fault, Input, u32_at};
 use cap_pcap::{Head, RecordHead, read_head, read_magic, read_record};
+use cap_pcapng::{PacketSpans, Span};
 use std::alloc::Allocator;
 
 /// The bytes of a record in front of its data.
@@ -73,30 +74,6 @@ pub(crate) fn holds_record(head: &Head, bytes: &[u8]) -> bool {
     u32_at(head.order, bytes, CAPTURED) as usize <= bytes.len() - RECORD_HEAD
 }
 
-/// Reads the next record to the start of the buffer, and writes where its packet lies. Its limits
-/// are looked at before the buffer grows.
-pub(crate) fn next_record<I: Input, A: Allocator>(
-    input: &mut I,
-    head: &Head,
-    buffer: &mut Vec<u8, A>,
-    spans: &mut PacketSpans,
-) -> Result<NextUnit, Fault>
-    ensures { (interfaces : List Described) → ReadsUnit I.Input input.old [] (state.Pcap head.now)
-        interfaces (length buffer.old.items) result input.new buffer.new.items spans.new
-        (state.Pcap head.now) interfaces }
-{
-    let mut front = [0; RECORD_HEAD];
-    if !read_front(input, &mut front)? {
-        return Ok(NextUnit::End);
-    }
-    let found = read_record(head, &front)?;
-    let size = RECORD_HEAD + found.captured as usize;
-    make_room(buffer, size)?;
-    read_rest(input, &front, buffer.as_mut_slice(), size)?;
-    *spans = record_spans(&found);
-    Ok(NextUnit::Packet)
-}
-
 /// Where the packet of a record lies.
 #[inline(always)]
 pub(crate) fn record_spans(found: &RecordHead) -> PacketSpans
@@ -110,5 +87,25 @@ pub(crate) fn record_spans(found: &RecordHead) -> PacketSpans
         interface: 0,
         time: found.time,
         orig: found.orig,
+    }
+}
+
+impl<I: Input, A: Allocator> UnitReader<I, A> {
+    /// Reads the next record of a pcap file to the start of the buffer. Its limits are looked at
+    /// before the buffer grows.
+    pub(crate) fn next_record(&mut self, head: &Head) -> Result<NextUnit, Fault>
+        requires { self.old.file ≡ state.Pcap head.now }
+        ensures { ReadsUnit I.Input self.old [] result self.new }
+    {
+        let mut front = [0; RECORD_HEAD];
+        if !read_front(&mut self.input, &mut front)? {
+            return Ok(NextUnit::End);
+        }
+        let found = read_record(head, &front)?;
+        let size = RECORD_HEAD + found.captured as usize;
+        make_room(&mut self.buffer, size)?;
+        read_rest(&mut self.input, &front, self.buffer.as_mut_slice(), size)?;
+        self.spans = record_spans(&found);
+        Ok(NextUnit::Packet)
     }
 }

@@ -1,11 +1,11 @@
 //! Packets of a capture, one at a time.
-use crate::file_state::{FileState, NextUnit, PacketSpans};
-use crate::next_unit::read_unit;
+use crate::file_state::{FileState, NextUnit};
+use crate::next_unit::UnitReader;
 use crate::pcap::{holds_record, record_spans, take_record};
 use crate::pcapng::holds_packet;
 use cap_octet::{Fault, Input, Packet};
 use cap_pcap::Resolution;
-use cap_pcapng::Table;
+use cap_pcapng::{PacketSpans, Table};
 use std::alloc::Allocator;
 use std::marker::Model;
 
@@ -35,13 +35,8 @@ pub(crate) enum Stage {
 /// pcapng the table of a section's interfaces.
 #[derive(Drop)]
 pub struct Source<I: Input, A: Allocator> {
-    input: I,
-    buffer: Vec<u8, A>,
-    table: Table<A>,
-    file: FileState,
+    reader: UnitReader<I, A>,
     stage: Stage,
-    /// Where the current packet lies, where there is one.
-    spans: PacketSpans,
     offset: u64,
 }
 
@@ -50,11 +45,9 @@ impl<I: Input, A: Allocator> Model for Source<I, A> {
 
     ghost Value = { SourceView };
 
-    ghost view = { λ s. view_of s.stage s.spans s.file s.table s.buffer.items s.offset
-        (I.unread s.input) (I.given s.input) (I.failures s.input) (I.sure s.input) };
+    ghost view = { λ s. view_of I.Input s.stage s.reader s.offset };
 
-    ghost invariant = { λ s. IsSound s.stage s.spans s.file s.table s.offset
-        s.buffer.items (I.given s.input) };
+    ghost invariant = { λ s. IsSound I.Input s.stage s.reader s.offset };
 }
 
 impl<I: Input, A: Allocator> Source<I, A> {
@@ -77,12 +70,14 @@ impl<I: Input, A: Allocator> Source<I, A> {
             (I.sure input) }
     {
         Source {
-            input,
-            buffer: Vec::new(alloc),
-            table: Table::new(alloc),
-            file: FileState::Unknown,
+            reader: UnitReader {
+                input,
+                file: FileState::Unknown,
+                buffer: Vec::new(alloc),
+                table: Table::new(alloc),
+                spans: PacketSpans::of_no_packet(),
+            },
             stage: Stage::Between,
-            spans: PacketSpans::of_no_packet(),
             offset: 0,
         }
     }
@@ -110,11 +105,11 @@ impl<I: Input, A: Allocator> Source<I, A> {
         }
     }
 
-    /// Whether the device has the next packet at hand, so that `advance` makes it read nothing. `false`
-    /// where that can't be told.
+    /// Whether the device has the next packet at hand, so that `advance` makes it read nothing.
+    /// `false` where that can't be told.
     pub fn has_next_at_hand(&self) -> bool {
-        let hand = self.input.at_hand();
-        match &self.file {
+        let hand = self.reader.input.at_hand();
+        match &self.reader.file {
             FileState::Unknown => false,
             FileState::Pcap(head) => holds_record(head, hand),
             FileState::Pcapng(order, _) => holds_packet(*order, hand),
@@ -129,7 +124,10 @@ impl<I: Input, A: Allocator> Source<I, A> {
         let Stage::InHand = self.stage else {
             return None;
         };
-        self.file.packet(&self.spans, &self.buffer, &self.table)
+        let reader = &self.reader;
+        reader
+            .file
+            .packet(&reader.spans, &reader.buffer, &reader.table)
     }
 
     /// The time of the current packet, in nanoseconds since 1970-01-01 00:00:00 UTC; what `head`
@@ -138,7 +136,7 @@ impl<I: Input, A: Allocator> Source<I, A> {
         ensures { result ≡ option_map (λ p. p.time) self.now.packet }
     {
         match self.stage {
-            Stage::InHand => Some(self.spans.time),
+            Stage::InHand => Some(self.reader.spans.time),
             Stage::Between | Stage::Ended | Stage::Failed(_) => None,
         }
     }
@@ -155,7 +153,7 @@ impl<I: Input, A: Allocator> Source<I, A> {
     pub fn kind(&self) -> Option<Kind>
         ensures { result ≡ kind_of self.now.declared }
     {
-        match self.file {
+        match self.reader.file {
             FileState::Unknown => None,
             FileState::Pcap(head) => Some(match head.resolution {
                 Resolution::Microseconds => Kind::Pcap,
@@ -169,7 +167,7 @@ impl<I: Input, A: Allocator> Source<I, A> {
     pub fn first_link(&self) -> Option<u16>
         ensures { result ≡ first_link_of self.now.declared }
     {
-        self.file.first_link()
+        self.reader.file.first_link()
     }
 
     /// The device, as it stands. It takes no memory.
@@ -181,7 +179,8 @@ impl<I: Input, A: Allocator> Source<I, A> {
         ensures given { I.given result ≡ self.given }
         ensures unread { I.unread result ≡ self.unread }
     {
-        let Source { input, .. } = self;
+        let Source { reader, .. } = self;
+        let UnitReader { input, .. } = reader;
         input
     }
 
@@ -208,19 +207,19 @@ impl<I: Input, A: Allocator> Source<I, A> {
         ensures found { IsTrue result → TakesNext I.tells self.old self.new }
         ensures nothing { result ≡ false → TakesNothing I.tells self.old self.new }
     {
-        let FileState::Pcap(head) = &self.file else {
+        let FileState::Pcap(head) = &self.reader.file else {
             return false;
         };
-        let buffer = self.buffer.as_mut_slice();
-        let Some(found) = take_record(&mut self.input, head, buffer) else {
+        let buffer = self.reader.buffer.as_mut_slice();
+        let Some(found) = take_record(&mut self.reader.input, head, buffer) else {
             return false;
         };
-        self.spans = record_spans(&found);
+        self.reader.spans = record_spans(&found);
         self.stage = Stage::InHand;
         true
     }
 
-    /// Goes over units to the next one with a packet.
+    /// Skips units to the next one with a packet.
     #[inline(never)]
     fn skip_to_packet(&mut self) -> Result<bool, Fault>
         requires between { IsBetween self.old }
@@ -244,25 +243,19 @@ impl<I: Input, A: Allocator> Source<I, A> {
         ensures { self.new ≡ past_unit self.old }
     {
         if let Stage::InHand = self.stage {
-            self.offset += u64::from(self.spans.size);
+            self.offset += u64::from(self.reader.spans.size);
         }
         self.stage = Stage::Between;
     }
 
-    /// Goes over one unit, or to the clean end.
+    /// Skips one unit, or goes to the clean end.
     fn read_next(&mut self) -> Result<NextUnit, Fault>
         requires between { IsBetween self.old }
         ensures packets { IsTrue I.tells → FindsNext self.old result self.new }
         ensures bounds { NextBounds self.old result self.new }
         ensures err { OnErr result (IsBetween self.new) }
     {
-        let unit = read_unit(
-            &mut self.input,
-            &mut self.file,
-            &mut self.buffer,
-            &mut self.table,
-            &mut self.spans,
-        )?;
+        let unit = self.reader.next_unit()?;
         match unit {
             NextUnit::Packet => self.stage = Stage::InHand,
             NextUnit::Other(size) => self.offset += size as u64,

@@ -5,7 +5,7 @@ use Rattle.flt_words.proofs.OneAnswer.{same_answer}
 use Rattle.flt_bpf.specs.declared.insn.Insn.{Insn}
 use Rattle.flt_tree.specs.Counts.{bound_of}
 use Rattle.flt_tree.specs.Filled.{fill_expression}
-use Rattle.flt_reader.specs.Grammar.{IsReadAs, kinds_of}
+use Rattle.flt_lang.specs.Grammar.{IsReadAs, kinds_of}
 use Rattle.flt_tree.specs.Tree.{Expression}
 use Rattle.flt_lang.proofs.Complete.{complete}
 use Rattle.flt_tree.proofs.NodesBack.{same_nodes}

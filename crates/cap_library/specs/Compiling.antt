@@ -8,7 +8,7 @@ use Rattle.cap_octet.specs.Assigned.{LINKTYPE_RAW}
 use Rattle.cap_octet.specs.declared.link.Link.{Link}
 use Rattle.cap_filter.specs.Compilation.{IsCompiled}
 use Rattle.cap_filter.specs.Expressions.{IsTextFault}
-use Rattle.cap_filter.specs.Links.{link_of}
+use Rattle.cap_octet.specs.Link.{link_of}
 use Rattle.cap_library.specs.declared.compiling.Failure.{Failure}
 use Rattle.cap_library.specs.declared.compiling.Failure.TheVariants.{Text, NotUtf8, LinkType, NoRoom}
 

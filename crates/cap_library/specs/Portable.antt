@@ -1,43 +1,61 @@
 -- Programs that run alike elsewhere.
-use Rattle.std.specs.Prelude.{ℕ, ◌==◌, ◌&&◌, ◌||◌, ◌%◌, if◌then◌else◌, Bool, true, false, not, zero, suc, List, [], ◌∷◌, length, nat_le, nat_lt, slice_index_or}
+use Rattle.std.specs.Prelude.{ℕ, ◌==◌, ◌&&◌, ◌||◌, ◌^◌, if◌then◌else◌, Bool, true, false, not, zero, suc, List, [], ◌∷◌, length, nat_le, nat_lt, slice_index_or, Option, Some}
 use Rattle.std.specs.List.{list_all}
+use Rattle.flt_bpf.specs.Instructions.{operation_of}
+use Rattle.flt_bpf.specs.Valid.{WORDS}
 use Rattle.flt_bpf.specs.declared.insn.Insn.{Insn}
+use Rattle.flt_bpf.specs.declared.operation.AluOperation.TheVariants.{ShiftLeft, ShiftRight}
+use Rattle.flt_bpf.specs.declared.operation.Operand.TheVariants.{IndexRegister}
+use Rattle.flt_bpf.specs.declared.operation.Operation.{Operation}
+use Rattle.flt_bpf.specs.declared.operation.Operation.TheVariants.{LoadAbsolute, LoadIndirect, Load, LoadHeaderLength, Store, Compute, Jump, JumpIf, ReturnConstant, ReturnAccumulator, CopyToIndex}
+use Rattle.flt_bpf.specs.declared.operation.Register.TheVariants.{Index}
+use Rattle.flt_bpf.specs.declared.operation.Source.TheVariants.{Immediate, Memory, Length}
 
 abbrev pub half_of_places : ℕ
-half_of_places = 2147483648
+half_of_places = 2 ^ 31
 
--- X stays below 2^31: ldx #k, ldx M[k], ldx len, tax
+-- X stays below 2^31 where it is below it
+abbrev pub operation_keeps : Option Operation → ℕ → Bool
+operation_keeps (Some (Load Index Immediate)) k = nat_lt k half_of_places
+operation_keeps (Some (Load Index _)) k = false
+operation_keeps (Some CopyToIndex) k = false
+operation_keeps _ k = true
+
 abbrev pub keeps_x_small : Insn → Bool
-keeps_x_small i =
-    if i.code == 1 then nat_lt i.k half_of_places
-    else (if (i.code == 97) || (i.code == 129) || (i.code == 7) then false
-    else true)
+keeps_x_small i = operation_keeps (operation_of i.code) i.k
 
--- loads at k and at X + k, the length, shifts by X
+-- an operation does the same on both machines, where X is small or not
+abbrev pub operation_alike : Option Operation → ℕ → Bool → Bool
+operation_alike (Some (LoadAbsolute width)) k small = nat_lt k half_of_places
+operation_alike (Some LoadHeaderLength) k small = nat_lt k half_of_places
+operation_alike (Some (LoadIndirect width)) k small = small && nat_lt k half_of_places
+operation_alike (Some (Load register Length)) k small = false
+operation_alike (Some (Compute ShiftLeft IndexRegister)) k small = false
+operation_alike (Some (Compute ShiftRight IndexRegister)) k small = false
+operation_alike _ k small = true
+
 abbrev pub runs_alike : Bool → Insn → Bool
-runs_alike small i =
-    if (i.code == 32) || (i.code == 40) || (i.code == 48)
-    || (i.code == 177) then nat_lt i.k half_of_places
-    else (if (i.code == 64) || (i.code == 72)
-    || (i.code == 80) then small && nat_lt i.k half_of_places
-    else (if (i.code == 128) || (i.code == 129) || (i.code == 108) || (i.code == 124) then false
-    else true))
+runs_alike small i = operation_alike (operation_of i.code) i.k small
 
 -- of the places behind an instruction, whether the n-th may read a word first; past the last one
 -- none does
 abbrev pub wanted_at : List Bool → ℕ → Bool
 wanted_at behind n = slice_index_or behind n false
 
--- Whether a run may read M[w] before it writes it, from an instruction on, by what holds of the
--- places behind it: ld M and ldx M; st and stx; ja; the other jumps; returns.
+-- whether a run may read M[w] before it writes it, from an instruction on, by its operation and by
+-- what holds of the places after it
+abbrev pub operation_wants : Option Operation → ℕ → Insn → List Bool → Bool
+operation_wants (Some (Load register Memory)) w i behind = (i.k == w) || wanted_at behind 0
+operation_wants (Some (Store register)) w i behind = not (i.k == w) && wanted_at behind 0
+operation_wants (Some Jump) w i behind = wanted_at behind i.k
+operation_wants (Some (JumpIf test operand)) w i behind =
+    wanted_at behind i.jt || wanted_at behind i.jf
+operation_wants (Some ReturnConstant) w i behind = false
+operation_wants (Some ReturnAccumulator) w i behind = false
+operation_wants _ w i behind = wanted_at behind 0
+
 abbrev pub wants : ℕ → Insn → List Bool → Bool
-wants w i behind =
-    if (i.code == 96) || (i.code == 97) then (i.k == w) || wanted_at behind 0
-    else (if (i.code == 2) || (i.code == 3) then not (i.k == w) && wanted_at behind 0
-    else (if i.code == 5 then wanted_at behind i.k
-    else (if i.code % 8 == 5 then wanted_at behind i.jt || wanted_at behind i.jf
-    else (if i.code % 8 == 6 then false
-    else wanted_at behind 0))))
+wants w i behind = operation_wants (operation_of i.code) w i behind
 
 -- the same of each place of a program
 abbrev pub words_wanted : ℕ → List Insn → List Bool
@@ -49,8 +67,12 @@ abbrev pub writes_first : ℕ → List Insn → Bool
 writes_first zero insns = true
 writes_first (suc n) insns = writes_first n insns && not (wanted_at (words_wanted n insns) 0)
 
+-- how many instructions Linux attaches to a socket at most
+abbrev pub most_attached : ℕ
+most_attached = 4096
+
 abbrev pub is_portable : List Insn → ℕ
 is_portable insns =
-    if nat_le (length insns) 4096
-    && (list_all (runs_alike (list_all keeps_x_small insns)) insns && writes_first 16 insns)
+    if nat_le (length insns) most_attached
+    && (list_all (runs_alike (list_all keeps_x_small insns)) insns && writes_first WORDS insns)
     then 1 else 0

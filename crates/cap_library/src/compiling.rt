@@ -1,13 +1,12 @@
 //! Compilations into the caller's memory.
 ghost use Rattle.std.specs.Prelude.{◌≡◌, ◌≤◌, IfOk, IfErr, OnErr, length};
-ghost use Rattle.cap_filter.specs.Links.{link_of};
 ghost use Rattle.cap_library.specs.Compiling.{CompilesText, IsFailure, WritesProgram};
 ghost use Rattle.cap_library.specs.Compiling.{IsNotUtf8, failure_number};
 ghost use Rattle.cap_library.specs.Compiling.{failure_status, file_link_type};
 
 use cap_filter::compile::compile_text;
 use cap_octet::Link;
-use cap_octet::assigned::{LINKTYPE_ETHERNET, LINKTYPE_LINUX_SLL, LINKTYPE_RAW};
+use cap_octet::assigned::LINKTYPE_RAW;
 use flt_bpf::Insn;
 use flt_words::ExprFault;
 use std::alloc::Global;
@@ -26,19 +25,6 @@ pub enum Failure {
     LinkType,
     /// The program has so many instructions, more than there is room for.
     NoRoom(usize),
-}
-
-/// The link of a link type.
-#[tactic(auto, unfolding(cap_filter::specs::Links::link_types))]
-fn link_of(number: u16) -> Option<Link>
-    ensures { result ≡ link_of number }
-{
-    match number {
-        LINKTYPE_ETHERNET => Some(Link::Ether),
-        LINKTYPE_RAW => Some(Link::Raw),
-        LINKTYPE_LINUX_SLL => Some(Link::Cooked),
-        _ => None,
-    }
 }
 
 /// The link type as files have it, of one that libpcap's pcap_datalink() may give.
@@ -75,7 +61,7 @@ fn compile_into(
     ensures failed { IfErr result (IsFailure text.now link_type (length insns.old)) }
     ensures kept { OnErr result (insns.new ≡ insns.old) }
 {
-    let Some(link) = link_of(file_link_type(link_type)) else {
+    let Some(link) = Link::of_link_type(file_link_type(link_type)) else {
         return Err(Failure::LinkType);
     };
     let text = match utf8(text) {

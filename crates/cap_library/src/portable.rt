@@ -5,6 +5,7 @@ ghost use Rattle.cap_library.specs.Portable.{is_portable, keeps_x_small, runs_al
 ghost use Rattle.cap_library.specs.Portable.{wanted_at, wants, writes_first};
 
 use flt_bpf::Insn;
+use flt_bpf::operation::{AluOperation, Operand, Operation, Register, Source, decode};
 
 /// The most instructions that Linux attaches to a socket.
 const MOST_ATTACHED: usize = 4096;
@@ -16,14 +17,14 @@ const WORDS: u32 = 16;
 /// can't wrap below it.
 const HALF: u32 = 0x8000_0000;
 
-/// Whether X holds less than 2^31 behind an instruction if it does before it: it isn't loaded from
+/// Whether X holds less than 2^31 after an instruction if it does before it: it isn't loaded from
 /// memory, from the length or from A, and with no constant from 2^31 on.
 fn keeps_x_small(insn: &Insn) -> bool
     ensures { result ≡ keeps_x_small insn.now }
 {
-    match insn.code {
-        0x01 => insn.k < HALF,
-        0x61 | 0x81 | 0x07 => false,
+    match decode(insn.code) {
+        Some(Operation::Load(Register::Index, Source::Immediate)) => insn.k < HALF,
+        Some(Operation::Load(Register::Index, _) | Operation::CopyToIndex) => false,
         _ => true,
     }
 }
@@ -32,10 +33,12 @@ fn keeps_x_small(insn: &Insn) -> bool
 fn runs_alike(insn: &Insn, small: bool) -> bool
     ensures { result ≡ runs_alike small insn.now }
 {
-    match insn.code {
-        0x20 | 0x28 | 0x30 | 0xb1 => insn.k < HALF,
-        0x40 | 0x48 | 0x50 => small && insn.k < HALF,
-        0x80 | 0x81 | 0x6c | 0x7c => false,
+    match decode(insn.code) {
+        Some(Operation::LoadAbsolute(_) | Operation::LoadHeaderLength) => insn.k < HALF,
+        Some(Operation::LoadIndirect(_)) => small && insn.k < HALF,
+        Some(Operation::Load(_, Source::Length)) => false,
+        Some(Operation::Compute(AluOperation::ShiftLeft, Operand::IndexRegister)) => false,
+        Some(Operation::Compute(AluOperation::ShiftRight, Operand::IndexRegister)) => false,
         _ => true,
     }
 }
@@ -52,7 +55,7 @@ fn run_alike(insns: &[Insn], small: bool) -> bool
     insns.iter().all(|insn| runs_alike(insn, small))
 }
 
-/// What is noted of the place behind so many others; `false` past the last one.
+/// What is noted of the place after this number of others; `false` past the last one.
 fn wanted_at(behind: &[bool], place: usize) -> bool
     ensures { result ≡ wanted_at behind.now place }
 {
@@ -67,14 +70,14 @@ fn wanted_at(behind: &[bool], place: usize) -> bool
 fn wants(insn: &Insn, word: u32, behind: &[bool]) -> bool
     ensures { result ≡ wants word insn.now behind.now }
 {
-    match insn.code {
-        0x60 | 0x61 => insn.k == word || wanted_at(behind, 0),
-        0x02 | 0x03 => insn.k != word && wanted_at(behind, 0),
-        0x05 => wanted_at(behind, insn.k as usize),
-        code if code % 8 == 5 => {
+    match decode(insn.code) {
+        Some(Operation::Load(_, Source::Memory)) => insn.k == word || wanted_at(behind, 0),
+        Some(Operation::Store(_)) => insn.k != word && wanted_at(behind, 0),
+        Some(Operation::Jump) => wanted_at(behind, insn.k as usize),
+        Some(Operation::JumpIf(_, _)) => {
             wanted_at(behind, insn.jt as usize) || wanted_at(behind, insn.jf as usize)
         }
-        code if code % 8 == 6 => false,
+        Some(Operation::ReturnConstant | Operation::ReturnAccumulator) => false,
         _ => wanted_at(behind, 0),
     }
 }
@@ -95,7 +98,7 @@ fn mark_wanted(insns: &[Insn], word: u32, marks: &mut [bool])
 /// Whether a run may read a word of memory before it writes it. libpcap finds there what lay in its
 /// memory, and Linux refuses the program.
 fn reads_first(insns: &[Insn], word: u32) -> bool
-    requires { length insns.now ≤ 4096 }
+    requires { length insns.now ≤ MOST_ATTACHED }
     ensures { result ≡ wanted_at (words_wanted word insns.now) 0 }
 {
     let mut marks = [false; MOST_ATTACHED];
@@ -105,8 +108,8 @@ fn reads_first(insns: &[Insn], word: u32) -> bool
 }
 
 fn write_first(insns: &[Insn]) -> bool
-    requires { length insns.now ≤ 4096 }
-    ensures { result ≡ writes_first 16 insns.now }
+    requires { length insns.now ≤ MOST_ATTACHED }
+    ensures { result ≡ writes_first WORDS insns.now }
 {
     let mut all = true;
     for word in 0..WORDS {

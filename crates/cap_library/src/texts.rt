@@ -4,6 +4,8 @@ ghost use Rattle.cap_library.specs.Texts.{found_text, number_text, put_text, rul
 ghost use Rattle.cap_library.specs.Texts.{status_text, version};
 
 use cap_octet::Fault;
+use flt_bpf::CheckFault;
+use flt_words::ExprFault;
 
 /// The numbers of rules begin behind this one.
 pub(crate) const RULES: u32 = 100;
@@ -19,19 +21,19 @@ fn status_text(status: u32) -> &'static str
     ensures { result.now ≡ status_text status }
 {
     match status {
-        1 => "longer than 65536 bytes",
-        2 => "unknown character",
-        3 => "unknown word",
-        4 => "number too large",
-        5 => "not an expression",
-        6 => "nested too deep",
-        7 => "qualifiers do not fit",
-        8 => "value out of range",
-        9 => "bits set past the mask",
-        10 => "division by zero",
-        11 => "more than 16 words",
-        12 => "program too long",
-        13 => "no memory",
+        1 => ExprFault::TooLong.text(),
+        2 => ExprFault::UnknownCharacter(0).text(),
+        3 => ExprFault::UnknownWord(0).text(),
+        4 => ExprFault::NumberTooLarge(0).text(),
+        5 => ExprFault::NotAnExpression.text(),
+        6 => ExprFault::NestedTooDeep.text(),
+        7 => ExprFault::QualifiersDoNotFit.text(),
+        8 => ExprFault::ValueOutOfRange.text(),
+        9 => ExprFault::BitsPastMask.text(),
+        10 => ExprFault::DivisionByZero.text(),
+        11 => ExprFault::TooManyWords.text(),
+        12 => ExprFault::ProgramTooLong.text(),
+        13 => ExprFault::Memory.text(),
         14 => "not UTF-8",
         15 => "link type not filtered",
         16 => "no room for the program",
@@ -44,14 +46,14 @@ fn rule_text(rule: u32) -> &'static str
     ensures { result.now ≡ rule_text rule }
 {
     match rule {
-        1 => "empty",
-        2 => "too long",
-        3 => "unknown code",
-        4 => "jump out",
-        5 => "no such word",
-        6 => "division by zero",
-        7 => "shift too far",
-        8 => "no return at the end",
+        1 => CheckFault::Empty.text(),
+        2 => CheckFault::TooLong.text(),
+        3 => CheckFault::UnknownCode.text(),
+        4 => CheckFault::JumpOut.text(),
+        5 => CheckFault::NoSuchWord.text(),
+        6 => CheckFault::DivisionByZero.text(),
+        7 => CheckFault::ShiftTooFar.text(),
+        8 => CheckFault::NoReturn.text(),
         _ => "",
     }
 }

@@ -15,19 +15,19 @@ use Rattle.cap_pcapng.specs.Comment.{comment_in}
 use Rattle.cap_pcapng.specs.Frame.{is_section}
 use Rattle.cap_pcapng.specs.Interface.{Described}
 use Rattle.cap_pcapng.specs.Unit.{Section, packet_of, packets_in}
-use Rattle.cap_io.specs.Blocks.{section_of}
+use Rattle.cap_pcapng.specs.Effect.{section_of}
 use Rattle.cap_io.specs.Capture.{Declared, Nothing, PcapFile, PcapngFile, IsUnit, Whole, a_block, a_first_block, file_after, first_link_after, front_of, is_pcapng}
 use Rattle.cap_io.proofs.CapturesCame.{first-packets, section-kept}
 use Rattle.cap_io.proofs.Fronts.{front_of-behind, front_of-pcapng, front_of-record, front_of_block-none, is_pcapng-append}
 use Rattle.cap_io.proofs.Units.{front_of-unit}
 use Rattle.cap_memory.specs.Blocks.{Behind, BlockStands, IsNoBlock, IsOfIfAny}
-use Rattle.cap_memory.specs.Layout.{declared_in_form}
+use Rattle.cap_io.specs.Reading.{declared_by}
 use Rattle.cap_memory.specs.Units.{ArePlaced, Begins, IsNoUnit, BeginsWithUnit}
 use Rattle.cap_memory.specs.declared.block.UnitPacket.{UnitPacket}
 use Rattle.cap_memory.specs.declared.block.Refusal.{Refusal}
 use Rattle.cap_memory.specs.declared.block.Refusal.TheVariants as refusal
-use Rattle.cap_memory.specs.declared.layout.Form.{Form}
-use Rattle.cap_memory.specs.declared.layout.Form.TheVariants as form
+use Rattle.cap_io.specs.declared.file_state.FileState.{FileState}
+use Rattle.cap_io.specs.declared.file_state.FileState.TheVariants as form
 use Rattle.cap_memory.specs.declared.layout.Interface.{Interface}
 
 -- ---- the kind of a file
@@ -154,9 +154,9 @@ pub record BlockUnit (declared : Declared) (first : Option ℕ) (text : List ℕ
   pub there : size ≤ length text
   pub some : 0 < size
 
-pub block_unit : (f : Form) (section : Option Order) (first : Option ℕ) (interfaces : List Described) (text : List ℕ) (order : Order) (size : ℕ) (interfaces' : List Described) (packet : Option UnitPacket)
+pub block_unit : (f : FileState) (section : Option Order) (first : Option ℕ) (interfaces : List Described) (text : List ℕ) (order : Order) (size : ℕ) (interfaces' : List Described) (packet : Option UnitPacket)
     → Begins f section first interfaces text → Behind section interfaces (λ before. BlockStands before text order size interfaces' packet) → IsOfIfAny interfaces packet
-    → BlockUnit (declared_in_form f interfaces) first text order size interfaces' packet
+    → BlockUnit (declared_by f interfaces) first text order size interfaces' packet
 block_unit form.Unknown section first interfaces text order size interfaces' packet begins stands of =
     let b = stands None (sym begins.0) (sym begins.2) in
     let P : Option ℕ → Type 0 = λ link. BlockUnit Nothing link text order size interfaces' packet in
@@ -180,7 +180,7 @@ block_unit (form.Pcapng own link) section first interfaces text order size inter
     })
 
 -- why there is none
-pub no_unit : (f : Form) (section : Option Order) (first : Option ℕ) (interfaces : List Described) (text : List ℕ) (room : ℕ) (why : Refusal) → Begins f section first interfaces text
+pub no_unit : (f : FileState) (section : Option Order) (first : Option ℕ) (interfaces : List Described) (text : List ℕ) (room : ℕ) (why : Refusal) → Begins f section first interfaces text
     → IsNoBlock section interfaces text room why → IsNoUnit f interfaces text room why
 no_unit form.Unknown section first interfaces text room (refusal.Fault fault) begins r =
     front_of-pcapng text begins.3 ∙ front_of_block-none None None text fault (r None (sym begins.0) (sym begins.2))

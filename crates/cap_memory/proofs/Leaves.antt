@@ -5,12 +5,13 @@ use Rattle.std.proofs.lemmas.List.{drop-drop, length-drop}
 use Rattle.cap_octet.specs.Packet.{Captured}
 use Rattle.cap_octet.specs.declared.fault.Fault.{Fault}
 use Rattle.cap_io.specs.Capture.{Declared, Stops, Whole, front_of}
-use Rattle.cap_memory.specs.Layout.{declared_in_form, declared_in, first_interfaces, reader_form, most_known}
+use Rattle.cap_io.specs.Reading.{declared_by}
+use Rattle.cap_memory.specs.Layout.{declared_in, first_interfaces, reader_form, most_known}
 use Rattle.cap_memory.specs.Units.{ArePlaced, Counts, IsPacketFound, IsNoUnit, IsAtEnd, IsPlaced, NextLeaves, Stays, BeginsWithUnit, comment_by, ends, fails, finds, is_full, placed_packet, passes}
 use Rattle.cap_memory.specs.declared.block.UnitPacket.{UnitPacket}
 use Rattle.cap_memory.specs.declared.block.Refusal.TheVariants as refusal
-use Rattle.cap_memory.specs.declared.layout.Form.{Form}
-use Rattle.cap_memory.specs.declared.layout.Form.TheVariants as form
+use Rattle.cap_io.specs.declared.file_state.FileState.{FileState}
+use Rattle.cap_io.specs.declared.file_state.FileState.TheVariants as form
 use Rattle.cap_memory.specs.declared.layout.Interface.{Interface}
 use Rattle.cap_memory.specs.declared.layout.Packet.{Packet}
 use Rattle.cap_memory.specs.declared.layout.Reader.{Reader}
@@ -22,18 +23,18 @@ use Rattle.cap_memory.specs.declared.reader.Step.{Step}
 min_left : (a b : ℕ) → a ≤ b → min a b ≡ a
 min_left a b upper_bound = omega (arith, upper_bound)
 
-pub declared_as : (f : Form) (r : Reader) (table : List Interface) (count : ℕ) → f ≡ reader_form r → Counts f r (length table) count → declared_in_form f (first_interfaces count table) ≡ declared_in r table
-declared_as form.Unknown r table count is counts = ap (λ g. declared_in_form g (first_interfaces (most_known r (length table)) table)) is
-declared_as (form.Pcap head) r table count is counts = ap (λ g. declared_in_form g (first_interfaces (most_known r (length table)) table)) is
+pub declared_as : (f : FileState) (r : Reader) (table : List Interface) (count : ℕ) → f ≡ reader_form r → Counts f r (length table) count → declared_by f (first_interfaces count table) ≡ declared_in r table
+declared_as form.Unknown r table count is counts = ap (λ g. declared_by g (first_interfaces (most_known r (length table)) table)) is
+declared_as (form.Pcap head) r table count is counts = ap (λ g. declared_by g (first_interfaces (most_known r (length table)) table)) is
 declared_as (form.Pcapng order link) r table count is counts =
-    ap (λ n. declared_in_form (form.Pcapng order link) (first_interfaces n table)) counts ∙ ap (λ g. declared_in_form g (first_interfaces (most_known r (length table)) table)) is
+    ap (λ n. declared_by (form.Pcapng order link) (first_interfaces n table)) counts ∙ ap (λ g. declared_by g (first_interfaces (most_known r (length table)) table)) is
 
-pub declared_behind : (f : Form) (r : Reader) (table : List Interface) (count : ℕ) → reader_form r ≡ f → r.interfaces ≡ count → count ≤ length table → count ≤ 256
-    → declared_in_form f (first_interfaces count table) ≡ declared_in r table
+pub declared_behind : (f : FileState) (r : Reader) (table : List Interface) (count : ℕ) → reader_form r ≡ f → r.interfaces ≡ count → count ≤ length table → count ≤ 256
+    → declared_by f (first_interfaces count table) ≡ declared_in r table
 declared_behind f r table count is counts fits upper_bound =
     let most : most_known r (length table) ≡ count =
     ap (λ n. min (min n (length table)) 256) counts ∙ ap (λ n. min n 256) (min_left count (length table) fits) ∙ min_left count 256 upper_bound in
-    ap (λ n. declared_in_form f (first_interfaces n table)) (sym most) ∙ ap (λ g. declared_in_form g (first_interfaces (most_known r (length table)) table)) (sym is)
+    ap (λ n. declared_by f (first_interfaces n table)) (sym most) ∙ ap (λ g. declared_by g (first_interfaces (most_known r (length table)) table)) (sym is)
 
 -- ---- a unit
 
@@ -44,7 +45,7 @@ record Read (capture : List ℕ) (r r' : Reader) (t t' : List Interface) (s : St
   placed : ArePlaced (declared_in r' t') (drop r.offset capture) s.size s.packet packets
   there : s.size ≤ length (drop r.offset capture)
 
-read : (capture text : List ℕ) (r r' : Reader) (t t' : List Interface) (f : Form) (count : ℕ) (s : Step) → f ≡ reader_form r → Counts f r (length t) count → text ≡ drop r.offset capture
+read : (capture text : List ℕ) (r r' : Reader) (t t' : List Interface) (f : FileState) (count : ℕ) (s : Step) → f ≡ reader_form r → Counts f r (length t) count → text ≡ drop r.offset capture
     → BeginsWithUnit f (first_interfaces count t) text t' s → reader_form r' ≡ s.form → r'.interfaces ≡ s.interfaces → Read capture r r' t t' s
 read capture text r r' t t' f count s is counts same steps form' interfaces' =
     let before = declared_as f r t count is counts in
@@ -59,7 +60,7 @@ read capture text r r' t t' f count s is counts same steps form' interfaces' =
       there = subst S same steps.there;
     }
 
-pub passed : (capture text : List ℕ) (r r' : Reader) (t t' : List Interface) (p : Packet) (f : Form) (count : ℕ) (s : Step) → f ≡ reader_form r → Counts f r (length t) count → text ≡ drop r.offset capture
+pub passed : (capture text : List ℕ) (r r' : Reader) (t t' : List Interface) (p : Packet) (f : FileState) (count : ℕ) (s : Step) → f ≡ reader_form r → Counts f r (length t) count → text ≡ drop r.offset capture
     → BeginsWithUnit f (first_interfaces count t) text t' s → reader_form r' ≡ s.form → r'.interfaces ≡ s.interfaces → r'.offset ≡ r.offset + s.size → s.packet ≡ None
     → NextLeaves capture r r' t t' p p found.Unit
 passed capture text r r' t t' p f count s is counts same steps form' interfaces' offset none =
@@ -88,7 +89,7 @@ found_at capture declared at size p q inside there is =
       options = omega (arith, is.options, there, left, inside);
     }
 
-pub found_packet : (capture text : List ℕ) (r r' : Reader) (t t' : List Interface) (p p' : Packet) (f : Form) (count : ℕ) (s : Step) (placed : UnitPacket) → f ≡ reader_form r → Counts f r (length t) count
+pub found_packet : (capture text : List ℕ) (r r' : Reader) (t t' : List Interface) (p p' : Packet) (f : FileState) (count : ℕ) (s : Step) (placed : UnitPacket) → f ≡ reader_form r → Counts f r (length t) count
     → text ≡ drop r.offset capture → BeginsWithUnit f (first_interfaces count t) text t' s → reader_form r' ≡ s.form → r'.interfaces ≡ s.interfaces → r'.offset ≡ r.offset + s.size → s.packet ≡ Some placed
     → p' ≡ placed_packet r.offset placed → NextLeaves capture r r' t t' p p' found.Packet
 found_packet capture text r r' t t' p p' f count s placed is counts same steps form' interfaces' offset some packet =
@@ -106,22 +107,22 @@ found_packet capture text r r' t t' p p' f count s placed is counts same steps f
 stays : (r : Reader) (t t' : List Interface) (p : Packet) → t' ≡ t → Stays r r t t' p p
 stays r t t' p same = record { reader = refl; table = same; packet = refl }
 
-pub ended : (capture text : List ℕ) (r : Reader) (t : List Interface) (p : Packet) (f : Form) (count : ℕ) → f ≡ reader_form r → Counts f r (length t) count → text ≡ drop r.offset capture → IsAtEnd f text
+pub ended : (capture text : List ℕ) (r : Reader) (t : List Interface) (p : Packet) (f : FileState) (count : ℕ) → f ≡ reader_form r → Counts f r (length t) count → text ≡ drop r.offset capture → IsAtEnd f text
     → NextLeaves capture r r t t p p found.End
 ended capture text r t p f count is counts same over =
     ends (ap (front_of (declared_in r t)) (sym same) ∙ ap (λ d. front_of d text) (sym (declared_as f r t count is counts)) ∙ stops f over) (stays r t t p refl)
   where
-    stops : (g : Form) → IsAtEnd g text → front_of (declared_in_form g (first_interfaces count t)) text ≡ Stops None
+    stops : (g : FileState) → IsAtEnd g text → front_of (declared_by g (first_interfaces count t)) text ≡ Stops None
     stops form.Unknown over = absurd over
-    stops (form.Pcap head) over = ap (front_of (declared_in_form (form.Pcap head) (first_interfaces count t))) over
-    stops (form.Pcapng order link) over = ap (front_of (declared_in_form (form.Pcapng order link) (first_interfaces count t))) over
+    stops (form.Pcap head) over = ap (front_of (declared_by (form.Pcap head) (first_interfaces count t))) over
+    stops (form.Pcapng order link) over = ap (front_of (declared_by (form.Pcapng order link) (first_interfaces count t))) over
 
-pub refused : (capture text : List ℕ) (r : Reader) (t t' : List Interface) (p : Packet) (f : Form) (count : ℕ) (fault : Fault) → f ≡ reader_form r → Counts f r (length t) count
+pub refused : (capture text : List ℕ) (r : Reader) (t t' : List Interface) (p : Packet) (f : FileState) (count : ℕ) (fault : Fault) → f ≡ reader_form r → Counts f r (length t) count
     → text ≡ drop r.offset capture → IsNoUnit f (first_interfaces count t) text (length t) (refusal.Fault fault) → t' ≡ t → NextLeaves capture r r t t' p p (found.Fault fault)
 refused capture text r t t' p f count fault is counts same why kept =
     fails fault (ap (front_of (declared_in r t)) (sym same) ∙ ap (λ d. front_of d text) (sym (declared_as f r t count is counts)) ∙ why) (stays r t t' p kept)
 
-pub full : (capture text : List ℕ) (r : Reader) (t t' : List Interface) (p : Packet) (f : Form) (count : ℕ) → f ≡ reader_form r → Counts f r (length t) count
+pub full : (capture text : List ℕ) (r : Reader) (t t' : List Interface) (p : Packet) (f : FileState) (count : ℕ) → f ≡ reader_form r → Counts f r (length t) count
     → text ≡ drop r.offset capture → IsNoUnit f (first_interfaces count t) text (length t) refusal.NoRoom → t' ≡ t → NextLeaves capture r r t t' p p found.NoRoom
 full capture text r t t' p f count is counts same why kept =
     let one = why.1 in

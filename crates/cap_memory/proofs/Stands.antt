@@ -13,15 +13,14 @@ use Rattle.cap_pcapng.specs.Interface.{Described}
 use Rattle.cap_pcapng.specs.Unit.{Section, block_size, checks_among, frame_behind, interfaces_before, order_before, parts_behind, unit_fault}
 use Rattle.cap_pcapng.specs.declared.frames.Frame.{Frame}
 use Rattle.cap_pcapng.proofs.Units.{frame_checks-append, frame_in-append, block_checks-append, parts_in-append, unit_fault-frame, unit_fault-short, unit_fault-block, unit_fault-among}
-use Rattle.cap_io.specs.Blocks.{Enters}
-use Rattle.cap_io.specs.declared.file_state.PacketSpans.{PacketSpans}
+use Rattle.cap_pcapng.specs.Effect.{Enters, IsBlockFault}
+use Rattle.cap_pcapng.specs.declared.effect.PacketSpans.{PacketSpans}
 use Rattle.cap_io.proofs.BlocksCame.{BlockCame, FrontSays, WholeCame, block_came, front_says, says_behind}
 use Rattle.cap_io.proofs.BlocksCame as came
 use Rattle.cap_memory.specs.Blocks.{BlockPacketIfAny, BlockStands, IsNoBlock, IsRefusal, spans_of}
 use Rattle.cap_memory.specs.declared.block.Refusal.{Refusal}
 use Rattle.cap_memory.specs.declared.block.Refusal.TheVariants as refusal
 use Rattle.cap_memory.specs.declared.block.UnitPacket.{UnitPacket}
-use Rattle.cap_memory.proofs.Entries.{IsChecked}
 
 -- ---- the first 12 bytes
 
@@ -61,7 +60,7 @@ block_cut before text frame enough f short =
 -- ---- the whole block
 
 pub entry_fails : (before : Option Section) (interfaces : List Described) (text : List ℕ) (frame : Frame) (fault : Fault) → interfaces_before before ≡ interfaces → 12 ≤ length text → 12 ≤ frame.length
-    → frame.length ≤ length text → IsFramed before text frame → IsChecked frame interfaces (take frame.length text) fault → unit_fault before text ≡ Some fault
+    → frame.length ≤ length text → IsFramed before text frame → IsBlockFault frame interfaces (take frame.length text) fault → unit_fault before text ≡ Some fault
 entry_fails before interfaces text frame fault same enough least room f fails =
     let block : List ℕ = take frame.length text in
     let joined : take frame.length text ++ drop frame.length text ≡ text = take-append-drop frame.length text in

@@ -1,17 +1,15 @@
 -- A block of a pcapng capture in memory, and the caller's table of interfaces.
-use Rattle.std.specs.Prelude.{◌≡◌, ℕ, ◌<◌, ◌≤◌, ◌⊎◌, List, [], ◌∷◌, ◌++◌, length, take, Option, None, Some}
+use Rattle.std.specs.Prelude.{◌≡◌, ℕ, ◌<◌, ◌≤◌, List, [], ◌∷◌, ◌++◌, length, take, Option, None, Some}
 use Rattle.std.specs.List.{slice_get}
 use Rattle.std.specs.Option.{option_map}
-use Rattle.cap_octet.specs.Checks.{first_failing}
 use Rattle.cap_octet.specs.Packet.{Captured}
-use Rattle.cap_pcapng.specs.Block.{block_checks, parts_in}
 use Rattle.cap_pcapng.specs.Interface.{Described}
 use Rattle.cap_octet.specs.declared.number.Order.{Order}
-use Rattle.cap_pcapng.specs.Unit.{IsBlock, Section, checks_among, interfaces_before, order_before, packets_in, section_after, unit_fault}
+use Rattle.cap_pcapng.specs.Unit.{IsBlock, Section, interfaces_before, order_before, packets_in, section_after, unit_fault}
 use Rattle.cap_pcapng.specs.declared.frames.Frame.{Frame}
-use Rattle.cap_io.specs.Blocks.{Enters, FitsIfAny, held_packet, section_of}
-use Rattle.cap_io.specs.Reading.{span_bytes}
-use Rattle.cap_io.specs.declared.file_state.PacketSpans.{PacketSpans}
+use Rattle.cap_pcapng.specs.Effect.{Enters, FitsIfAny, IsBlockFault, held_packet, section_of}
+use Rattle.cap_pcapng.specs.Effect.{span_bytes}
+use Rattle.cap_pcapng.specs.declared.effect.PacketSpans.{PacketSpans}
 use Rattle.cap_memory.specs.Layout.{first_interfaces}
 use Rattle.cap_memory.specs.declared.block.BlockRead.{BlockRead}
 use Rattle.cap_memory.specs.declared.block.BlockEffect.{BlockEffect}
@@ -19,10 +17,6 @@ use Rattle.cap_memory.specs.declared.layout.Interface.{Interface}
 use Rattle.cap_memory.specs.declared.block.UnitPacket.{UnitPacket}
 use Rattle.cap_memory.specs.declared.block.Refusal.{Refusal}
 use Rattle.cap_memory.specs.declared.block.Refusal.TheVariants as refusal
-
--- of all lists of so many interfaces
-abbrev pub of_all_lists : ℕ → (List Described → Type 0) → Type 0
-of_all_lists count P = (interfaces : List Described) → length interfaces ≡ count → P interfaces
 
 -- what is held of a packet in a unit of so many bytes
 abbrev pub spans_of : ℕ → UnitPacket → PacketSpans
@@ -49,9 +43,7 @@ IsOfIfAny interfaces (Some p) = IsOf interfaces p
 -- is full
 abbrev pub IsRefusal : Frame → List Described → List ℕ → ℕ → Refusal → Type 0
 IsRefusal frame interfaces block room (refusal.Fault fault) =
-    (first_failing (block_checks frame block) ≡ Some fault)
-    ⊎ ((first_failing (block_checks frame block) ≡ None)
-    × (first_failing (checks_among interfaces (parts_in frame block)) ≡ Some fault))
+    IsBlockFault frame interfaces block fault
 IsRefusal frame interfaces block room refusal.NoRoom =
     (room ≤ length interfaces)
     × ((i : Described) × Enters frame interfaces block None (interfaces ++ i ∷ []))

@@ -5,9 +5,10 @@ use Rattle.cap_octet.specs.declared.number.Order.TheVariants.{Little, Big}
 use Rattle.cap_pcap.specs.declared.header.Resolution.{Resolution}
 use Rattle.cap_pcap.specs.declared.header.Resolution.TheVariants.{Microseconds, Nanoseconds}
 use Rattle.cap_pcapng.specs.Interface.{Described}
-use Rattle.cap_io.specs.Capture.{Declared, Nothing, PcapFile, PcapngFile}
-use Rattle.cap_memory.specs.declared.layout.Form.{Form}
-use Rattle.cap_memory.specs.declared.layout.Form.TheVariants as form
+use Rattle.cap_io.specs.Capture.{Declared}
+use Rattle.cap_io.specs.Reading.{declared_by}
+use Rattle.cap_io.specs.declared.file_state.FileState.{FileState}
+use Rattle.cap_io.specs.declared.file_state.FileState.TheVariants as form
 use Rattle.cap_memory.specs.declared.layout.Interface.{Interface}
 use Rattle.cap_memory.specs.declared.layout.Reader.{Reader}
 
@@ -22,7 +23,7 @@ abbrev pub link_by : ℕ → ℕ → Option ℕ
 link_by flag link = if flag == 0 then None else Some link
 
 -- what a reader says of the file
-abbrev pub reader_form : Reader → Form
+abbrev pub reader_form : Reader → FileState
 reader_form r =
     if r.form == 1 then form.Pcap
     (record {
@@ -54,14 +55,7 @@ described_of i =
 abbrev pub first_interfaces : ℕ → List Interface → List Described
 first_interfaces count table = map described_of (take count table)
 
--- what is declared by the form of a file and the interfaces of its section
-abbrev pub declared_in_form : Form → List Described → Declared
-declared_in_form form.Unknown interfaces = Nothing
-declared_in_form (form.Pcap head) interfaces = PcapFile head
-declared_in_form (form.Pcapng order first) interfaces =
-    PcapngFile first (record { order = order; interfaces = interfaces })
-
--- the same by a reader and its table
+-- what is declared by a reader and its table
 abbrev pub declared_in : Reader → List Interface → Declared
-declared_in r table = declared_in_form (reader_form r)
+declared_in r table = declared_by (reader_form r)
     (first_interfaces (most_known r (length table)) table)

@@ -8,12 +8,13 @@ use Rattle.cap_pcapng.specs.Comment.{comment_in}
 use Rattle.cap_pcapng.specs.Interface.{Described}
 use Rattle.cap_pcapng.specs.Unit.{Section}
 use Rattle.cap_io.specs.Capture.{Declared, Nothing, PcapFile, PcapngFile, Whole, Stops, front_of, is_pcapng}
-use Rattle.cap_memory.specs.Layout.{declared_in_form, declared_in, first_interfaces, most_known}
+use Rattle.cap_io.specs.Reading.{declared_by}
+use Rattle.cap_memory.specs.Layout.{declared_in, first_interfaces, most_known}
 use Rattle.cap_memory.specs.declared.block.UnitPacket.{UnitPacket}
 use Rattle.cap_memory.specs.declared.block.Refusal.{Refusal}
 use Rattle.cap_memory.specs.declared.block.Refusal.TheVariants as refusal
-use Rattle.cap_memory.specs.declared.layout.Form.{Form}
-use Rattle.cap_memory.specs.declared.layout.Form.TheVariants as form
+use Rattle.cap_io.specs.declared.file_state.FileState.{FileState}
+use Rattle.cap_io.specs.declared.file_state.FileState.TheVariants as form
 use Rattle.cap_octet.specs.declared.number.Order.{Order}
 use Rattle.cap_memory.specs.declared.layout.Interface.{Interface}
 use Rattle.cap_memory.specs.declared.layout.Packet.{Packet}
@@ -54,14 +55,14 @@ ArePlaced declared text size (Some p) packets =
     (q : Captured) × (packets ≡ q ∷ []) × IsPlaced declared text size p q
 
 -- a text begins with a unit: what it declares, and its packet
-pub record BeginsWithUnit (form : Form) (interfaces : List Described) (text : List ℕ)
+pub record BeginsWithUnit (form : FileState) (interfaces : List Described) (text : List ℕ)
     (table' : List Interface) (step : Step) : Type 0 where
   pub packets : List Captured
-  pub front : front_of (declared_in_form form interfaces) text
+  pub front : front_of (declared_by form interfaces) text
       ≡ Whole step.size packets
-      (declared_in_form step.form (first_interfaces step.interfaces table'))
+      (declared_by step.form (first_interfaces step.interfaces table'))
   pub placed : ArePlaced
-      (declared_in_form step.form (first_interfaces step.interfaces table'))
+      (declared_by step.form (first_interfaces step.interfaces table'))
       text step.size step.packet packets
   pub there : step.size ≤ length text
   pub some : 0 < step.size
@@ -79,14 +80,14 @@ pub record DeclaresOne (declared : Declared) (text : List ℕ)
   pub more : section.interfaces ≡ interfaces ++ interface ∷ []
 
 -- it begins with no unit, but with a fault; or with an interface that a full table has no room for
-abbrev pub IsNoUnit : Form → List Described → List ℕ → ℕ → Refusal → Type 0
+abbrev pub IsNoUnit : FileState → List Described → List ℕ → ℕ → Refusal → Type 0
 IsNoUnit form interfaces text room (refusal.Fault fault) =
-    front_of (declared_in_form form interfaces) text ≡ Stops (Some fault)
+    front_of (declared_by form interfaces) text ≡ Stops (Some fault)
 IsNoUnit form interfaces text room refusal.NoRoom =
-    (room ≤ length interfaces) × DeclaresOne (declared_in_form form interfaces) text interfaces
+    (room ≤ length interfaces) × DeclaresOne (declared_by form interfaces) text interfaces
 
 -- a block may begin here: its section before it is this one
-abbrev pub Begins : Form → Option Order → Option ℕ → List Described → List ℕ → Type 0
+abbrev pub Begins : FileState → Option Order → Option ℕ → List Described → List ℕ → Type 0
 Begins form.Unknown section first interfaces text =
     (section ≡ None) × (first ≡ None) × (interfaces ≡ []) × (is_pcapng text ≡ true)
 Begins (form.Pcap head) section first interfaces text = ⊥
@@ -94,13 +95,13 @@ Begins (form.Pcapng order link) section first interfaces text =
     (section ≡ Some order) × (first ≡ link) × (0 < length text)
 
 -- behind a unit something is left
-abbrev pub IsSomeFor : Form → List ℕ → Type 0
+abbrev pub IsSomeFor : FileState → List ℕ → Type 0
 IsSomeFor form.Unknown text = Unit {0}
 IsSomeFor (form.Pcap head) text = 0 < length text
 IsSomeFor (form.Pcapng order link) text = 0 < length text
 
 -- before a unit no interface is known
-abbrev pub IsBare : Form → ℕ → Type 0
+abbrev pub IsBare : FileState → ℕ → Type 0
 IsBare form.Unknown count = count ≡ 0
 IsBare (form.Pcap head) count = Unit {0}
 IsBare (form.Pcapng order link) count = Unit {0}
@@ -163,13 +164,13 @@ placed_packet at p = record {
 }
 
 -- so many interfaces are known
-abbrev pub Counts : Form → Reader → ℕ → ℕ → Type 0
+abbrev pub Counts : FileState → Reader → ℕ → ℕ → Type 0
 Counts form.Unknown r room count = Unit {0}
 Counts (form.Pcap head) r room count = count ≡ most_known r room
 Counts (form.Pcapng order link) r room count = count ≡ most_known r room
 
 -- behind a unit nothing is left
-abbrev pub IsAtEnd : Form → List ℕ → Type 0
+abbrev pub IsAtEnd : FileState → List ℕ → Type 0
 IsAtEnd form.Unknown text = ⊥
 IsAtEnd (form.Pcap head) text = text ≡ []
 IsAtEnd (form.Pcapng order link) text = text ≡ []

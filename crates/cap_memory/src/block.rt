@@ -1,34 +1,19 @@
 //! One block of a pcapng capture in memory, in the caller's table of interfaces.
 ghost use Rattle.std.specs.Prelude.{◌≡◌, ℕ, ◌+◌, ◌<◌, ◌≤◌, ◌++◌, ◌∷◌, [], IfOk, IfErr, OnErr};
-ghost use Rattle.std.specs.Prelude.{length};
-ghost use Rattle.std.specs.Prelude.{Option, drop, take};
+ghost use Rattle.std.specs.Prelude.{is_some, length, true};
 ghost use Rattle.std.specs.Option.{option_map};
 ghost use Rattle.std.specs.List.{slice_get};
-ghost use Rattle.cap_pcapng.specs.Answer.{ChecksGive};
-ghost use Rattle.cap_pcapng.specs.Block.{parts_of};
 ghost use Rattle.cap_pcapng.specs.Interface.{description_of};
-ghost use Rattle.cap_pcapng.specs.Unit.{Section, checks_among, interfaces_before, order_before};
-ghost use Rattle.cap_pcapng.specs.declared.blocks.Block.TheVariants as a;
-ghost use Rattle.cap_io.specs.Blocks.{Enters, PacketFound, fault_among};
 ghost use Rattle.cap_memory.specs.Layout.{described_of, first_interfaces};
 ghost use Rattle.cap_memory.specs.Blocks.{BlockIs, EntersTable, IsNoBlock, IsOf, IsRefusal};
 ghost use Rattle.cap_memory.specs.Blocks.{spans_of};
-ghost use Rattle.cap_memory.specs.Blocks.{of_all_lists};
 
 use crate::layout::Interface;
 use cap_octet::{Fault, Order};
 use cap_pcapng::{
-    Block, EnhancedBlock, Frame, Interface as ReadInterface, SimpleBlock, block, frame,
+    BlockEffect as Effect, Frame, Interface as ReadInterface, Interfaces, PacketSpans,
+    block_effect, frame,
 };
-
-/// Where the data of an enhanced packet begin in its block.
-const ENHANCED_DATA: u32 = 28;
-
-/// Where the data of a simple packet begin in its block.
-const SIMPLE_DATA: u32 = 12;
-
-/// The most interfaces of a section.
-const MOST_INTERFACES: usize = 256;
 
 /// A packet, and where its parts are in its unit.
 #[derive(Clone, Copy)]
@@ -82,79 +67,48 @@ fn put(table: &mut [Interface], count: usize, interface: &ReadInterface<'_>)
     table[count] = Interface::of(interface);
 }
 
-/// The fault of a block that fails by itself, behind the interfaces of a table.
-fn fault_in_full_table(count: usize, fault: Fault) -> Fault
-    ensures fault { of_all_lists count (λ interfaces. result ≡ fault_among interfaces fault) }
-    ensures never { (result ≡ Fault.NoMemory) → fault ≡ Fault.NoMemory }
-{
-    match fault {
-        Fault::BadOption | Fault::BadTimeResolution if count >= MOST_INTERFACES => {
-            Fault::TooManyInterfaces
+/// The first interfaces of a table.
+#[derive(Clone, Copy)]
+struct Known<'a> {
+    entries: &'a [Interface],
+    count: usize,
+}
+
+impl Interfaces for Known<'_> {
+    ghost list = { λ known. first_interfaces known.count known.entries.now };
+
+    fn count(&self) -> usize {
+        self.count.min(self.entries.len())
+    }
+
+    fn get(&self, number: u32) -> Option<ReadInterface<'_>> {
+        if number as usize >= self.count {
+            return None;
         }
-        _ => fault,
+        self.entries.get(number as usize).map(Interface::read)
     }
 }
 
-/// The packet of an enhanced packet block of so many bytes.
-fn enhanced_packet(
-    table: &[Interface],
-    count: usize,
-    block: &EnhancedBlock<'_>,
-    size: u32,
-) -> Result<UnitPacket, Fault>
+/// A packet with what is known of its interface, which is among the first of a table.
+fn unit_packet(table: &[Interface], count: usize, spans: &PacketSpans) -> UnitPacket
     requires known { count ≤ length table.now }
-    requires room { 28 + length block.now.rest.now ≤ size }
-    ensures found { ChecksGive (checks_among (first_interfaces count table.now) (parts_of
-        (a.Enhanced block.now))) result (λ packet. PacketFound block.now.order
-        (first_interfaces count table.now) (parts_of (a.Enhanced block.now))
-        28 size block.now.rest.now
-        (spans_of size packet)) }
-    ensures interface { IfOk result (IsOf (first_interfaces count table.now)) }
+    requires there { is_some (slice_get (first_interfaces count table.now) spans.now.interface)
+        ≡ true }
+    ensures spans { spans_of spans.now.size result ≡ spans.now }
+    ensures interface { IsOf (first_interfaces count table.now) result }
 {
-    let interface = get(table, count, block.interface).ok_or(Fault::UnknownInterface)?;
-    block.data()?;
-    let time = interface.clock().time(block.ticks)?;
-    let options = block.options().rest.len() as u32;
-    Ok(UnitPacket {
-        start: ENHANCED_DATA,
-        length: block.captured,
-        options_start: ENHANCED_DATA + block.rest.len() as u32 - options,
-        options_length: options,
-        interface: block.interface,
+    let interface = get(table, count, spans.interface).unwrap();
+    UnitPacket {
+        start: spans.bytes.start,
+        length: spans.bytes.length,
+        options_start: spans.options.start,
+        options_length: spans.options.length,
+        interface: spans.interface,
         link_type: interface.link_type,
         snap: interface.snap,
-        time,
-        orig: block.orig,
-    })
-}
-
-/// The packet of a simple packet block of so many bytes: one of interface 0, at time 0.
-fn simple_packet(
-    table: &[Interface],
-    count: usize,
-    block: &SimpleBlock<'_>,
-) -> Result<UnitPacket, Fault>
-    requires known { count ≤ length table.now }
-    ensures found { ChecksGive (checks_among (first_interfaces count table.now) (parts_of (a.Simple
-        block.now)))
-        result (λ packet. (order : Order) (size : ℕ)
-        → PacketFound order (first_interfaces count table.now)
-        (parts_of (a.Simple block.now)) 12 size block.now.rest.now (spans_of size packet)) }
-    ensures interface { IfOk result (IsOf (first_interfaces count table.now)) }
-{
-    let interface = get(table, count, 0).ok_or(Fault::UnknownInterface)?;
-    block.data(interface.snap)?;
-    Ok(UnitPacket {
-        start: SIMPLE_DATA,
-        length: block.captured(interface.snap),
-        options_start: SIMPLE_DATA,
-        options_length: 0,
-        interface: 0,
-        link_type: interface.link_type,
-        snap: interface.snap,
-        time: 0,
-        orig: block.orig,
-    })
+        time: spans.time,
+        orig: spans.orig,
+    }
 }
 
 /// Makes the checks of a whole block of this frame, and brings the table of interfaces behind it. A
@@ -176,43 +130,34 @@ fn apply_block(
         (length table.old)) }
     ensures kept { OnErr result (table.new ≡ table.old) }
 {
-    match block(frame, bytes) {
-        Ok(Block::Section) => Ok(BlockEffect {
+    let known = Known {
+        entries: table,
+        count,
+    };
+    match block_effect(&known, frame, bytes) {
+        Ok(Effect::Section) => Ok(BlockEffect {
             interfaces: 0,
             packet: None,
         }),
-        Ok(Block::Interface(found)) => {
-            if count == MOST_INTERFACES {
-                return Err(Refusal::Fault(Fault::TooManyInterfaces));
-            }
+        Ok(Effect::Interface(interface)) => {
             if count == table.len() {
                 return Err(Refusal::NoRoom);
             }
-            put(table, count, &found.interface);
+            put(table, count, &interface);
             Ok(BlockEffect {
                 interfaces: count + 1,
                 packet: None,
             })
         }
-        Ok(Block::Enhanced(found)) => match enhanced_packet(table, count, &found, frame.length) {
-            Ok(packet) => Ok(BlockEffect {
-                interfaces: count,
-                packet: Some(packet),
-            }),
-            Err(fault) => Err(Refusal::Fault(fault)),
-        },
-        Ok(Block::Simple(found)) => match simple_packet(table, count, &found) {
-            Ok(packet) => Ok(BlockEffect {
-                interfaces: count,
-                packet: Some(packet),
-            }),
-            Err(fault) => Err(Refusal::Fault(fault)),
-        },
-        Ok(Block::Skipped) => Ok(BlockEffect {
+        Ok(Effect::Packet(spans)) => Ok(BlockEffect {
+            interfaces: count,
+            packet: Some(unit_packet(table, count, &spans)),
+        }),
+        Ok(Effect::Nothing) => Ok(BlockEffect {
             interfaces: count,
             packet: None,
         }),
-        Err(fault) => Err(Refusal::Fault(fault_in_full_table(count, fault))),
+        Err(fault) => Err(Refusal::Fault(fault)),
     }
 }
 

@@ -3,6 +3,7 @@ ghost use Rattle.std.specs.Prelude.{◌≡◌, ◌≤◌, length};
 ghost use Rattle.cap_pcapng.specs.Interface.{description_of};
 ghost use Rattle.cap_memory.specs.Layout.{described_of, reader_form, most_known, order_by};
 
+use cap_io::FileState;
 use cap_octet::Order;
 use cap_pcap::{Head, Resolution};
 use cap_pcapng::{Clock, Interface as ReadInterface};
@@ -75,15 +76,6 @@ pub struct Packet {
     pub link_type: u16,
 }
 
-/// What is declared, beside the interfaces of a section.
-#[derive(Clone, Copy)]
-pub(crate) enum Form {
-    Unknown,
-    Pcap(Head),
-    /// The byte order of the current section, and the first link type of the file.
-    Pcapng(Order, Option<u16>),
-}
-
 /// The byte order by a flag.
 fn order_by(flag: u8) -> Order
     ensures { result ≡ order_by flag }
@@ -103,11 +95,11 @@ fn order_flag(order: Order) -> u8
 
 impl Reader {
     /// What is declared.
-    pub(crate) fn form(&self) -> Form
+    pub(crate) fn form(&self) -> FileState
         ensures { result ≡ reader_form self.now }
     {
         match self.form {
-            1 => Form::Pcap(Head {
+            1 => FileState::Pcap(Head {
                 order: order_by(self.big_endian),
                 resolution: if self.nanoseconds == 0 {
                     Resolution::Microseconds
@@ -117,7 +109,7 @@ impl Reader {
                 snap: self.snap,
                 link: self.link_type,
             }),
-            2 => Form::Pcapng(
+            2 => FileState::Pcapng(
                 order_by(self.big_endian),
                 if self.has_link_type == 0 {
                     None
@@ -125,7 +117,7 @@ impl Reader {
                     Some(self.link_type)
                 },
             ),
-            _ => Form::Unknown,
+            _ => FileState::Unknown,
         }
     }
 
@@ -139,7 +131,7 @@ impl Reader {
     }
 
     /// A reader at this place of which this is declared.
-    pub(crate) fn at(offset: usize, form: Form, interfaces: usize) -> Self
+    pub(crate) fn at(offset: usize, form: FileState, interfaces: usize) -> Self
         requires { interfaces ≤ 256 }
         ensures offset { result.offset ≡ offset }
         ensures form { reader_form result ≡ form }
@@ -156,8 +148,8 @@ impl Reader {
             nanoseconds: 0,
         };
         match form {
-            Form::Unknown => {}
-            Form::Pcap(head) => {
+            FileState::Unknown => {}
+            FileState::Pcap(head) => {
                 reader.form = 1;
                 reader.big_endian = order_flag(head.order);
                 reader.nanoseconds = match head.resolution {
@@ -168,7 +160,7 @@ impl Reader {
                 reader.link_type = head.link;
                 reader.has_link_type = 1;
             }
-            Form::Pcapng(order, first) => {
+            FileState::Pcapng(order, first) => {
                 reader.form = 2;
                 reader.big_endian = order_flag(order);
                 if let Some(link) = first {
@@ -198,8 +190,20 @@ impl Interface {
         }
     }
 
+    /// The same, with its name lent.
+    pub(crate) fn read(&self) -> ReadInterface<'_>
+        ensures { description_of result ≡ described_of self.now }
+    {
+        ReadInterface {
+            link: self.link_type,
+            snap: self.snap,
+            name: &self.name[..self.name_length as usize],
+            clock: self.clock(),
+        }
+    }
+
     /// How the ticks of its packets become times.
-    pub(crate) fn clock(&self) -> Clock
+    fn clock(&self) -> Clock
         ensures units { result.units ≡ (described_of self.now).units }
         ensures offset { result.offset ≡ self.now.offset }
     {

@@ -2,16 +2,17 @@
 ghost use Rattle.std.specs.Prelude.{◌≡◌, ℕ, ◌+◌, ◌^◌, ◌≤◌, ◌<◌, IfOk, IfErr, IsTrue, OnErr, List};
 ghost use Rattle.std.specs.Prelude.{false, drop, length, take};
 ghost use Rattle.cap_pcapng.specs.Interface.{Described};
-ghost use Rattle.cap_io.specs.Blocks.{section_of};
+ghost use Rattle.cap_pcapng.specs.Effect.{section_of};
 ghost use Rattle.cap_io.specs.Capture.{first_link_after, is_pcapng};
 ghost use Rattle.cap_memory.specs.Layout.{declared_in, first_interfaces};
 ghost use Rattle.cap_memory.specs.Units.{Begins, Counts, IsBare, IsNoUnit, IsAtEnd, IsSomeFor};
 ghost use Rattle.cap_memory.specs.Units.{NextLeaves, BeginsWithUnit, comment_by, placed_packet};
-ghost use Rattle.cap_memory.specs.declared.layout.Form.TheVariants as form;
+ghost use Rattle.cap_io.specs.declared.file_state.FileState.TheVariants as form;
 
 use crate::block::{Refusal, UnitPacket, read_block};
-use crate::layout::{Form, Interface, Packet, Reader};
+use crate::layout::{Interface, Packet, Reader};
 use crate::pcap::{RECORD_HEADER, header_in, record_in};
+use cap_io::FileState;
 use cap_octet::{Fault, Order};
 use cap_pcap::Head;
 use cap_pcapng::{Options, begins_section};
@@ -34,7 +35,7 @@ pub enum Found {
 #[derive(Clone, Copy)]
 struct Step {
     size: usize,
-    form: Form,
+    form: FileState,
     interfaces: usize,
     packet: Option<UnitPacket>,
 }
@@ -82,7 +83,7 @@ fn record_step(head: &Head, text: &[u8], interfaces: usize) -> Result<Step, Refu
     match record_in(head, text) {
         Ok(record) => Ok(Step {
             size: RECORD_HEADER as usize + record.captured as usize,
-            form: Form::Pcap(*head),
+            form: FileState::Pcap(*head),
             interfaces,
             packet: Some(UnitPacket {
                 start: RECORD_HEADER,
@@ -102,7 +103,7 @@ fn record_step(head: &Head, text: &[u8], interfaces: usize) -> Result<Step, Refu
 
 /// The block that a text begins with, behind what is declared.
 fn block_step(
-    form: Form,
+    form: FileState,
     section: Option<Order>,
     first: Option<u16>,
     table: &mut [Interface],
@@ -124,7 +125,7 @@ fn block_step(
             let link = first_link_type(first, table, read.effect.interfaces);
             Ok(Step {
                 size: read.size,
-                form: Form::Pcapng(read.order, link),
+                form: FileState::Pcapng(read.order, link),
                 interfaces: read.effect.interfaces,
                 packet: read.effect.packet,
             })
@@ -135,7 +136,7 @@ fn block_step(
 
 /// The unit that a text begins with, which isn't empty where units are declared.
 fn read_unit(
-    form: Form,
+    form: FileState,
     table: &mut [Interface],
     count: usize,
     text: &[u8],
@@ -152,22 +153,22 @@ fn read_unit(
     ensures kept { OnErr result (table.new ≡ table.old) }
 {
     match form {
-        Form::Unknown => {
+        FileState::Unknown => {
             if is_pcapng(text) {
                 return block_step(form, None, None, table, count, text);
             }
             match header_in(text) {
                 Ok(head) => Ok(Step {
                     size: 24,
-                    form: Form::Pcap(head),
+                    form: FileState::Pcap(head),
                     interfaces: 0,
                     packet: None,
                 }),
                 Err(fault) => Err(Refusal::Fault(fault)),
             }
         }
-        Form::Pcap(head) => record_step(&head, text, count),
-        Form::Pcapng(order, first) => block_step(form, Some(order), first, table, count, text),
+        FileState::Pcap(head) => record_step(&head, text, count),
+        FileState::Pcapng(order, first) => block_step(form, Some(order), first, table, count, text),
     }
 }
 
@@ -191,26 +192,26 @@ fn packet_at(at: usize, placed: &UnitPacket) -> Packet
 }
 
 /// How many interfaces are known, in a table with so much room.
-fn known_in(reader: &Reader, form: Form, room: usize) -> usize
+fn known_in(reader: &Reader, form: FileState, room: usize) -> usize
     ensures counts { Counts form reader.now room result }
     ensures bare { IsBare form result }
     ensures fits { result ≤ room }
     ensures bounds { result ≤ 256 }
 {
     match form {
-        Form::Unknown => 0,
-        Form::Pcap(_) | Form::Pcapng(_, _) => reader.known(room),
+        FileState::Unknown => 0,
+        FileState::Pcap(_) | FileState::Pcapng(_, _) => reader.known(room),
     }
 }
 
 /// Whether a capture of which this is declared is over where this is left.
-fn is_over(form: Form, text: &[u8]) -> bool
+fn is_over(form: FileState, text: &[u8]) -> bool
     ensures over { IsTrue result → IsAtEnd form text.now }
     ensures some { result ≡ false → IsSomeFor form text.now }
 {
     match form {
-        Form::Unknown => false,
-        Form::Pcap(_) | Form::Pcapng(_, _) => text.is_empty(),
+        FileState::Unknown => false,
+        FileState::Pcap(_) | FileState::Pcapng(_, _) => text.is_empty(),
     }
 }
 
@@ -263,8 +264,8 @@ pub fn comment_of<'a>(reader: &Reader, capture: &'a [u8], packet: &Packet) -> &'
         (take packet.now.options_length (drop packet.now.options_at capture.now)) }
 {
     match reader.form() {
-        Form::Unknown | Form::Pcap(_) => &[],
-        Form::Pcapng(order, _) => {
+        FileState::Unknown | FileState::Pcap(_) => &[],
+        FileState::Pcapng(order, _) => {
             let rest = part_of(capture, packet.options_at, packet.options_length);
             Options { order, rest }.comment()
         }

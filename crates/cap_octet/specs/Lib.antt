@@ -5,7 +5,9 @@ pub mod Date
 pub mod Device
 pub mod Digits
 pub mod Fault
+pub mod Format
 pub mod Laws
+pub mod Link
 pub mod NetworkHeader
 pub mod Number
 pub mod Packet
@@ -13,3 +15,4 @@ pub mod Seconds
 pub mod Stream
 pub mod Timestamp
 pub mod Writer
+pub mod Views

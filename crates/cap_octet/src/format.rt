@@ -10,3 +10,33 @@ pub enum Format {
     /// pcapng with nanoseconds (draft-ietf-opsawg-pcapng).
     Pcapng,
 }
+
+impl Format {
+    ghost use Rattle.std.specs.Prelude.{◌≡◌};
+    ghost use Rattle.cap_octet.specs.Format.{format_name, format_named};
+
+    /// Every format.
+    pub const ALL: [Format; 3] = [Format::Pcap, Format::NsecPcap, Format::Pcapng];
+
+    /// What command lines and reports call it.
+    pub fn name(self) -> &'static str
+        ensures { result.now ≡ format_name self }
+    {
+        match self {
+            Format::Pcap => "pcap",
+            Format::NsecPcap => "nsecpcap",
+            Format::Pcapng => "pcapng",
+        }
+    }
+
+    /// The format of a name.
+    #[tactic(auto, unfolding(crate::specs::Format::all_formats))]
+    pub fn named(name: &str) -> Option<Format>
+        ensures { result ≡ format_named name.now }
+    {
+        Format::ALL
+            .iter()
+            .copied()
+            .find(|format| format.name() == name)
+    }
+}

@@ -1,4 +1,9 @@
-//! The links whose packets expressions can be read on.
+//! The links that lines and expressions know.
+
+use crate::assigned::{
+    ETHERNET_HEADER_LENGTH, ETHERNET_TYPE_OFFSET, LINKTYPE_ETHERNET, LINKTYPE_LINUX_SLL,
+    LINKTYPE_RAW, LINUX_SLL_HEADER_LENGTH, LINUX_SLL_TYPE_OFFSET,
+};
 
 /// The link that packets were captured on.
 #[derive(Clone, Copy)]
@@ -9,4 +14,87 @@ pub enum Link {
     Raw,
     /// Linux cooked capture, link type 113: a header of 16 bytes stands before the network header.
     Cooked,
+}
+
+impl Link {
+    ghost use Rattle.std.specs.Prelude.{◌≡◌, ◌+◌, ◌≤◌, IfSome, length};
+    ghost use Rattle.cap_octet.specs.Link.{link_name, link_named, link_of, link_type};
+    ghost use Rattle.cap_octet.specs.Link.{longest_header, network_offset, type_offset};
+
+    /// Every link.
+    pub const ALL: [Link; 3] = [Link::Ether, Link::Raw, Link::Cooked];
+
+    /// Its link type, as captures have it.
+    #[inline]
+    pub fn link_type(self) -> u16
+        ensures { result ≡ link_type self }
+    {
+        match self {
+            Link::Ether => LINKTYPE_ETHERNET,
+            Link::Raw => LINKTYPE_RAW,
+            Link::Cooked => LINKTYPE_LINUX_SLL,
+        }
+    }
+
+    /// The link of a link type.
+    #[inline]
+    #[tactic(auto, unfolding(crate::specs::Link::all_links))]
+    pub fn of_link_type(number: u16) -> Option<Link>
+        ensures { result ≡ link_of number }
+    {
+        match number {
+            LINKTYPE_ETHERNET => Some(Link::Ether),
+            LINKTYPE_RAW => Some(Link::Raw),
+            LINKTYPE_LINUX_SLL => Some(Link::Cooked),
+            _ => None,
+        }
+    }
+
+    /// How many bytes its header has, after which the network header begins.
+    #[inline]
+    pub fn header_length(self) -> usize
+        ensures value { result ≡ network_offset self }
+        ensures bound { result ≤ longest_header }
+    {
+        match self {
+            Link::Ether => ETHERNET_HEADER_LENGTH,
+            Link::Raw => 0,
+            Link::Cooked => LINUX_SLL_HEADER_LENGTH,
+        }
+    }
+
+    /// Where its header has the EtherType of the network header. Raw IP has none: packets begin
+    /// with a version of IP.
+    #[inline]
+    pub fn type_offset(self) -> Option<usize>
+        ensures value { result ≡ type_offset self }
+        ensures bound { IfSome result (λ at. at ≤ longest_header) }
+        ensures within { IfSome result (λ at. at + 2 ≤ network_offset self) }
+    {
+        match self {
+            Link::Ether => Some(ETHERNET_TYPE_OFFSET),
+            Link::Raw => None,
+            Link::Cooked => Some(LINUX_SLL_TYPE_OFFSET),
+        }
+    }
+
+    /// What command lines call it.
+    pub fn name(self) -> &'static str
+        ensures value { result.now ≡ link_name self }
+        ensures bound { length result.now ≤ 8 }
+    {
+        match self {
+            Link::Ether => "ether",
+            Link::Raw => "raw",
+            Link::Cooked => "cooked",
+        }
+    }
+
+    /// The link of a name.
+    #[tactic(auto, unfolding(crate::specs::Link::all_links))]
+    pub fn named(name: &str) -> Option<Link>
+        ensures { result ≡ link_named name.now }
+    {
+        Link::ALL.iter().copied().find(|link| link.name() == name)
+    }
 }

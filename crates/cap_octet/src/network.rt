@@ -1,13 +1,11 @@
 //! What network header a packet has, by its link type.
-ghost use Rattle.std.specs.Prelude.{◌≡◌, ◌≤◌};
-ghost use Rattle.cap_octet.specs.NetworkHeader.{link_header_length, of_type, of_version};
-ghost use Rattle.cap_octet.specs.NetworkHeader.{network_header};
+ghost use Rattle.std.specs.Prelude.{◌≡◌, ◌≤◌, IfSome};
+ghost use Rattle.cap_octet.specs.Link.{longest_header};
+ghost use Rattle.cap_octet.specs.NetworkHeader.{header_after, link_header_length, network_header};
+ghost use Rattle.cap_octet.specs.NetworkHeader.{of_type, of_version};
 
-use crate::assigned::{
-    ETHERNET_HEADER_LENGTH, ETHERNET_TYPE_OFFSET, ETHERTYPE_ARP, ETHERTYPE_IPV4, ETHERTYPE_IPV6,
-    ETHERTYPE_RARP, LINKTYPE_ETHERNET, LINKTYPE_LINUX_SLL, LINKTYPE_RAW, LINUX_SLL_HEADER_LENGTH,
-    LINUX_SLL_TYPE_OFFSET,
-};
+use crate::assigned::{ETHERTYPE_ARP, ETHERTYPE_IPV4, ETHERTYPE_IPV6, ETHERTYPE_RARP};
+use crate::link::Link;
 use crate::number::{Order, u16_at};
 
 /// The network headers that lines and expressions know.
@@ -34,17 +32,16 @@ pub enum NetworkHeader {
     Short,
 }
 
-/// How many bytes the link header has, behind which the network header begins; 0 for a link type
+/// How many bytes the link header has, after which the network header begins; 0 for a link type
 /// that isn't known.
 #[inline]
 pub fn link_header_length(link: u16) -> usize
     ensures value { result ≡ link_header_length link }
-    ensures bound { result ≤ 16 }
+    ensures bound { result ≤ longest_header }
 {
-    match link {
-        LINKTYPE_ETHERNET => ETHERNET_HEADER_LENGTH,
-        LINKTYPE_LINUX_SLL => LINUX_SLL_HEADER_LENGTH,
-        _ => 0,
+    match Link::of_link_type(link) {
+        Some(link) => link.header_length(),
+        None => 0,
     }
 }
 
@@ -72,19 +69,28 @@ fn of_version(version: u8) -> NetworkHeader
     }
 }
 
+/// The network header after a link header that has the EtherType at a place, or of raw IP.
+#[inline]
+fn header_after(type_offset: Option<usize>, bytes: &[u8]) -> NetworkHeader
+    requires { IfSome type_offset (λ at. at ≤ longest_header) }
+    ensures { result ≡ header_after type_offset bytes.now }
+{
+    match type_offset {
+        None if bytes.is_empty() => NetworkHeader::Short,
+        None => of_version(bytes[0] / 16),
+        Some(at) if bytes.len() < at + 2 => NetworkHeader::Short,
+        Some(at) => of_type(u16_at(Order::Big, bytes, at)),
+    }
+}
+
 /// The network header of a packet: by the EtherType in its link header, or of raw IP by the
 /// version in its first four bits.
 #[inline]
 pub fn network_header(link: u16, bytes: &[u8]) -> NetworkHeader
     ensures { result ≡ network_header link bytes.now }
 {
-    match link {
-        LINKTYPE_ETHERNET if bytes.len() < ETHERNET_HEADER_LENGTH => NetworkHeader::Short,
-        LINKTYPE_ETHERNET => of_type(u16_at(Order::Big, bytes, ETHERNET_TYPE_OFFSET)),
-        LINKTYPE_RAW if bytes.is_empty() => NetworkHeader::Short,
-        LINKTYPE_RAW => of_version(bytes[0] / 16),
-        LINKTYPE_LINUX_SLL if bytes.len() < LINUX_SLL_HEADER_LENGTH => NetworkHeader::Short,
-        LINKTYPE_LINUX_SLL => of_type(u16_at(Order::Big, bytes, LINUX_SLL_TYPE_OFFSET)),
-        other => NetworkHeader::OtherLink(other),
+    match Link::of_link_type(link) {
+        Some(link) => header_after(link.type_offset(), bytes),
+        None => NetworkHeader::OtherLink(link),
     }
 }

@@ -8,7 +8,7 @@ use Rattle.cap_io.specs.Capture.{Placed}
 use Rattle.cap_window.specs.declared.mark.Mark.{Mark}
 use Rattle.cap_window.specs.Marks.{mark_of, has_same, last}
 use Rattle.cap_window.proofs.Marks.{last-last}
-use Rattle.cap_inputs.specs.Sequence.{Packet, FaultIn}
+use Rattle.cap_io.specs.Sequence.{Packet, FaultIn}
 use Rattle.cap_packets.specs.Verdict.{Judgement, Edit, EditRule, SelectorState, initial_state, edited_packet_with, is_selected, shifted_time, passes, refuses, selects, skip_judgement, unique, with_mark}
 use Rattle.cap_packets.specs.Outcome.{Form, AsReports, JobProgress, apply_verdict, next_progress, end_with, apply_events}
 use Rattle.cap_packets.specs.Edits.{PassesUnique, coming, is_repeated, packets_selected, unique_behind}

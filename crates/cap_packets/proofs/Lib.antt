@@ -10,3 +10,4 @@ pub mod Negations
 pub mod Prefixes
 pub mod Rows
 pub mod EditRules
+pub mod Refusals

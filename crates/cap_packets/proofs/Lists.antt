@@ -15,7 +15,7 @@ use Rattle.cap_filter.specs.FilterRules.{Rule, rule_decides}
 use Rattle.cap_window.specs.declared.mark.Mark.{Mark}
 use Rattle.cap_window.specs.Marks.{mark_of, has_same, last}
 use Rattle.cap_window.proofs.Marks.{last-last}
-use Rattle.cap_inputs.specs.Sequence.{Event, Packet, Complete, FaultIn}
+use Rattle.cap_io.specs.Sequence.{Event, Packet, Complete, FaultIn}
 use Rattle.cap_packets.specs.Verdict.{Policy, Count, Filter, Edit, EditRule, Judgement, PassLast, Pass, SelectorState, initial_state, edited_packet_with, filters, is_last, is_selected, judge_by, shifted_time, passes, refuses, selects, skip_judgement, unique, with_mark}
 use Rattle.cap_packets.specs.Reports.{Tally, tally_with}
 use Rattle.cap_packets.specs.Outcome.{Form, AsReports, JobProgress, apply_verdict, next_progress, end_with, apply_events}

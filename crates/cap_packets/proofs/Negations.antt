@@ -10,7 +10,7 @@ use Rattle.flt_code.specs.Elementary.{Reading, Yes, No, Rejected}
 use Rattle.flt_code.specs.Formula.{negation}
 use Rattle.flt_gen.specs.Reading.{holds}
 use Rattle.cap_filter.specs.FilterRules.{by_reading, decision_of, read_on}
-use Rattle.cap_filter.specs.Links.{link_of}
+use Rattle.cap_octet.specs.Link.{link_of}
 use Rattle.cap_packets.specs.Lists.{kept_by, packets_kept}
 use Rattle.cap_packets.specs.Whole.{AreRead, NegationParts, is_rejected_on, is_rejection, packets_rejected}
 

@@ -1,6 +1,6 @@
 -- How far a job comes over events that came, and over what comes next.
 use Rattle.std.proofs.Common.{◌≡◌, List, [], ◌∷◌, ◌++◌, Option, None, Some, refl, ◌∙◌, ap}
-use Rattle.cap_inputs.specs.Sequence.{Event, SequenceEnd, Sequence, with_front}
+use Rattle.cap_io.specs.Sequence.{Event, SequenceEnd, Sequence, with_front}
 use Rattle.cap_packets.specs.Verdict.{Policy}
 use Rattle.cap_packets.specs.Outcome.{Form, JobProgress, no_progress, unless_ended, apply_event, next_progress, apply_events, end_with, end_unless_ended, final_progress}
 

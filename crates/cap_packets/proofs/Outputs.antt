@@ -10,11 +10,11 @@ use Rattle.std.proofs.lemmas.Grind.{flat_map-append}
 use Rattle.cap_print.specs.declared.print.Options.{Options}
 use Rattle.cap_print.specs.Rendering.{printed_text}
 use Rattle.cap_io.specs.Sink as sinks
-use Rattle.cap_io.specs.Sink.{SinkView, HasPackets, PutsAfter, IsPutAnswer, PutWrites, WritesPacket, takes_memory}
+use Rattle.cap_io.specs.Sink.{SinkView, HasPackets, IsPutAnswer, PutWrites, WritesPacket, takes_memory}
 use Rattle.cap_io.specs.Text.{added_text, refusal_of}
-use Rattle.cap_io.proofs.Texts.{put-answers, put-writes, put-taken, HasPackets-put, refused-write_failed, refused-no_memory}
+use Rattle.cap_io.proofs.Texts.{put-next, put-answer, put-writes, put-taken, HasPackets-put, refused-write_failed, refused-no_memory}
 use Rattle.cap_packets.specs.Reports.{Report}
-use Rattle.cap_inputs.specs.Sequence.{Complete}
+use Rattle.cap_io.specs.Sequence.{Complete}
 use Rattle.cap_packets.specs.Verdict.{SelectorState}
 use Rattle.cap_packets.specs.Outcome.{Form, AsCapture, AsReports, AsLines, closing_text, lines_text, final_text, form_refuses, output_text}
 use Rattle.cap_packets.specs.Output.{Target, Capture, Text, Lines, HasWrittenTo, PutsIntoOutput, Reports, form_to, written_to, failures_to}
@@ -50,12 +50,12 @@ pub record PutOk (before : List ℕ) (ps : List Captured) (rs : List Report) (q 
 pub put-ok : (before : List ℕ) (ps : List Captured) (rs : List Report) (q : Captured) (names names' : List (List ℕ)) (old new : Target) → names' ≡ names → HasWrittenTo before names old ps rs
     → PutsIntoOutput q old (Ok tt) new → PutOk before ps rs q names names' old new
 put-ok before ps rs q names names' (Capture sink) new same has puts =
-    let after : PutsAfter ps sink q (Ok tt) puts.sink = put-answers before ps sink q (Ok tt) puts.sink has puts.puts in
+    let next = put-next ps sink q (Ok tt) puts.sink has.put puts.puts in
     rw puts.is (record {
-      none = put-taken ps sink q puts.sink after;
+      none = put-taken _ _ (put-answer ps sink q (Ok tt) puts.sink has.put next);
       output = HasPackets-put before ps sink q puts.sink has puts.puts puts.writes;
-      form = ap AsCapture after.format;
-      failures = after.failures ∙ add-zero sink.failures;
+      form = ap AsCapture next.adds.format;
+      failures = next.adds.failures ∙ add-zero sink.failures;
     })
 put-ok before ps rs q names names' (Text bytes failures room) new same has puts =
     rw (puts.1, same) (record { none = refl; output = has; form = refl; failures = refl })
@@ -110,17 +110,23 @@ WhyUnput fault old ps q new = (refusal_of old.format ps q ≡ Some fault) × (ne
 pub unput : (before : List ℕ) (ps : List Captured) (q : Captured) (old new : SinkView) (fault : Fault) → HasPackets before old ps
     → sinks.PutsPacket old.state old q (Err fault) new → PutWrites old.state old q (Err fault) new → WhyUnput fault old ps q new
 unput before ps q old new WriteFailed has puts writes =
-    let after : PutsAfter ps old q (Err WriteFailed) new = put-answers before ps old q (Err WriteFailed) new has puts in
-    let none = not-refused old.format ps q WriteFailed (refused-write_failed old.format ps q) after.answer in
-    (none, after.failures, stopped-within (refusal_of old.format ps q) (added_text old.format ps q) old.written new.written none (put-writes before ps old q (Err WriteFailed) new has writes))
+    let next = put-next ps old q (Err WriteFailed) new has.put puts in
+    let answer = put-answer ps old q (Err WriteFailed) new has.put next in
+    let bytes = put-writes ps old q (Err WriteFailed) new has.put writes in
+    let none = not-refused old.format ps q WriteFailed (refused-write_failed old.format ps q) answer in
+    (none, next.adds.failures, stopped-within (refusal_of old.format ps q) (added_text old.format ps q) old.written new.written none bytes)
 unput before ps q old new NoMemory has puts writes =
-    let after : PutsAfter ps old q (Err NoMemory) new = put-answers before ps old q (Err NoMemory) new has puts in
-    let none = not-refused old.format ps q NoMemory (refused-no_memory old.format ps q) after.answer in
-    (none, memory-taken (refusal_of old.format ps q) (takes_memory old.format ps q) none after.answer, stayed-written (refusal_of old.format ps q) (added_text old.format ps q) old.written new.written none (put-writes before ps old q (Err NoMemory) new has writes), after.failures ∙ add-zero old.failures)
+    let next = put-next ps old q (Err NoMemory) new has.put puts in
+    let answer = put-answer ps old q (Err NoMemory) new has.put next in
+    let bytes = put-writes ps old q (Err NoMemory) new has.put writes in
+    let none = not-refused old.format ps q NoMemory (refused-no_memory old.format ps q) answer in
+    (none, memory-taken (refusal_of old.format ps q) (takes_memory old.format ps q) none answer, stayed-written (refusal_of old.format ps q) (added_text old.format ps q) old.written new.written none bytes, next.adds.failures ∙ add-zero old.failures)
 unput before ps q old new fault has puts writes =
-    let after : PutsAfter ps old q (Err fault) new = put-answers before ps old q (Err fault) new has puts in
-    let is = refusal-is (refusal_of old.format ps q) (takes_memory old.format ps q) fault after.answer (λ same. (cc)) (λ same. (cc)) in
-    (is, stays-written (refusal_of old.format ps q) fault (added_text old.format ps q) old.written new.written is (put-writes before ps old q (Err fault) new has writes), after.failures ∙ add-zero old.failures)
+    let next = put-next ps old q (Err fault) new has.put puts in
+    let answer = put-answer ps old q (Err fault) new has.put next in
+    let bytes = put-writes ps old q (Err fault) new has.put writes in
+    let is = refusal-is (refusal_of old.format ps q) (takes_memory old.format ps q) fault answer (λ same. (cc)) (λ same. (cc)) in
+    (is, stays-written (refusal_of old.format ps q) fault (added_text old.format ps q) old.written new.written is bytes, next.adds.failures ∙ add-zero old.failures)
 
 -- ---- the clean end
 

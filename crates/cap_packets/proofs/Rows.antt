@@ -6,7 +6,7 @@ use Rattle.cap_octet.specs.declared.format.Format.TheVariants.{Pcap}
 use Rattle.cap_io.specs.Capture.{Placed, Ending, End, FaultAt, Nothing, items_from, items_within}
 use Rattle.flt_tree.specs.Tree.{empty}
 use Rattle.cap_filter.specs.FilterRules.{by_reading}
-use Rattle.cap_inputs.specs.Sequence.{InputItems, InTurn, ByTime, sequence_of, Packet, Complete, FaultIn, whole_input}
+use Rattle.cap_io.specs.Sequence.{InputItems, InTurn, ByTime, sequence_of, Packet, Complete, FaultIn, whole_input}
 use Rattle.cap_command.specs.declared.command.Shift.TheVariants as shift
 use Rattle.cap_packets.specs.Verdict.{Edit, Filter, Count}
 use Rattle.cap_packets.specs.Outcome.{AsCapture, AsReports, Outcome, JobProgress, Work, outcome, final_progress}
@@ -14,7 +14,7 @@ use Rattle.cap_io.specs.declared.source.Kind.TheVariants as kind
 use Rattle.cap_octet.specs.Calendar.{day_from_epoch}
 use Rattle.cap_octet.specs.Date.{date_text}
 use Rattle.cap_octet.specs.Number.{number_in}
-use Rattle.cap_filter.specs.Messages.{fault_message}
+use Rattle.cap_packets.specs.Messages.{fault_message}
 use Rattle.md5.specs.Md5.{md5, digest_bytes, hash_after, compress, rounds, block_words}
 
 abbrev at_time : ℕ → Captured

@@ -8,10 +8,8 @@ use Rattle.cap_window.specs.View.{WindowView}
 use Rattle.cap_window.specs.declared.mark.Mark.{Mark}
 use Rattle.cap_packets.specs.declared.selector.Verdict as code
 use Rattle.cap_packets.specs.Verdict.{Policy, Edit, Filter, KeepAll, Count, SelectorState, Judgement, Pass, PassLast, Skip, judge, judge_by, refuses, is_last}
-use Rattle.cap_packets.specs.Reports.{Tally}
-use Rattle.cap_packets.specs.Reports.{FitsTally, tally_with}
-use Rattle.cap_inputs.specs.Inputs.{most_steps}
-use Rattle.cap_packets.specs.Selector.{PolicyState, IsWithin, IsWindowFor, ReturnsVerdict, is_count, count_limit, spent_by, spent_by_verdict, TakesTally, marks_in, verdict_if, places, state_of, verdict_of, IsVerdict}
+use Rattle.cap_packets.specs.Reports.{Tally, tally_with}
+use Rattle.cap_packets.specs.Selector.{PolicyState, IsWindowFor, ReturnsVerdict, is_count, count_limit, spent_by, spent_by_verdict, TakesTally, marks_in, verdict_if, places, state_of, verdict_of, IsVerdict}
 
 nat_le-true : (a b : ℕ) → a ≤ b → nat_le a b ≡ true
 nat_le-true a b h = grind (arith, nat_tests, h)
@@ -88,14 +86,6 @@ tells-count Count passed marks tally tally' number p v is skips more = (skips, a
 tells-count (Edit s) passed marks tally tally' number p v is skips more = (cc)
 tells-count (Filter rule count) passed marks tally tally' number p v is skips more = (cc)
 tells-count KeepAll passed marks tally tally' number p v is skips more = (cc)
-
--- one packet more fits
-pub within-room : (t : Tally) → IsWithin most_steps t → FitsTally t
-within-room t within =
-    let a = within.0 in
-    let b = within.1 in
-    let c = within.2 in
-    (omega (arith, a), omega (arith, b), omega (arith, c))
 
 -- ---- what was counted is taken
 

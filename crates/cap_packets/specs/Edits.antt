@@ -3,7 +3,7 @@ use Rattle.std.specs.Prelude.{◌≡◌, ℕ, ◌+◌, ◌-◌, ◌^◌, ◌<◌
 use Rattle.cap_octet.specs.Packet.{Captured}
 use Rattle.cap_window.specs.declared.mark.Mark.{Mark}
 use Rattle.cap_window.specs.Marks.{mark_of, has_same, last}
-use Rattle.cap_inputs.specs.Sequence.{Event, Packet}
+use Rattle.cap_io.specs.Sequence.{Event, Packet}
 use Rattle.cap_packets.specs.Verdict.{Edit, EditRule, edited_packet_with, is_selected, shifted_time}
 use Rattle.cap_packets.specs.Outcome.{AsReports, no_progress, apply_events}
 

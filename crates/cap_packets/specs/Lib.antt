@@ -6,3 +6,4 @@ pub mod Lists
 pub mod Whole
 pub mod Reports
 pub mod Verdict
+pub mod Messages

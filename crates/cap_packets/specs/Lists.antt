@@ -9,7 +9,7 @@ use Rattle.cap_filter.specs.Decisions.{Decision, Keep, Skip, Refuse}
 use Rattle.cap_filter.specs.FilterRules.{Rule, rule_decides}
 use Rattle.cap_window.specs.declared.mark.Mark.{Mark}
 use Rattle.cap_window.specs.Marks.{mark_of, last}
-use Rattle.cap_inputs.specs.Sequence.{Event, Packet, SequenceEnd, FaultIn}
+use Rattle.cap_io.specs.Sequence.{Event, Packet, SequenceEnd, FaultIn}
 use Rattle.cap_packets.specs.Verdict.{Count, Filter, Edit, EditRule, is_selected, shifted_time}
 use Rattle.cap_packets.specs.Reports.{Tally}
 use Rattle.cap_packets.specs.Outcome.{AsReports, no_progress, apply_events}

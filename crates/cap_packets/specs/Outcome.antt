@@ -11,8 +11,8 @@ use Rattle.cap_io.specs.Sink.{takes_memory}
 use Rattle.cap_io.specs.Text.{added_text, file_start, text, refusal_of}
 use Rattle.cap_print.specs.declared.print.Options.{Options}
 use Rattle.cap_print.specs.Rendering.{printed_text}
-use Rattle.cap_filter.specs.Messages.{fault_message}
-use Rattle.cap_inputs.specs.Sequence.{Event, Packet, InputEnd, SequenceEnd, Complete, FaultIn, Sequence, InputItems, PacketOrder, sequence_of, with_front}
+use Rattle.cap_io.specs.Sequence.{Event, Packet, InputEnd, SequenceEnd, Complete, FaultIn, Sequence, InputItems, PacketOrder, sequence_of, with_front}
+use Rattle.cap_packets.specs.Messages.{fault_message}
 use Rattle.cap_packets.specs.Verdict.{Policy, Count, SelectorState, initial_state, Verdict, Pass, PassLast, Skip, Refuse, judge}
 use Rattle.cap_packets.specs.Reports.{Report, nothing_counted, report_text, reports_text, name_at}
 
@@ -74,17 +74,18 @@ end_with w close =
       end = Some close;
     }
 
--- the packet that passes is written, or the form refuses it
-abbrev pub decide_unless : Option Fault → JobProgress → ℕ → Placed → SelectorState → Captured
-    → Option SequenceEnd → JobProgress
-decide_unless None w input p state q end = decide w state (q ∷ []) end
-decide_unless (Some fault) w input p state q end = end_with w (FaultIn input fault p.offset)
+-- a packet that passes is written, which leaves `decided`; or the form refuses it
+abbrev pub decide_unless : Option Fault → JobProgress → ℕ → Placed → (decided : JobProgress)
+    → JobProgress
+decide_unless None w input p decided = decided
+decide_unless (Some fault) w input p decided = end_with w (FaultIn input fault p.offset)
 
 abbrev pub apply_verdict : Form → JobProgress → ℕ → Placed → Verdict → SelectorState → JobProgress
 apply_verdict form w input p (Pass q) state =
-    decide_unless (form_refuses form w.packets q) w input p state q None
+    decide_unless (form_refuses form w.packets q) w input p (decide w state (q ∷ []) None)
 apply_verdict form w input p (PassLast q) state =
-    decide_unless (form_refuses form w.packets q) w input p state q (Some Complete)
+    decide_unless (form_refuses form w.packets q) w input p
+    (decide w state (q ∷ []) (Some Complete))
 apply_verdict form w input p Skip state = decide w state [] None
 apply_verdict form w input p (Refuse fault) state = end_with w (FaultIn input fault p.offset)
 

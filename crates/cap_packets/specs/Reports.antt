@@ -3,7 +3,9 @@ use Rattle.std.specs.Prelude.{ℕ, ◌+◌, ◌-◌, ◌/◌, ◌%◌, ◌^◌, 
 use Rattle.std.specs.List.{flat_map, slice_get}
 use Rattle.std.specs.Fmt.{decimal}
 use Rattle.cap_octet.specs.Date.{NANOS_PER_SECOND, date_text, digits}
+use Rattle.cap_octet.specs.Format.{format_name}
 use Rattle.cap_octet.specs.Packet.{Captured}
+use Rattle.cap_octet.specs.declared.format.Format.TheVariants as format
 use Rattle.cap_io.specs.declared.source.Kind.{Kind}
 use Rattle.cap_io.specs.declared.source.Kind.TheVariants as kind
 
@@ -57,9 +59,9 @@ pub record Report : Type 0 where
 
 abbrev pub kind_name : Option Kind → List ℕ
 kind_name None = []
-kind_name (Some kind.Pcap) = codes "pcap"
-kind_name (Some kind.NsecPcap) = codes "nsecpcap"
-kind_name (Some kind.Pcapng) = codes "pcapng"
+kind_name (Some kind.Pcap) = format_name format.Pcap
+kind_name (Some kind.NsecPcap) = format_name format.NsecPcap
+kind_name (Some kind.Pcapng) = format_name format.Pcapng
 
 abbrev pub date_or_none : ℕ → ℕ → List ℕ
 date_or_none count time = if count == 0 then codes "none" else date_text time

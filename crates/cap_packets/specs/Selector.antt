@@ -9,7 +9,7 @@ use Rattle.cap_command.specs.declared.command.Edit as command_edit
 use Rattle.flt_tree.specs.Tree.{empty, truth}
 use Rattle.cap_filter.specs.FilterRules as rules
 use Rattle.cap_filter.specs.FilterRules.{by_reading, by_answer}
-use Rattle.cap_filter.specs.Links.{link_types}
+use Rattle.cap_octet.specs.Link.{all_links}
 use Rattle.cap_filter.specs.Programs.{AreMade}
 use Rattle.cap_filter.specs.Filters.{most_cost, programs_of, rule_of, spent_on}
 use Rattle.cap_packets.specs.declared.selector.Policy as code_policy
@@ -73,7 +73,7 @@ programs_in policy.Count = []
 -- packets match
 abbrev pub AreFor : rules.Rule → List Content → Type 0
 AreFor (by_reading empty) programs = programs ≡ []
-AreFor (by_reading (truth a)) programs = AreMade (truth a) link_types programs
+AreFor (by_reading (truth a)) programs = AreMade (truth a) all_links programs
 AreFor (by_answer prog) programs = map (λ program. program.insns) programs ≡ prog ∷ []
 
 -- the programs are those for the policy: only a filter has any

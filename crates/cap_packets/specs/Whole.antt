@@ -15,8 +15,8 @@ use Rattle.flt_tree.specs.Tree.{TruthTree, denied, truth}
 use Rattle.flt_code.specs.Elementary.{Reading, Rejected}
 use Rattle.flt_gen.specs.Reading.{holds}
 use Rattle.cap_filter.specs.FilterRules.{Rule, by_reading}
-use Rattle.cap_filter.specs.Links.{link_of}
-use Rattle.cap_inputs.specs.Sequence.{Event, Packet, InputEnd, PacketOrder, InTurn, InputItems, whole_input, sequence_of}
+use Rattle.cap_io.specs.Sequence.{Event, Packet, InputEnd, PacketOrder, InTurn, InputItems, whole_input, sequence_of}
+use Rattle.cap_octet.specs.Link.{link_of}
 use Rattle.cap_packets.specs.Verdict.{Edit, EditRule, Filter, KeepAll, Count}
 use Rattle.cap_packets.specs.Reports.{Report, reports_text}
 use Rattle.cap_packets.specs.Outcome.{Form, AsCapture, AsReports, AsLines, Work, form_refuses, output_text, closing_text, first_link, lines_text, outcome}

@@ -3,6 +3,7 @@
 
 mod edit;
 pub mod law;
+pub mod message;
 mod output;
 mod report;
 mod selector;

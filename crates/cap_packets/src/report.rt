@@ -7,7 +7,7 @@ ghost use Rattle.cap_packets.specs.Reports.{yes_or_no};
 use crate::tally::Tally;
 use cap_io::Kind;
 use cap_octet::date::{NANOS_PER_SECOND, nine_digits};
-use cap_octet::{DeviceFault, Output, date_bytes, write_parts};
+use cap_octet::{DeviceFault, Format, Output, date_bytes, write_parts};
 use itoa::Buffer;
 
 /// What is reported of a file.
@@ -44,9 +44,9 @@ fn kind_name(kind: Option<Kind>) -> &'static [u8]
 {
     match kind {
         None => b"",
-        Some(Kind::Pcap) => b"pcap",
-        Some(Kind::NsecPcap) => b"nsecpcap",
-        Some(Kind::Pcapng) => b"pcapng",
+        Some(Kind::Pcap) => Format::Pcap.name().as_bytes(),
+        Some(Kind::NsecPcap) => Format::NsecPcap.name().as_bytes(),
+        Some(Kind::Pcapng) => Format::Pcapng.name().as_bytes(),
     }
 }
 

@@ -4,7 +4,6 @@ ghost use Rattle.std.specs.Prelude.{if◌then◌else◌, length};
 ghost use Rattle.cap_octet.specs.Packet.{Captured, captured};
 ghost use Rattle.cap_io.specs.Reading.{most_in_unit};
 ghost use Rattle.cap_filter.specs.Programs.{spent_in};
-ghost use Rattle.cap_inputs.specs.Inputs.{most_steps};
 ghost use Rattle.cap_packets.specs.Verdict.{is_last, judge_by};
 ghost use Rattle.cap_packets.specs.Selector.{IsWindowFor, ReturnsVerdict, count_limit, is_count};
 ghost use Rattle.cap_packets.specs.Selector.{marks_in};
@@ -163,8 +162,10 @@ impl<A: Allocator> Policy<A> {
 impl<A: Allocator> Selector<A> {
     ghost use Rattle.std.specs.Prelude.{IfOk};
     ghost use Rattle.cap_filter.specs.Filters.{programs_of, rule_of};
+    ghost use Rattle.cap_packets.specs.Reports.{FitsTally};
     ghost use Rattle.cap_packets.specs.Verdict.{Filter as AskedFilter, judge};
-    ghost use Rattle.cap_packets.specs.Selector.{GrowsByOne, HasFewMarks, IsVerdict, IsWithin};
+    ghost use Rattle.cap_packets.specs.Selector.{GrowsByOne, HasFewMarks, IsVerdict};
+    ghost use Rattle.cap_packets.specs.Reports.{FitsTally};
     ghost use Rattle.cap_packets.specs.Selector.{SelectorView, TakesTally, policy_state};
     ghost use Rattle.cap_packets.specs.Selector.{spent_by_verdict, state_with};
 
@@ -212,7 +213,7 @@ impl<A: Allocator> Selector<A> {
     where
         A: Copy + Drop,
         requires { length packet.old.bytes.now ≤ most_in_unit }
-        ensures exact { self.old.state.passed < number → IsWithin most_steps self.old.state.tally
+        ensures exact { self.old.state.passed < number → FitsTally self.old.state.tally
             → IsVerdict (judge self.old.policy self.old.state number (captured packet.old)) result
             (captured packet.new) self.new.state }
         ensures policy { self.new.policy ≡ self.old.policy }

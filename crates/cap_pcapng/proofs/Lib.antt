@@ -1,3 +1,5 @@
+pub mod Faults
+pub mod Entered
 pub mod InterfaceLists
 mod Judged
 pub mod Numerals

@@ -1,5 +1,6 @@
 pub mod Block
 pub mod Comment
+pub mod Effect
 pub mod Frame
 pub mod Interface
 pub mod InterfaceOptions

@@ -6,6 +6,7 @@
 
 mod blocks;
 mod clock;
+mod effect;
 mod frames;
 mod interface;
 pub mod laws;
@@ -16,6 +17,7 @@ mod write;
 
 pub use blocks::{Block, EnhancedBlock, InterfaceBlock, SimpleBlock};
 pub use clock::Clock;
+pub use effect::{BlockEffect, Interfaces, PacketSpans, Span, block_effect};
 pub use frames::{BlockType, Frame};
 pub use interface::{Interface, Name};
 pub use options::{BlockOption, Options};

@@ -2,13 +2,14 @@
 ghost use Rattle.std.specs.Prelude.{◌≡◌, ◌≤◌, ◌<◌, ◌↔◌, [], ◌∷◌, ◌++◌, length, IsTrue, OnOk};
 
 use crate::clock::Clock;
+use crate::effect::Interfaces;
 use crate::interface::{Interface, Name};
 use cap_octet::Fault;
 use std::alloc::{Allocator, Global};
 use std::marker::Model;
 
 /// The greatest number of interfaces in a section.
-const MOST_INTERFACES: usize = 256;
+pub(crate) const MOST_INTERFACES: usize = 256;
 
 /// An interface that holds its name.
 #[derive(Drop)]
@@ -127,5 +128,17 @@ impl<A: Allocator> Table<A> {
         ensures { option_map description_of result ≡ slice_get self.now number }
     {
         self.entries.get(number as usize).map(Entry::interface)
+    }
+}
+
+impl<A: Allocator> Interfaces for Table<A> {
+    ghost list = { λ table. table };
+
+    fn count(&self) -> usize {
+        self.entries.len()
+    }
+
+    fn get(&self, number: u32) -> Option<Interface<'_>> {
+        Table::get(self, number)
     }
 }

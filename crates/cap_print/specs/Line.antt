@@ -1,8 +1,10 @@
 -- The line of a packet.
-use Rattle.std.specs.Prelude.{ℕ, Bool, if◌then◌else◌, ◌==◌, nat_lt, List, [], ◌∷◌, ◌++◌, length, decimal, codes}
-use Rattle.cap_octet.specs.Assigned.{LINKTYPE_ETHERNET, LINKTYPE_RAW, LINKTYPE_LINUX_SLL}
-use Rattle.cap_octet.specs.Assigned.{ETHERNET_TYPE_OFFSET, ETHERNET_HEADER_LENGTH, LINUX_SLL_TYPE_OFFSET, LINUX_SLL_HEADER_LENGTH}
+use Rattle.std.specs.Prelude.{ℕ, Bool, if◌then◌else◌, nat_lt, List, [], ◌∷◌, ◌++◌, length, decimal, codes, Option, None, Some}
+use Rattle.std.specs.Option.{option_map_or}
 use Rattle.cap_octet.specs.Date.{date_text}
+use Rattle.cap_octet.specs.Link.{link_name, link_of, network_offset, type_offset}
+use Rattle.cap_octet.specs.declared.link.Link.{Link}
+use Rattle.cap_octet.specs.declared.link.Link.TheVariants.{Ether}
 use Rattle.cap_octet.specs.Packet.{Captured}
 use Rattle.cap_print.specs.Addresses.{u16_of, mac_text}
 use Rattle.cap_print.specs.Hexadecimal.{hex_four}
@@ -12,26 +14,23 @@ use Rattle.cap_print.specs.Network.{network_part}
 unfoldable pub type_text : ℕ → List ℕ
 type_text type = codes ", type 0x" ++ (hex_four type ++ codes ", ")
 
--- of the Ethernet header, the source before the destination
-unfoldable pub ethernet_part : List ℕ → List ℕ
-ethernet_part p =
-    if nat_lt (length p) ETHERNET_HEADER_LENGTH then codes "ether [short], "
-    else mac_text p 6
-    ++ (codes " > " ++ (mac_text p 0 ++ type_text (u16_of p ETHERNET_TYPE_OFFSET)))
+-- what names the link: of Ethernet the source and the destination
+unfoldable pub link_text : Link → List ℕ → List ℕ
+link_text Ether p = mac_text p 6 ++ (codes " > " ++ mac_text p 0)
+link_text link p = link_name link
 
--- of the header of a Linux cooked capture
-unfoldable pub cooked_part : List ℕ → List ℕ
-cooked_part p =
-    if nat_lt (length p) LINUX_SLL_HEADER_LENGTH then codes "cooked [short], " else codes "cooked"
-    ++ type_text (u16_of p LINUX_SLL_TYPE_OFFSET)
+-- of a link header, by the place of its type
+unfoldable pub link_header : Link → Option ℕ → List ℕ → List ℕ
+link_header link None p = link_name link ++ codes ", "
+link_header link (Some at) p =
+    if nat_lt (length p) (network_offset link) then link_name link ++ codes " [short], "
+    else link_text link p ++ type_text (u16_of p at)
 
--- of the link header
+-- of the link header of a link type, if that is known
 unfoldable pub link_part : ℕ → List ℕ → List ℕ
-link_part link p =
-    if link == LINKTYPE_ETHERNET then ethernet_part p
-    else if link == LINKTYPE_RAW then codes "raw, "
-    else if link == LINKTYPE_LINUX_SLL then cooked_part p
-    else codes "link " ++ (decimal link ++ codes ", ")
+link_part n p =
+    option_map_or (λ link. link_header link (type_offset link) p) (link_of n)
+    (codes "link " ++ (decimal n ++ codes ", "))
 
 -- the date, what is said of the link header where it is asked for, what is said of the network
 -- header, and the original length

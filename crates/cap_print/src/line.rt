@@ -1,17 +1,14 @@
 //! The line of a packet.
-ghost use Rattle.std.specs.Prelude.{◌≡◌, ◌+◌, ◌≤◌, ◌<◌, ◌++◌, length};
+ghost use Rattle.std.specs.Prelude.{◌≡◌, ◌+◌, ◌≤◌, ◌<◌, ◌++◌, IfSome, length};
+ghost use Rattle.cap_octet.specs.Link.{network_offset};
 ghost use Rattle.cap_octet.specs.Packet.{captured};
-ghost use Rattle.cap_print.specs.Line.{cooked_part, ethernet_part, line, link_part, type_text};
+ghost use Rattle.cap_print.specs.Line.{link_header, line, link_part, link_text, type_text};
 
 use crate::address::{push_mac, u16_of};
 use crate::hexadecimal::push_hex_four;
 use crate::network::push_network_part;
 use crate::text::Text;
-use cap_octet::Packet;
-use cap_octet::assigned::{
-    ETHERNET_HEADER_LENGTH, ETHERNET_TYPE_OFFSET, LINKTYPE_ETHERNET, LINKTYPE_LINUX_SLL,
-    LINKTYPE_RAW, LINUX_SLL_HEADER_LENGTH, LINUX_SLL_TYPE_OFFSET,
-};
+use cap_octet::{Link, Packet};
 
 /// Appends the type of the network header.
 #[tactic(auto, unfolding(crate::specs::Line::type_text))]
@@ -25,36 +22,46 @@ fn push_type(text: &mut Text, kind: u16)
     text.push_all(b", ");
 }
 
-/// Appends what is said of the Ethernet header.
-#[tactic(auto, unfolding(crate::specs::Line::ethernet_part))]
-fn push_ethernet_part(text: &mut Text, bytes: &[u8])
-    requires { length text.old + 60 ≤ 256 }
-    ensures value { text.new ≡ text.old ++ ethernet_part bytes.now }
-    ensures bound { length text.new ≤ length text.old + 60 }
+/// Appends what names the link: of Ethernet the source and the destination.
+#[tactic(auto, unfolding(crate::specs::Line::link_text))]
+fn push_link_text(text: &mut Text, link: Link, bytes: &[u8])
+    requires room { length text.old + 37 ≤ 256 }
+    requires within { network_offset link ≤ length bytes.now }
+    ensures value { text.new ≡ text.old ++ link_text link bytes.now }
+    ensures bound { length text.new ≤ length text.old + 37 }
 {
-    if bytes.len() < ETHERNET_HEADER_LENGTH {
-        text.push_all(b"ether [short], ");
-        return;
+    match link {
+        Link::Ether => {
+            push_mac(text, bytes, 6);
+            text.push_all(b" > ");
+            push_mac(text, bytes, 0);
+        }
+        _ => text.push_all(link.name().as_bytes()),
     }
-    push_mac(text, bytes, 6);
-    text.push_all(b" > ");
-    push_mac(text, bytes, 0);
-    push_type(text, u16_of(bytes, ETHERNET_TYPE_OFFSET));
 }
 
-/// Appends what is said of the header of a Linux cooked capture.
-#[tactic(auto, unfolding(crate::specs::Line::cooked_part))]
-fn push_cooked_part(text: &mut Text, bytes: &[u8])
-    requires { length text.old + 60 ≤ 256 }
-    ensures value { text.new ≡ text.old ++ cooked_part bytes.now }
+/// Appends what is said of the link header, whose type stands at a place, if it has one.
+#[tactic(auto, unfolding(crate::specs::Line::link_header))]
+fn push_link_header(text: &mut Text, link: Link, type_offset: Option<usize>, bytes: &[u8])
+    requires room { length text.old + 60 ≤ 256 }
+    requires within { IfSome type_offset (λ at. at + 2 ≤ network_offset link) }
+    ensures value { text.new ≡ text.old ++ link_header link type_offset bytes.now }
     ensures bound { length text.new ≤ length text.old + 60 }
 {
-    if bytes.len() < LINUX_SLL_HEADER_LENGTH {
-        text.push_all(b"cooked [short], ");
-        return;
+    match type_offset {
+        None => {
+            text.push_all(link.name().as_bytes());
+            text.push_all(b", ");
+        }
+        Some(_) if bytes.len() < link.header_length() => {
+            text.push_all(link.name().as_bytes());
+            text.push_all(b" [short], ");
+        }
+        Some(at) => {
+            push_link_text(text, link, bytes);
+            push_type(text, u16_of(bytes, at));
+        }
     }
-    text.push_all(b"cooked");
-    push_type(text, u16_of(bytes, LINUX_SLL_TYPE_OFFSET));
 }
 
 /// Appends what is said of the link header.
@@ -64,11 +71,9 @@ fn push_link_part(text: &mut Text, link: u16, bytes: &[u8])
     ensures value { text.new ≡ text.old ++ link_part link bytes.now }
     ensures bound { length text.new ≤ length text.old + 60 }
 {
-    match link {
-        LINKTYPE_ETHERNET => push_ethernet_part(text, bytes),
-        LINKTYPE_RAW => text.push_all(b"raw, "),
-        LINKTYPE_LINUX_SLL => push_cooked_part(text, bytes),
-        _ => {
+    match Link::of_link_type(link) {
+        Some(link) => push_link_header(text, link, link.type_offset(), bytes),
+        None => {
             text.push_all(b"link ");
             text.push_decimal(link as u32);
             text.push_all(b", ");

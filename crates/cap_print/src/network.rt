@@ -1,5 +1,6 @@
 //! What a line says of a packet's network header.
 ghost use Rattle.std.specs.Prelude.{◌≡◌, ◌+◌, ◌*◌, ◌≤◌, ◌<◌, ◌++◌, decimal, length};
+ghost use Rattle.cap_octet.specs.Link.{longest_header};
 ghost use Rattle.cap_print.specs.Network.{address_text, arp_part, address_with_port, has_ports};
 ghost use Rattle.cap_print.specs.Network.{header_end, header_part, ip_ends, ip_name, ip_part};
 ghost use Rattle.cap_print.specs.Network.{is_later_fragment, layout_of, least_end, network_part};
@@ -47,7 +48,7 @@ fn layout_of(ip: Ip) -> Layout
 
 /// Where the addresses of the header at place `l` end, and the header if it has no options.
 fn least_end(ip: Ip, l: usize) -> usize
-    requires { l ≤ 16 }
+    requires { l ≤ longest_header }
     ensures { result ≡ least_end ip l }
 {
     let header = layout_of(ip);
@@ -125,7 +126,7 @@ fn push_end(text: &mut Text, ip: Ip, bytes: &[u8], at: usize, port: Option<u16>)
 #[tactic(auto, unfolding(crate::specs::Network::ip_ends))]
 fn push_ends(text: &mut Text, ip: Ip, bytes: &[u8], l: usize, ports: Option<(u16, u16)>)
     requires room { length text.old + 117 ≤ 256 }
-    requires there { (l ≤ 16) × (least_end ip l ≤ length bytes.now) }
+    requires there { (l ≤ longest_header) × (least_end ip l ≤ length bytes.now) }
     ensures value { text.new ≡ text.old ++ ip_ends ip l bytes.now ports }
     ensures bound { length text.new ≤ length text.old + 117 }
 {
@@ -146,7 +147,7 @@ fn push_ends(text: &mut Text, ip: Ip, bytes: &[u8], l: usize, ports: Option<(u16
 /// Whether an IPv4 packet is a fragment but the first. Those of IPv6 are told by a header of their
 /// own, which isn't read.
 fn is_later_fragment(ip: Ip, bytes: &[u8], l: usize) -> bool
-    requires place { l ≤ 16 }
+    requires place { l ≤ longest_header }
     requires there { least_end ip l ≤ length bytes.now }
     ensures { result ≡ is_later_fragment ip l bytes.now }
 {
@@ -159,10 +160,10 @@ fn is_later_fragment(ip: Ip, bytes: &[u8], l: usize) -> bool
 
 /// Where the header at place `l` ends.
 fn header_end(ip: Ip, bytes: &[u8], l: usize) -> usize
-    requires place { l ≤ 16 }
+    requires place { l ≤ longest_header }
     requires there { least_end ip l ≤ length bytes.now }
     ensures value { result ≡ header_end ip l bytes.now }
-    ensures bound { result ≤ 76 }
+    ensures bound { result ≤ longest_header + 60 }
 {
     match ip {
         Ip::V4 => 4 * (bytes[l] as usize % 16) + l,
@@ -179,7 +180,7 @@ fn has_ports(protocol: u8) -> bool
 
 /// The two ports from a place, if a header of the protocol is there and they are captured.
 fn ports_at(protocol: u8, bytes: &[u8], at: usize) -> Option<(u16, u16)>
-    requires { at ≤ 76 }
+    requires { at ≤ longest_header + 60 }
     ensures { result ≡ ports_at protocol at bytes.now }
 {
     if has_ports(protocol) && at + 4 <= bytes.len() {
@@ -195,7 +196,7 @@ fn ports_at(protocol: u8, bytes: &[u8], at: usize) -> Option<(u16, u16)>
 #[tactic(auto, unfolding(crate::specs::Network::ip_part))]
 fn push_ip_part(text: &mut Text, ip: Ip, bytes: &[u8], l: usize)
     requires room { length text.old + 133 ≤ 256 }
-    requires place { l ≤ 16 }
+    requires place { l ≤ longest_header }
     ensures value { text.new ≡ text.old ++ ip_part ip l bytes.now }
     ensures bound { length text.new ≤ length text.old + 133 }
 {
@@ -219,7 +220,7 @@ fn push_ip_part(text: &mut Text, ip: Ip, bytes: &[u8], l: usize)
 #[tactic(auto, unfolding(crate::specs::Network::arp_part))]
 fn push_arp_part(text: &mut Text, bytes: &[u8], l: usize)
     requires room { length text.old + 120 ≤ 256 }
-    requires place { l ≤ 16 }
+    requires place { l ≤ longest_header }
     ensures value { text.new ≡ text.old ++ arp_part l bytes.now }
     ensures bound { length text.new ≤ length text.old + 120 }
 {
@@ -238,7 +239,7 @@ fn push_arp_part(text: &mut Text, bytes: &[u8], l: usize)
 #[tactic(auto, unfolding(crate::specs::Network::header_part))]
 fn push_header_part(text: &mut Text, header: NetworkHeader, bytes: &[u8], l: usize)
     requires room { length text.old + 133 ≤ 256 }
-    requires place { l ≤ 16 }
+    requires place { l ≤ longest_header }
     ensures value { text.new ≡ text.old ++ header_part header l bytes.now }
     ensures bound { length text.new ≤ length text.old + 133 }
 {

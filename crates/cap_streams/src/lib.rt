@@ -3,6 +3,7 @@
 #![tactic(auto)]
 
 pub mod ending;
+pub mod engine;
 pub mod files;
 mod hints;
 pub mod message;

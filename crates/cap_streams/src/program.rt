@@ -5,11 +5,11 @@ ghost use Rattle.capkit.specs.Line.{is_ready};
 ghost use Rattle.cap_streams.specs.Status.{status_of};
 
 use crate::USAGE;
+use crate::engine::Engine;
 use crate::message::{ShownBytes, tell};
 use crate::refusal::refuse;
 use crate::runner::run;
 use crate::words::line_of;
-use cap_command::Engine;
 use capkit::{Line, Usage};
 use std::alloc::AllocError;
 use std::env::{self, Env, FillError};

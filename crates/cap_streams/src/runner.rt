@@ -5,11 +5,12 @@ ghost use Rattle.cap_command.specs.Command.{is_proper};
 ghost use Rattle.capkit.specs.Line.{is_ready};
 
 use crate::ending::finish;
+use crate::engine::Engine;
 use crate::opening::{Source, Target, buffered, create, open, target, with_listing};
 use crate::progress::Progress;
 use crate::stop::{Stop, stopped};
 use crate::waiting::may_wait;
-use cap_command::{Command, Engine};
+use cap_command::Command;
 use cap_octet::StdOutput;
 use capkit::{Line, STANDARD};
 use std::alloc::AllocError;

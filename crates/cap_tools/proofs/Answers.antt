@@ -1,7 +1,7 @@
 -- The steps that decide the current packet.
 use Rattle.std.proofs.Common.{◌≡◌, ◌⊎◌, inl, inr, ℕ, ◌+◌, ◌<◌, ◌≤◌, Bool, true, false, List, [], ◌∷◌, ◌++◌, length, map, Option, None, Some, Result, Ok, Err, refl, sym, ◌∙◌, ap, ap₂, arith, subst, not, nat_eq, if◌then◌else◌, ◌-◌}
 use Rattle.std.proofs.lemmas.List.{append_assoc, append-nil, map-append}
-use Rattle.std.specs.List.{slice_set}
+use Rattle.std.specs.List.{slice_get, slice_set}
 use Rattle.cap_octet.specs.Device.{Stops}
 use Rattle.cap_octet.specs.Packet.{Captured}
 use Rattle.cap_octet.specs.declared.fault.Fault.{Fault}
@@ -15,7 +15,7 @@ use Rattle.cap_io.proofs.Texts.{text-more}
 use Rattle.cap_filter.specs.Decisions as chosen
 use Rattle.cap_filter.specs.Decisions.{Decision}
 use Rattle.cap_filter.specs.FilterRules as rule_spec
-use Rattle.cap_filter.specs.Links.{link_of}
+use Rattle.cap_octet.specs.Link.{link_of}
 use Rattle.cap_filter.specs.FilterRules.{Rule, rule_decides, read_on, decision_of, answering}
 use Rattle.flt_bpf.specs.Machine as bpf
 use Rattle.flt_bpf.specs.Machine.{machine, Answered}
@@ -27,20 +27,21 @@ use Rattle.cap_packets.specs.declared.selector.Verdict as code
 use Rattle.cap_packets.specs.declared.selector.Verdict.TheVariants as code_verdict
 use Rattle.cap_tools.specs.declared.step.JobEnd.TheVariants as end
 use Rattle.cap_inputs.specs.declared.inputs.Next.TheVariants as next
-use Rattle.cap_packets.specs.Reports.{Tally}
-use Rattle.cap_inputs.specs.Sequence.{InputItems, Event, Packet, SequenceEnd, Complete, FaultIn, Sequence, sequence_of, with_front, PacketOrder}
+use Rattle.cap_packets.specs.Reports.{FitsTally, Tally}
+use Rattle.cap_io.specs.Sequence.{InputItems, Event, Packet, SequenceEnd, Complete, FaultIn, Sequence, sequence_of, with_front, PacketOrder}
 use Rattle.cap_packets.specs.Verdict.{Policy, Edit, Filter, KeepAll, Count, EditRule, SelectorState, Verdict, Pass, PassLast, PassesAs, Skip, Refuse, judge}
 use Rattle.cap_window.specs.Marks.{mark_of, has_same}
 use Rattle.cap_packets.specs.Verdict as judged_spec
 use Rattle.cap_packets.specs.Selector.{PolicyState, GrowsByOne, IsWithin, IsVerdict}
 use Rattle.cap_print.specs.declared.print.Options.{Options}
 use Rattle.cap_print.specs.Rendering.{printed_text}
-use Rattle.cap_packets.specs.Outcome.{Form, AsCapture, AsLines, JobProgress, IsNextEvent, lines_text, no_progress, decide_unless, apply_verdict, apply_event, apply_events, final_progress, packet_bytes, form_refuses, end_with, final_text, first_link, output_text}
+use Rattle.cap_packets.specs.Outcome.{Form, AsCapture, AsLines, JobProgress, IsNextEvent, lines_text, no_progress, decide, decide_unless, apply_verdict, apply_event, apply_events, final_progress, packet_bytes, form_refuses, end_with, final_text, first_link, output_text}
 use Rattle.cap_packets.specs.Outcome as course_spec
 use Rattle.cap_packets.specs.Output.{JobOutputView, Target, Capture, Text, Lines, HasWritten, PutsIntoOutput, form_at, form_to, output_at, written_to, failures_to}
 use Rattle.cap_inputs.specs.Inputs.{InputView, InputsView, Future, InputPast, AreInputsBehind, AreSettled, IsInput, input_behind, actual_future, inputs_with, items_left, inputs_left, sequence_left, most_steps}
 use Rattle.cap_inputs.specs.Inputs as input_spec
-use Rattle.cap_tools.specs.Machine.{MachineState, PacketsDecided, GoesOn, CompletesOutput, DecidesPacket, Offers, StopsWriting, NextPacket, EndLeaves, progress_at, progress_of, progress_over, output_form, wholes_of, work_of, written_by, end_of_failed_write, sieve}
+use Rattle.cap_tools.specs.Packets.{JobState, PacketsDecided, GoesOn, CompletesOutput, DecidesPacket, Offers, StopsWriting, NextPacket, EndLeaves, progress_at, progress_of, progress_over, output_form, wholes_of, work_of, written_by, end_of_failed_write, sieve}
+use Rattle.cap_tools.proofs.Places.{get-at}
 use Rattle.cap_tools.proofs.Splits.{At, stands-split, stands-join, stands-length, rests-join, finish-here, come-on}
 use Rattle.cap_tools.proofs.Coming.{carries-decided, come-first, true-wholes, true-fit, true-fits}
 use Rattle.cap_packets.proofs.Outputs.{drained-text, PutOk, put-ok, WhyUnput, lines-more, unput, closing-some}
@@ -73,14 +74,14 @@ goes-by : (policy : Policy) (form : Form) (w : JobProgress) (i : ℕ) (x : Place
 goes-by policy form w i x v state' one other = rw (one, other) refl
 
 put-took : (policy : Policy) (w : JobProgress) (before : List ℕ) (i : ℕ) (x : Placed) (q : Captured) (state' : SelectorState) (old new : JobOutputView) (last : Bool) → HasWritten before old w.packets w.reports → new.names ≡ old.names → PutsIntoOutput q old.target (Ok tt) new.target
-    → apply_event policy (form_at old) w (Packet i x) ≡ decide_unless (form_refuses (form_at old) w.packets q) w i x state' q (end_if last)
+    → apply_event policy (form_at old) w (Packet i x) ≡ decide_unless (form_refuses (form_at old) w.packets q) w i x (decide w state' (q ∷ []) (end_if last))
     → Took policy w before i x state' old new last
 put-took policy w before i x q state' old new last has names puts went =
     let ok : PutOk before w.packets w.reports q old.names new.names old.target new.target = put-ok before w.packets w.reports q old.names new.names old.target new.target names has puts in
     record {
       passed = q ∷ [];
       upper_bound = inr (q, refl);
-      went = went ∙ ap (λ (f : Option Fault). decide_unless f w i x state' q (end_if last)) ok.none;
+      went = went ∙ ap (λ (f : Option Fault). decide_unless f w i x (decide w state' (q ∷ []) (end_if last))) ok.none;
       output = ok.output;
       form = ok.form;
       failures = ok.failures;
@@ -143,8 +144,9 @@ next-true us vs s before xs ys h order turn policy state output decided p laws f
 
 -- ---- it is decided
 
-within-more : (n m : ℕ) (t : Tally) → n ≤ m → IsWithin n t → IsWithin m t
-within-more n m t less within =
+-- one packet more fits
+within-room : (n : ℕ) (t : Tally) → n ≤ most_steps → IsWithin n t → FitsTally t
+within-room n t less within =
     let a = within.0 in
     let b = within.1 in
     let c = within.2 in
@@ -174,8 +176,8 @@ decided-goes us vs s before xs ys h order turn policy state state' output output
     let after : InputPast = record { text = s.text; done = s.done ++ h.source.block; packets = s.packets ++ x ∷ [] } in
     let A : Captured → Type 0 = λ q. IsAt s.text (s.done ++ h.source.block) (s.packets ++ record { offset = h.source.offset; packet = q } ∷ []) false h.source in
     let here : At after (input_behind h) = subst A same (IsAt-decided s.text s.done s.packets h.source was).1 in
-    let old : MachineState = mk (xs ++ h ∷ ys) order policy state output decided in
-    let new : MachineState = mk (xs ++ input_behind h ∷ ys) order policy state' output' (decided + 1) in
+    let old : JobState = mk (xs ++ h ∷ ys) order policy state output decided in
+    let new : JobState = mk (xs ++ input_behind h ∷ ys) order policy state' output' (decided + 1) in
     let behind : AreInputsBehind (us ++ after ∷ vs) new.inputs.cursors = stands-join us vs after xs ys (input_behind h) front here back in
     let come : AreSettled (us ++ after ∷ vs) new.inputs (d.events ++ Packet turn x ∷ []) = come-on us vs s after xs ys h (input_behind h) order d.events (Packet turn x ∷ []) front d.come
     (λ f' fit. carries-decided s xs ys h turn order h.source.block p waits held (λ f fit fs gs before with_front. laws.decided_left p held f fit fs gs before with_front) f' fit) in
@@ -246,7 +248,7 @@ last-took policy w before i x old new state' code_verdict.PassLast q exact names
     let ok : PutOk before w.packets w.reports q old.names new.names old.target new.target = put-ok before w.packets w.reports q old.names new.names old.target new.target names has offers.1 in
     record {
       packet = q;
-      went = goes-by policy (form_at old) w i x (PassLast q) state' exact.0 exact.1 ∙ ap (λ (f : Option Fault). decide_unless f w i x state' q (Some Complete)) ok.none;
+      went = goes-by policy (form_at old) w i x (PassLast q) state' exact.0 exact.1 ∙ ap (λ (f : Option Fault). decide_unless f w i x (decide w state' (q ∷ []) (Some Complete))) ok.none;
       output = ok.output;
       form = ok.form;
       failures = ok.failures;
@@ -256,11 +258,11 @@ last-took policy w before i x old new state' code_verdict.Skip q exact names off
 -- ---- it is not put
 
 -- the next packet that would be written, as a failed write has it
-abbrev AnswersNext : {ss : List InputPast} {before : List ℕ} {old : MachineState} → PacketsDecided ss before old → MachineState → Captured → Type 0
+abbrev AnswersNext : {ss : List InputPast} {before : List ℕ} {old : JobState} → PacketsDecided ss before old → JobState → Captured → Type 0
 AnswersNext {ss} {before} {old} d new q = form_refuses (output_form old) d.packets q ≡ None → (bytes : List ℕ) → bytes ≡ packet_bytes (output_form old) d.packets q → NextPacket d new bytes
 
 -- the device failed at a packet
-stops-writing : (ss : List InputPast) (before : List ℕ) (cursors : List InputView) (order : PacketOrder) (policy : Policy) (state state' : SelectorState) (names : List (List ℕ)) (sink sink' : SinkView) (decided : ℕ) (new : MachineState) (e : Event) (q : Captured) (o : Option SequenceEnd)
+stops-writing : (ss : List InputPast) (before : List ℕ) (cursors : List InputView) (order : PacketOrder) (policy : Policy) (state state' : SelectorState) (names : List (List ℕ)) (sink sink' : SinkView) (decided : ℕ) (new : JobState) (e : Event) (q : Captured) (o : Option SequenceEnd)
     → (d : PacketsDecided ss before (mk cursors order policy state (record { names = names; target = Capture sink }) decided)) → Ahead ss cursors order d.events e
     → apply_event policy (AsCapture sink.format) (progress_of d) e ≡ course_spec.decide (progress_of d) state' (q ∷ []) o
     → AnswersNext d new q → WhyUnput WriteFailed sink d.packets q sink' → new.output.target ≡ Capture sink'
@@ -291,7 +293,7 @@ stops-writing ss before cursors order policy state state' names sink sink' decid
     }
 
 -- the device failed at the line of a packet
-stops-line : (ss : List InputPast) (before : List ℕ) (cursors : List InputView) (order : PacketOrder) (policy : Policy) (state state' : SelectorState) (names : List (List ℕ)) (options : Options) (bytes after : List ℕ) (failures room decided : ℕ) (new : MachineState) (e : Event) (q : Captured) (o : Option SequenceEnd)
+stops-line : (ss : List InputPast) (before : List ℕ) (cursors : List InputView) (order : PacketOrder) (policy : Policy) (state state' : SelectorState) (names : List (List ℕ)) (options : Options) (bytes after : List ℕ) (failures room decided : ℕ) (new : JobState) (e : Event) (q : Captured) (o : Option SequenceEnd)
     → (d : PacketsDecided ss before (mk cursors order policy state (record { names = names; target = Lines options bytes failures room }) decided)) → Ahead ss cursors order d.events e
     → apply_event policy (AsLines options) (progress_of d) e ≡ course_spec.decide (progress_of d) state' (q ∷ []) o
     → AnswersNext d new q → Stops bytes (printed_text options q) after → new.output.target ≡ Lines options after (failures + 1) room
@@ -325,15 +327,15 @@ stops-line ss before cursors order policy state state' names options bytes after
 -- ---- what an answer leaves
 
 -- a packet that passes isn't put into a capture
-unput-capture : (ss : List InputPast) (before : List ℕ) (cursors : List InputView) (order : PacketOrder) (turn : ℕ) (policy : Policy) (state state' : SelectorState) (names : List (List ℕ)) (sink sink' : SinkView) (decided : ℕ) (new : MachineState) (x : Placed) (q : Captured) (o : Option SequenceEnd) (fault : Fault)
+unput-capture : (ss : List InputPast) (before : List ℕ) (cursors : List InputView) (order : PacketOrder) (turn : ℕ) (policy : Policy) (state state' : SelectorState) (names : List (List ℕ)) (sink sink' : SinkView) (decided : ℕ) (new : JobState) (x : Placed) (q : Captured) (o : Option SequenceEnd) (fault : Fault)
     → (d : PacketsDecided ss before (mk cursors order policy state (record { names = names; target = Capture sink }) decided)) → Ahead ss cursors order d.events (Packet turn x)
-    → apply_event policy (AsCapture sink.format) (progress_of d) (Packet turn x) ≡ decide_unless (refusal_of sink.format d.packets q) (progress_of d) turn x state' q o
-    → input_spec.IsNext (inputs_at order cursors) (next.Decide turn) → new.inputs ≡ record { order = order; cursors = cursors } → (cursor : InputView) → IsInput new.inputs.cursors turn cursor → cursor.source.offset ≡ x.offset
+    → apply_event policy (AsCapture sink.format) (progress_of d) (Packet turn x) ≡ decide_unless (refusal_of sink.format d.packets q) (progress_of d) turn x (decide (progress_of d) state' (q ∷ []) o)
+    → input_spec.IsNext (inputs_at order cursors) (next.Decide turn) → new.inputs ≡ record { order = order; cursors = cursors } → (cursor : InputView) → slice_get new.inputs.cursors turn ≡ Some cursor → cursor.source.offset ≡ x.offset
     → PassesAs (judge policy state (decided + 1) x.packet).verdict q → AnswersNext d new q → WhyUnput fault sink d.packets q sink' → new.output.target ≡ Capture sink'
     → EndLeaves d (end_of_failed_write turn fault) new
 unput-capture ss before cursors order turn policy state state' names sink sink' decided new x q o WriteFailed d ahead went tells same_feed cursor among offset passes answers why is =
     stops-writing ss before cursors order policy state state' names sink sink' decided new (Packet turn x) q o d ahead
-    (went ∙ ap (λ (f : Option Fault). decide_unless f (progress_of d) turn x state' q o) why.0) answers why is
+    (went ∙ ap (λ (f : Option Fault). decide_unless f (progress_of d) turn x (decide (progress_of d) state' (q ∷ []) o)) why.0) answers why is
 unput-capture ss before cursors order turn policy state state' names sink sink' decided new x q o NoMemory d ahead went tells same_feed cursor among offset passes answers why is =
     record {
       cursor = cursor;
@@ -354,21 +356,21 @@ unput-capture ss before cursors order turn policy state state' names sink sink' 
       }));
     }
 unput-capture ss before cursors order turn policy state state' names sink sink' decided new x q o fault d ahead went tells same_feed cursor among offset passes answers why is =
-    let m : MachineState = mk cursors order policy state (record { names = names; target = Capture sink }) decided in
+    let m : JobState = mk cursors order policy state (record { names = names; target = Capture sink }) decided in
     let w : JobProgress = progress_of d in
     let stop : final_progress policy (AsCapture sink.format) (sequence_of order (wholes_of ss)) ≡ end_with w (FaultIn turn fault x.offset) =
     stops-course ss cursors order d.events (Packet turn x) policy (AsCapture sink.format) w (end_with w (FaultIn turn fault x.offset)) (FaultIn turn fault x.offset) ahead d.progress refl
-    (went ∙ ap (λ (f : Option Fault). decide_unless f w turn x state' q o) why.0) refl in
+    (went ∙ ap (λ (f : Option Fault). decide_unless f w turn x (decide w state' (q ∷ []) o)) why.0) refl in
     record {
       cursor = cursor;
       among = among;
       why = inl (rw offset (comes-broken ss before m (wholes_of ss) d new turn fault x.offset stop (ap written_to is ∙ why.1) (ap failures_to is ∙ why.2)));
     }
 
-unput-leaves : (ss : List InputPast) (before : List ℕ) (cursors : List InputView) (order : PacketOrder) (turn : ℕ) (policy : Policy) (state state' : SelectorState) (names : List (List ℕ)) (target : Target) (decided : ℕ) (new : MachineState) (x : Placed) (q : Captured) (o : Option SequenceEnd) (fault : Fault)
+unput-leaves : (ss : List InputPast) (before : List ℕ) (cursors : List InputView) (order : PacketOrder) (turn : ℕ) (policy : Policy) (state state' : SelectorState) (names : List (List ℕ)) (target : Target) (decided : ℕ) (new : JobState) (x : Placed) (q : Captured) (o : Option SequenceEnd) (fault : Fault)
     → (d : PacketsDecided ss before (mk cursors order policy state (record { names = names; target = target }) decided)) → Ahead ss cursors order d.events (Packet turn x)
-    → apply_event policy (form_to names target) (progress_of d) (Packet turn x) ≡ decide_unless (form_refuses (form_to names target) d.packets q) (progress_of d) turn x state' q o
-    → input_spec.IsNext (inputs_at order cursors) (next.Decide turn) → new.inputs ≡ record { order = order; cursors = cursors } → (cursor : InputView) → IsInput new.inputs.cursors turn cursor → cursor.source.offset ≡ x.offset
+    → apply_event policy (form_to names target) (progress_of d) (Packet turn x) ≡ decide_unless (form_refuses (form_to names target) d.packets q) (progress_of d) turn x (decide (progress_of d) state' (q ∷ []) o)
+    → input_spec.IsNext (inputs_at order cursors) (next.Decide turn) → new.inputs ≡ record { order = order; cursors = cursors } → (cursor : InputView) → slice_get new.inputs.cursors turn ≡ Some cursor → cursor.source.offset ≡ x.offset
     → PassesAs (judge policy state (decided + 1) x.packet).verdict q → AnswersNext d new q → PutsIntoOutput q target (Err fault) new.output.target
     → EndLeaves d (end_of_failed_write turn fault) new
 unput-leaves ss before cursors order turn policy state state' names (Capture sink) decided new x q o fault d ahead went tells same_feed cursor among offset passes answers puts =
@@ -380,10 +382,10 @@ unput-leaves ss before cursors order turn policy state state' names (Lines optio
     subst L (sym puts.fault)
     (stops-line ss before cursors order policy state state' names options bytes puts.after failures room decided new (Packet turn x) q o d ahead went answers puts.appends puts.is)
 
-reject-leaves : (ss : List InputPast) (before : List ℕ) (cursors : List InputView) (order : PacketOrder) (turn : ℕ) (policy : Policy) (state state' : SelectorState) (output : JobOutputView) (decided : ℕ) (new : MachineState) (x : Placed) (fault : Fault)
+reject-leaves : (ss : List InputPast) (before : List ℕ) (cursors : List InputView) (order : PacketOrder) (turn : ℕ) (policy : Policy) (state state' : SelectorState) (output : JobOutputView) (decided : ℕ) (new : JobState) (x : Placed) (fault : Fault)
     → (d : PacketsDecided ss before (mk cursors order policy state output decided)) → Ahead ss cursors order d.events (Packet turn x)
     → IsVerdict (judge policy state (decided + 1) x.packet) (Err fault) x.packet state'
-    → (cursor : InputView) → IsInput new.inputs.cursors turn cursor → cursor.source.offset ≡ x.offset → new.output ≡ output → (fault ≡ WriteFailed → ⊥)
+    → (cursor : InputView) → slice_get new.inputs.cursors turn ≡ Some cursor → cursor.source.offset ≡ x.offset → new.output ≡ output → (fault ≡ WriteFailed → ⊥)
     → EndLeaves d (end_of_failed_write turn fault) new
 reject-leaves ss before cursors order turn policy state state' output decided new x fault d ahead exact cursor among offset same device =
     let w : JobProgress = progress_of d in
@@ -470,7 +472,7 @@ never-device : (policy : Policy) (state state' : SelectorState) (number : ℕ) (
 never-device policy state state' number p fault exact is = (let P : Verdict → Type 0 = λ v. Own v in subst P exact (own-verdict policy state number p)) is
 
 -- what an answer leaves: `new` is the machine where the packet is decided, `failed` where it isn't
-abbrev pub AnswerLeaves : {ss : List InputPast} {before : List ℕ} {old : MachineState} → PacketsDecided ss before old → ℕ → Result Bool Fault → MachineState → MachineState → Type 0
+abbrev pub AnswerLeaves : {ss : List InputPast} {before : List ℕ} {old : JobState} → PacketsDecided ss before old → ℕ → Result Bool Fault → JobState → JobState → Type 0
 AnswerLeaves {ss} {before} {old} d i (Ok false) new failed = GoesOn d new
 AnswerLeaves {ss} {before} {old} d i (Ok true) new failed = CompletesOutput (wholes_of ss) d new Complete
 AnswerLeaves {ss} {before} {old} d i (Err fault) new failed = EndLeaves d (end_of_failed_write i fault) failed
@@ -520,11 +522,11 @@ answer-core us vs s before xs ys h order turn policy state state' output output'
     x : Placed
     x = record { offset = h.source.offset; packet = p }
 
-    failed : MachineState
+    failed : JobState
     failed = mk (xs ++ h ∷ ys) order policy state' output' decided
 
-    here : IsInput (xs ++ h ∷ ys) turn h
-    here = record { front = xs; back = ys; place = laws.here; splits = refl }
+    here : slice_get (xs ++ h ∷ ys) turn ≡ Some h
+    here = get-at xs ys h turn laws.here
 
     ahead : Ahead (us ++ s ∷ vs) (xs ++ h ∷ ys) order d.events (Packet turn x)
     ahead = next-true us vs s before xs ys h order turn policy state output decided p laws front at back held d
@@ -559,7 +561,7 @@ answer-core us vs s before xs ys h order turn policy state state' output output'
 
 pub answer-leaves : (ss : List InputPast) (before : List ℕ) (cursors : List InputView) (order : PacketOrder) (policy : Policy) (state : SelectorState) (output : JobOutputView) (decided i : ℕ) (r : Result Bool Fault) (h : InputView) (selector' : PolicyState) (output' : JobOutputView)
     → output'.names ≡ output.names → input_spec.IsNext (inputs_at order cursors) (next.Decide i) → IsInput cursors i h → selector'.policy ≡ policy → (state.passed ≤ decided + 1 → selector'.state.passed ≤ decided + 1) → GrowsByOne state.tally selector'.state.tally → decided ≤ most_steps
-    → (state.passed < decided + 1 → IsWithin most_steps state.tally → DecidesPacket h.source.packet (decided + 1) (sieve (record { policy = policy; state = state }) output.target) r (sieve selector' output'.target))
+    → (state.passed < decided + 1 → FitsTally state.tally → DecidesPacket h.source.packet (decided + 1) (sieve (record { policy = policy; state = state }) output.target) r (sieve selector' output'.target))
     → (d : PacketsDecided ss before (mk cursors order policy state output decided))
     → AnswerLeaves d i r (mk (slice_set cursors i (input_behind h)) order policy selector'.state output' (decided + 1)) (mk cursors order policy selector'.state output' decided)
 answer-leaves ss before cursors order policy state output decided i r other selector' output' names tells among_other asks passes grows upper_bound decides d =
@@ -578,10 +580,10 @@ answer-leaves ss before cursors order policy state output decided i r other sele
     let C : Option Captured → Type 0 = λ o. DecidesPacket o (decided + 1) (sieve (record { policy = policy; state = state }) output.target) r (sieve selector' output'.target) in
     let C' : Policy → Type 0 = λ k. DecidesPacket (Some has.packet) (decided + 1) (sieve (record { policy = policy; state = state }) output.target) r (sieve (record { policy = k; state = selector'.state }) output'.target) in
     let held : other.source.packet ≡ Some has.packet = ap (λ (v : InputView). v.source.packet) same ∙ has.held in
-    let chosen = subst C' asks (subst C held (decides within (within-more decided most_steps state.tally upper_bound d.counted))) in
+    let chosen = subst C' asks (subst C held (decides within (within-room decided state.tally upper_bound d.counted))) in
     let cursors' : slice_set cursors i (input_behind h) ≡ among.front ++ input_behind h ∷ among.back = ap (λ (l : List InputView). slice_set l i (input_behind h)) among.splits ∙ set-here among.front among.back h (input_behind h) i among.place in
-    let new : List InputView → MachineState = λ l. mk l order policy selector'.state output' (decided + 1) in
-    let failed : List InputView → MachineState = λ l. mk l order policy selector'.state output' decided in
+    let new : List InputView → JobState = λ l. mk l order policy selector'.state output' (decided + 1) in
+    let failed : List InputView → JobState = λ l. mk l order policy selector'.state output' decided in
     let passes_on : selector'.state.passed ≤ decided + 1 = passes (let l = d.passed in omega (arith, l)) in
     let core : (e : PacketsDecided (st.front ++ st.here ∷ st.back) before (mk (among.front ++ h ∷ among.back) order policy state output decided)) → AnswerLeaves e i r (new (among.front ++ input_behind h ∷ among.back)) (failed (among.front ++ h ∷ among.back)) = λ e.
     answer-core st.front st.back st.here before among.front among.back h order i policy state selector'.state output output' decided has.packet r at.laws (subst T among.splits tells) st.before st.at st.behind has.held passes_on grows e names chosen in

@@ -14,25 +14,30 @@ use Rattle.cap_octet.specs.declared.link.Link.{Link}
 use Rattle.flt_words.specs.declared.fault.ExprFault.TheVariants as expression
 use Rattle.flt_bpf.specs.declared.fault.ListingFault.TheVariants as listing_fault
 use Rattle.flt_bpf.specs.Listing.{listing}
-use Rattle.cap_filter.specs.Compilation.{CompileLeaves}
+use Rattle.cap_tools.proofs.Compilations.{CompileLeaves}
 use Rattle.cap_filter.specs.declared.refusal.Refusal.{Refusal}
 use Rattle.cap_filter.specs.declared.refusal.Refusal.TheVariants as refusal
-use Rattle.cap_filter.specs.Messages.{fault_message, refusal_message, refusal_status, write_failed_message}
-use Rattle.cap_filter.specs.Outcome.{OutputView, IsTold, Runs, output_view}
-use Rattle.cap_inputs.specs.Fresh.{FreshInput, fresh_limits, fresh_view, nothing_done}
+use Rattle.cap_packets.specs.Messages.{fault_message, refusal_message, write_failed_message}
+use Rattle.cap_filter.specs.Refusals.{refusal_status}
+use Rattle.cap_octet.specs.Views.{OutputView, output_view}
+use Rattle.cap_packets.specs.Messages.{IsTold}
+use Rattle.cap_tools.specs.Listing.{Runs}
+use Rattle.cap_octet.specs.Views.{FreshInput}
+use Rattle.cap_inputs.specs.Fresh.{fresh_limits, fresh_view, nothing_done}
 use Rattle.cap_inputs.specs.Inputs.{DeviceLimits, InputView, InputsView, InputPast, input_after, device_limits, limits_of, offset_at}
-use Rattle.cap_inputs.specs.Sequence.{InputItems, Event, Packet, InputEnd, SequenceEnd, Complete, FaultIn, PacketOrder, InTurn, ByTime, whole_input}
+use Rattle.cap_io.specs.Sequence.{InputItems, Event, Packet, InputEnd, SequenceEnd, Complete, FaultIn, PacketOrder, InTurn, ByTime, whole_input}
 use Rattle.cap_packets.specs.declared.output.Writing.{Writing}
 use Rattle.cap_packets.specs.declared.output.Writing.TheVariants as writing
-use Rattle.cap_tools.specs.Call.{Call, RunResult}
-use Rattle.cap_tools.specs.Commands.{RunsBy}
+use Rattle.cap_command.specs.Call.{Call, RunResult}
+use Rattle.cap_tools.proofs.CommandRuns.{RunsBy}
+use Rattle.cap_tools.proofs.Runs.{JobRuns}
 use Rattle.cap_tools.specs.FirstStep.{filtering, output_of, output_name}
-use Rattle.cap_tools.specs.Jobs.{JobView, JobRuns, end_status, end_message, first_job}
+use Rattle.cap_tools.specs.Jobs.{JobView, end_status, end_message, first_job}
 use Rattle.cap_tools.specs.declared.step.JobEnd.{JobEnd}
 use Rattle.cap_tools.specs.declared.step.JobEnd.TheVariants as end
 use Rattle.cap_io.specs.Source.{SourceView}
-use Rattle.cap_tools.specs.Machine.{MachineState, PacketsDecided, CompletesOutput, EndLeaves, EndsByCut, NextPacket, NextReport, NextClosing, StopsWriting, WantsMemory, asks_report, failures_by, output_form, progress_of, texts, wholes_of, work_of, written_by}
-use Rattle.cap_packets.specs.Outcome.{Form, Outcome, JobProgress, Work, IsNextEvent, apply_event, apply_verdict, closing_text, end_input, cut_at, decide_unless, first_link, form_refuses, form_takes_memory, message, outcome, packet_bytes, progress_behind, report_bytes, status, text_behind, text_of_progress}
+use Rattle.cap_tools.specs.Packets.{JobState, PacketsDecided, CompletesOutput, EndLeaves, EndsByCut, NextPacket, NextReport, NextClosing, StopsWriting, WantsMemory, asks_report, failures_by, output_form, progress_of, texts, wholes_of, work_of, written_by}
+use Rattle.cap_packets.specs.Outcome.{Form, Outcome, JobProgress, Work, IsNextEvent, apply_event, apply_verdict, closing_text, end_input, cut_at, decide, decide_unless, first_link, form_refuses, form_takes_memory, message, outcome, packet_bytes, progress_behind, report_bytes, status, text_behind, text_of_progress}
 use Rattle.cap_packets.specs.Output.{failures_to, form_to, target_at, written_to}
 use Rattle.cap_packets.specs.Reports.{name_at}
 use Rattle.cap_tools.specs.Run.{CommandRuns, HasCutInput, HasLackedMemory, HasLeft, HasLostOutput, IsNextAnswer, IsPolicy, IsWhyRefused, IsWork, by_end, by_event, ends, form_asked, input_cut, listing_answer, listing_outcome, next_judgement, no_memory, of_listing, of_packets, of_refusal, output_failed, packets_answer, refusal_outcome, whole_inputs}
@@ -50,10 +55,10 @@ use Rattle.cap_packets.proofs.Outputs.{drained-text}
 
 -- what the first view of a job has of its call
 record Begins (asked : Assignment) (call : Call) (first : JobView) : Type 0 where
-  pub work : IsWork asked call (work_of first.machine)
-  pub names : first.machine.output.names ≡ call.names
-  pub failures : failures_by first.machine ≡ call.output.failures
-  pub limits : device_limits first.machine.inputs.cursors ≡ map fresh_limits call.inputs
+  pub work : IsWork asked call (work_of first.state)
+  pub names : first.state.output.names ≡ call.names
+  pub failures : failures_by first.state ≡ call.output.failures
+  pub limits : device_limits first.state.inputs.cursors ≡ map fresh_limits call.inputs
   pub err : first.err ≡ call.messages
 
 first-form : (names : List (List ℕ)) (w : Writing) (bytes : List ℕ) (failures room : ℕ) → form_to names (target_at w bytes failures room) ≡ form_asked names w
@@ -109,10 +114,6 @@ never-zero (refusal.Program fault at) zero = (cc)
 
 -- ---- one of the inputs
 
-get-at : {A : Type 0} (xs ys : List A) (x : A) (i : ℕ) → length xs ≡ i → slice_get (xs ++ x ∷ ys) i ≡ Some x
-get-at [] ys x i is = rw (← is) refl
-get-at (y ∷ xs) ys x i is = rw (← is) (get-at xs ys x (length xs) refl)
-
 -- what a map has at a place comes of what is there
 record From {A B : Type 0} (f : A → B) (o : Option A) (b : B) : Type 0 where
   pub from : A
@@ -148,9 +149,9 @@ fails-short input old new text done rest declared limits same failed =
 passes-adds : (form : Form) (w : JobProgress) (i : ℕ) (x : Placed) (v : Verdict) (state : SelectorState) (q : Captured) → PassesAs v q → form_refuses form w.packets q ≡ None
     → text_of_progress form (apply_verdict form w i x v state) ≡ text_of_progress form w ++ packet_bytes form w.packets q
 passes-adds form w i x (Pass p) state q is taken =
-    rw is (ap (λ (o : Option Fault). text_of_progress form (decide_unless o w i x state q None)) taken ∙ packet-more form w.packets q w.reports)
+    rw is (ap (λ (o : Option Fault). text_of_progress form (decide_unless o w i x (decide w state (q ∷ []) None))) taken ∙ packet-more form w.packets q w.reports)
 passes-adds form w i x (PassLast p) state q is taken =
-    rw is (ap (λ (o : Option Fault). text_of_progress form (decide_unless o w i x state q (Some Complete))) taken ∙ packet-more form w.packets q w.reports)
+    rw is (ap (λ (o : Option Fault). text_of_progress form (decide_unless o w i x (decide w state (q ∷ []) (Some Complete)))) taken ∙ packet-more form w.packets q w.reports)
 passes-adds form w i x Skip state q is taken = absurd is
 passes-adds form w i x (Refuse fault) state q is taken = absurd is
 
@@ -163,7 +164,7 @@ report-adds InTurn (Edit s) form w i kind size asks = (cc)
 report-adds InTurn (Filter rule count) form w i kind size asks = (cc)
 report-adds InTurn KeepAll form w i kind size asks = (cc)
 
-next-answer : (ss : List InputPast) (before : List ℕ) (old new : MachineState) (bytes : List ℕ) (d : PacketsDecided ss before old) → NextPacket d new bytes ⊎ NextReport d new bytes ⊎ NextClosing d new bytes
+next-answer : (ss : List InputPast) (before : List ℕ) (old new : JobState) (bytes : List ℕ) (d : PacketsDecided ss before old) → NextPacket d new bytes ⊎ NextReport d new bytes ⊎ NextClosing d new bytes
     → IsNextAnswer (work_of old) (wholes_of ss) (text_behind (work_of old) d.events) bytes
 next-answer ss before old new bytes d next =
     elim next [
@@ -198,7 +199,7 @@ next-answer ss before old new bytes d next =
     joins {added} is = ap (λ (l : List ℕ). text_of_progress form w ++ l) is ∙ ap (λ (v : JobProgress). text_of_progress form v ++ bytes) (sym d.progress)
 
 -- the inputs are as many as before
-same-count : (ss : List InputPast) (before : List ℕ) (old new : MachineState) (bytes : List ℕ) (d : PacketsDecided ss before old) → NextPacket d new bytes ⊎ NextReport d new bytes ⊎ NextClosing d new bytes
+same-count : (ss : List InputPast) (before : List ℕ) (old new : JobState) (bytes : List ℕ) (d : PacketsDecided ss before old) → NextPacket d new bytes ⊎ NextReport d new bytes ⊎ NextClosing d new bytes
     → length new.inputs.cursors ≡ length old.inputs.cursors
 same-count ss before old new bytes d next =
     elim next [
@@ -221,17 +222,17 @@ packets-run asked call first r b runs = by_end runs.end refl runs.leaves
     before : List ℕ
     before = call.output.written
 
-    old : MachineState
-    old = runs.old.machine
+    old : JobState
+    old = runs.old.state
 
     d : PacketsDecided runs.progress.past before old
     d = runs.progress.decided.packets
 
     w : Work
-    w = work_of first.machine
+    w = work_of first.state
 
     names : List (List ℕ)
-    names = first.machine.output.names
+    names = first.state.output.names
 
     work-is : work_of old ≡ w
     work-is = same-work ss before first runs.old runs.progress
@@ -285,11 +286,11 @@ packets-run asked call first r b runs = by_end runs.end refl runs.leaves
         let text_of : From (λ (o : FreshInput). o.text) (slice_get call.inputs input) cut.past.text =
         at-place (λ (o : FreshInput). o.text) call.inputs (texts runs.progress.past) input cut.past.text (runs.progress.texts ∙ first-texts call.inputs)
         (slice_get-map (λ (s : InputPast). s.text) runs.progress.past input
-        ∙ ap (option_map (λ (s : InputPast). s.text)) (ap (λ (l : List InputPast). slice_get l input) cut.among ∙ get-at cut.front cut.back cut.past input cut.place)) in
+        ∙ ap (option_map (λ (s : InputPast). s.text)) cut.among) in
         let limits : From fresh_limits (slice_get call.inputs input) (limits_of cut.cursor.source) =
         at-place fresh_limits call.inputs (device_limits old.inputs.cursors) input (limits_of cut.cursor.source) (runs.progress.limits ∙ b.limits)
         (slice_get-map (λ (h : InputView). limits_of h.source) old.inputs.cursors input
-        ∙ ap (option_map (λ (h : InputView). limits_of h.source)) (ap (λ (l : List InputView). slice_get l input) cut.cursor_is.splits ∙ get-at cut.cursor_is.front cut.cursor_is.back cut.cursor input cut.cursor_is.place)) in
+        ∙ ap (option_map (λ (h : InputView). limits_of h.source)) cut.cursor_is) in
         let same : text_of.from ≡ limits.from = (let e = sym text_of.is ∙ limits.is in cc) in
         let known : fresh_limits text_of.from ≡ limits_of cut.cursor.source = ap fresh_limits same ∙ limits.same in
         record {

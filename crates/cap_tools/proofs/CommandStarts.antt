@@ -3,35 +3,39 @@ use Rattle.std.proofs.Common.{◌≡◌, inl, inr, ℕ, ◌+◌, ◌≤◌, Bool
 use Rattle.std.proofs.lemmas.List.{append-nil}
 use Rattle.cap_octet.specs.declared.device.Stopped.{Stopped}
 use Rattle.flt_bpf.specs.Listing.{listing}
-use Rattle.cap_filter.specs.Messages.{write_failed_message}
+use Rattle.cap_packets.specs.Messages.{write_failed_message}
 use Rattle.cap_packets.specs.Output.{Target, Capture, Text, Lines, ListsText, output_at, target_at, written_to, failures_to}
 use Rattle.cap_packets.specs.Reports.{name_at, nothing_counted}
-use Rattle.cap_tools.specs.Machine.{MachineState, written_by}
+use Rattle.cap_tools.specs.Packets.{JobState, written_by}
 use Rattle.cap_tools.specs.Messages.{MessagesView}
 use Rattle.std.proofs.lemmas.Bool.{and_parts, eqb-true, leb-true}
 use Rattle.cap_command.specs.Command.{is_proper, is_proper_edit, is_proper_print, most_inputs}
 use Rattle.cap_command.specs.declared.command.Command.{Command}
 use Rattle.cap_command.specs.declared.command.Command.TheVariants as command
-use Rattle.cap_filter.specs.Compilation.{IsCompiled, ListingLeaves}
-use Rattle.cap_filter.specs.Outcome.{OutputView, IsTold, Runs}
+use Rattle.cap_filter.specs.Compilation.{IsCompiled}
+use Rattle.cap_tools.specs.Listing.{ListingLeaves}
+use Rattle.cap_octet.specs.Views.{OutputView}
+use Rattle.cap_packets.specs.Messages.{IsTold}
+use Rattle.cap_tools.specs.Listing.{Runs}
 use Rattle.flt_bpf.specs.declared.insn.Insn.{Insn}
 use Rattle.cap_octet.specs.declared.link.Link.{Link}
 use Rattle.cap_tools.specs.declared.job.Turn.{Turn}
 use Rattle.cap_tools.specs.declared.job.Turn.TheVariants as turn
 use Rattle.cap_packets.specs.declared.output.Writing.TheVariants as writing
-use Rattle.cap_inputs.specs.Sequence.{InTurn}
+use Rattle.cap_io.specs.Sequence.{InTurn}
 use Rattle.cap_packets.specs.Verdict.{Count, KeepAll}
-use Rattle.cap_tools.specs.Call.{Call, RunResult}
-use Rattle.cap_tools.specs.Jobs.{JobView, first_job, machine_at, end_message}
+use Rattle.cap_command.specs.Call.{Call, RunResult}
+use Rattle.cap_tools.specs.Jobs.{JobView, first_job, state_at, end_message}
 use Rattle.cap_inputs.specs.Fresh.{fresh_inputs, nothing_done}
-use Rattle.cap_inputs.specs.Sequence.{order_of}
+use Rattle.cap_io.specs.Sequence.{order_of}
 use Rattle.cap_tools.specs.declared.step.JobEnd.TheVariants as end
 use Rattle.cap_inputs.specs.Inputs.{InputsView, steps_left}
 use Rattle.cap_tools.specs.FirstStep.{EndsList, is_text, output_by}
 use Rattle.cap_tools.specs.Step.{ending}
 use Rattle.cap_tools.specs.Start.{Assignment, FilterAsked, Preparing, assignment}
 use Rattle.cap_packets.specs.Selector.{SelectorView, state_with}
-use Rattle.cap_tools.specs.Commands.{IsReadyIf, CompileGives, DecidedBy, FilterGives, KeepsFirst, PreparesOnly, RunsBy, RunsCommand, StepKeeps, preparing_left}
+use Rattle.cap_tools.specs.Commands.{IsReadyIf, CompileGives, DecidedBy, FilterGives, KeepsFirst, PreparesOnly, StepKeeps, preparing_left}
+use Rattle.cap_tools.proofs.CommandRuns.{RunsBy, RunsCommand}
 use Rattle.cap_tools.proofs.Programs.{new-for}
 use Rattle.cap_tools.proofs.Starts.{nothing-decided, first-few, first-less}
 
@@ -41,7 +45,7 @@ lists-some tells words link prog old new (turn.Done status) compiled lists = inl
 
 -- the job from which is taken what it prepares
 abbrev pub preparing_else : Option Preparing → JobView → JobView
-preparing_else p j = record { preparing = p; machine = j.machine; programs = j.programs; err = j.err; turns = j.turns; done = j.done }
+preparing_else p j = record { preparing = p; state = j.state; programs = j.programs; err = j.err; turns = j.turns; done = j.done }
 
 pub compile-gives : (words : List ℕ) (link : Link) (tells : Bool) (p : Option Preparing) (old : JobView) (r : Turn) (new : JobView) → CompileGives words link tells (preparing_else p old) r new → CompileGives words link tells old r new
 compile-gives words link tells p old turn.More new gives = gives
@@ -67,7 +71,7 @@ first-keeps p q old r new some keeps = record {
   sound = keeps.sound;
   left = λ more.
       let after = ap₂ (λ (o : Option Preparing) (f : InputsView). preparing_left o + steps_left f) keeps.prepared keeps.inputs in
-      let before = ap (λ (o : Option Preparing). preparing_left o + steps_left old.machine.inputs) some in
+      let before = ap (λ (o : Option Preparing). preparing_left o + steps_left old.state.inputs) some in
       omega (arith, after, before);
   names = keeps.names;
   quiet = keeps.quiet;
@@ -92,7 +96,7 @@ pub first-made : {Z : Type 0} (c : Command Z) (call : Call) (a : Assignment) (in
     → messages ≡ record { names = call.names; device = call.messages } → target ≡ target_at a.writing call.output.written call.output.failures call.room
     → record {
       preparing = a.preparing;
-      machine = machine_at inputs selector (output_at messages.names target) 0;
+      state = state_at inputs selector (output_at messages.names target) 0;
       programs = selector.programs;
       err = messages.device;
       turns = 0;
@@ -130,11 +134,11 @@ command-begun c call job r is runs =
 
 -- ---- a listing is written
 
-abbrev ListsInto : List Insn → Bool → MachineState → OutputView → ℕ → MachineState → OutputView → Type 0
+abbrev ListsInto : List Insn → Bool → JobState → OutputView → ℕ → JobState → OutputView → Type 0
 ListsInto insns tells old err status new err' =
     Runs (ListingLeaves insns (name_at old.output.names (length old.inputs.cursors)) (output_by old) (output_by new) status) tells err err'
 
-pub lists-ok : (insns : List Insn) (tells : Bool) (old new : MachineState) (err : OutputView) → is_text old.output.target ≡ true → ListsText (listing insns) old.output.target (Ok tt) new.output.target → ListsInto insns tells old err 0 new err
+pub lists-ok : (insns : List Insn) (tells : Bool) (old new : JobState) (err : OutputView) → is_text old.output.target ≡ true → ListsText (listing insns) old.output.target (Ok tt) new.output.target → ListsInto insns tells old err 0 new err
 lists-ok insns tells old new err text lists = by_target old.output.target refl text lists
   where
     by_target : (t : Target) → old.output.target ≡ t → is_text t ≡ true → ListsText (listing insns) t (Ok tt) new.output.target → ListsInto insns tells old err 0 new err
@@ -150,7 +154,7 @@ lists-ok insns tells old new err text lists = by_target old.output.target refl t
           exact = record { answer = Ok tt; exact = λ te. sym (append-nil err.written); counted = sym (add-zero err.failures) };
         }
 
-pub lists-err : (insns : List Insn) (tells : Bool) (old new : MachineState) (stopped : Stopped) (err err' : OutputView) → is_text old.output.target ≡ true → ListsText (listing insns) old.output.target (Err stopped) new.output.target
+pub lists-err : (insns : List Insn) (tells : Bool) (old new : JobState) (stopped : Stopped) (err err' : OutputView) → is_text old.output.target ≡ true → ListsText (listing insns) old.output.target (Err stopped) new.output.target
     → IsTold tells err (write_failed_message (name_at old.output.names (length old.inputs.cursors))) err' → ListsInto insns tells old err 1 new err'
 lists-err insns tells old new stopped err err' text lists exact = by_target old.output.target refl text lists
   where
@@ -174,18 +178,18 @@ lists-err insns tells old new stopped err err' text lists exact = by_target old.
           quiet = λ none. (cc);
         }
 
-pub listed-ok : (insns : List Insn) (tells : Bool) (old mid new : JobView) → is_text old.machine.output.target ≡ true → ListsText (listing insns) old.machine.output.target (Ok tt) mid.machine.output.target → mid.err ≡ old.err
+pub listed-ok : (insns : List Insn) (tells : Bool) (old mid new : JobView) → is_text old.state.output.target ≡ true → ListsText (listing insns) old.state.output.target (Ok tt) mid.state.output.target → mid.err ≡ old.err
     → new ≡ ending end.Complete new.err mid → new.err ≡ mid.err → EndsList insns tells old (turn.Done 0) new
 listed-ok insns tells old mid new text lists same is quiet =
-    let M : MachineState → Type 0 = λ m. ListsInto insns tells old.machine old.err 0 m old.err in
-    let E : OutputView → Type 0 = λ v. ListsInto insns tells old.machine old.err 0 new.machine v in
-    record { runs = subst E (sym (quiet ∙ same)) (subst M (sym (ap (λ (j : JobView). j.machine) is)) (lists-ok insns tells old.machine mid.machine old.err text lists)) }
+    let M : JobState → Type 0 = λ m. ListsInto insns tells old.state old.err 0 m old.err in
+    let E : OutputView → Type 0 = λ v. ListsInto insns tells old.state old.err 0 new.state v in
+    record { runs = subst E (sym (quiet ∙ same)) (subst M (sym (ap (λ (j : JobView). j.state) is)) (lists-ok insns tells old.state mid.state old.err text lists)) }
 
-pub listed-err : (insns : List Insn) (tells : Bool) (old mid new : JobView) (stopped : Stopped) → is_text old.machine.output.target ≡ true → ListsText (listing insns) old.machine.output.target (Err stopped) mid.machine.output.target → mid.machine.output.names ≡ old.machine.output.names → mid.err ≡ old.err → mid.machine.inputs ≡ old.machine.inputs
-    → new ≡ ending end.OutputFailed new.err mid → IsTold tells mid.err (end_message mid.machine.output.names mid.machine.inputs.cursors end.OutputFailed) new.err → EndsList insns tells old (turn.Done 1) new
+pub listed-err : (insns : List Insn) (tells : Bool) (old mid new : JobView) (stopped : Stopped) → is_text old.state.output.target ≡ true → ListsText (listing insns) old.state.output.target (Err stopped) mid.state.output.target → mid.state.output.names ≡ old.state.output.names → mid.err ≡ old.err → mid.state.inputs ≡ old.state.inputs
+    → new ≡ ending end.OutputFailed new.err mid → IsTold tells mid.err (end_message mid.state.output.names mid.state.inputs.cursors end.OutputFailed) new.err → EndsList insns tells old (turn.Done 1) new
 listed-err insns tells old mid new stopped text lists names same inputs is exact =
-    let M : MachineState → Type 0 = λ m. ListsInto insns tells old.machine old.err 1 m new.err in
-    let N : List (List ℕ) → Type 0 = λ l. IsTold tells mid.err (write_failed_message (name_at l (length mid.machine.inputs.cursors))) new.err in
-    let C : InputsView → Type 0 = λ f. IsTold tells mid.err (write_failed_message (name_at old.machine.output.names (length f.cursors))) new.err in
-    let F : OutputView → Type 0 = λ v. IsTold tells v (write_failed_message (name_at old.machine.output.names (length old.machine.inputs.cursors))) new.err in
-    record { runs = subst M (sym (ap (λ (j : JobView). j.machine) is)) (lists-err insns tells old.machine mid.machine stopped old.err new.err text lists (subst F same (subst C inputs (subst N names exact)))) }
+    let M : JobState → Type 0 = λ m. ListsInto insns tells old.state old.err 1 m new.err in
+    let N : List (List ℕ) → Type 0 = λ l. IsTold tells mid.err (write_failed_message (name_at l (length mid.state.inputs.cursors))) new.err in
+    let C : InputsView → Type 0 = λ f. IsTold tells mid.err (write_failed_message (name_at old.state.output.names (length f.cursors))) new.err in
+    let F : OutputView → Type 0 = λ v. IsTold tells v (write_failed_message (name_at old.state.output.names (length old.state.inputs.cursors))) new.err in
+    record { runs = subst M (sym (ap (λ (j : JobView). j.state) is)) (lists-err insns tells old.state mid.state stopped old.err new.err text lists (subst F same (subst C inputs (subst N names exact)))) }

@@ -1,29 +1,27 @@
 -- How a job ends, in the words of its outcome.
 use Rattle.std.proofs.Common.{◌≡◌, ℕ, List, [], ◌∷◌, ◌++◌, length, Some, Bool, IsTrue, refl, sym, ◌∙◌, ap, subst}
 use Rattle.std.specs.List.{slice_get}
-use Rattle.cap_filter.specs.Outcome.{OutputView, IsTold}
+use Rattle.cap_octet.specs.Views.{OutputView}
+use Rattle.cap_packets.specs.Messages.{IsTold}
 use Rattle.cap_tools.specs.declared.step.JobEnd.{JobEnd}
 use Rattle.cap_tools.specs.declared.step.JobEnd.TheVariants as end
-use Rattle.cap_inputs.specs.Sequence.{PacketOrder}
+use Rattle.cap_io.specs.Sequence.{PacketOrder}
 use Rattle.cap_packets.specs.Verdict.{Policy}
 use Rattle.cap_packets.specs.Outcome.{Form}
-use Rattle.cap_inputs.specs.Inputs.{InputView, InputPast, IsInput}
-use Rattle.cap_tools.specs.Machine.{MachineState, StepGives, output_form, work_of}
-use Rattle.cap_tools.specs.Jobs.{IsUnderWay, JobView, EndsJob, end_message, end_status}
+use Rattle.cap_inputs.specs.Inputs.{InputView, InputPast}
+use Rattle.cap_tools.specs.Packets.{JobState, StepGives, output_form, work_of}
+use Rattle.cap_tools.specs.Jobs.{JobView, EndsJob, end_message, end_status}
 use Rattle.cap_inputs.specs.Inputs.{offset_at, offset_of}
 use Rattle.cap_tools.specs.Step.{IsStep, ending}
+use Rattle.cap_tools.proofs.Runs.{IsUnderWay}
 
-get-here : (xs ys : List InputView) (h : InputView) (i : ℕ) → length xs ≡ i → slice_get (xs ++ h ∷ ys) i ≡ Some h
-get-here [] ys h i is = rw (← is) refl
-get-here (x ∷ xs) ys h i is = rw (← is) (get-here xs ys h (length xs) refl)
+pub offset-here : (cursors : List InputView) (i : ℕ) (h : InputView) → slice_get cursors i ≡ Some h → offset_at cursors i ≡ h.source.offset
+offset-here cursors i h is = ap offset_of is
 
-pub offset-here : (cursors : List InputView) (i : ℕ) (h : InputView) → IsInput cursors i h → offset_at cursors i ≡ h.source.offset
-offset-here cursors i h a = ap (λ (l : List InputView). offset_at l i) a.splits ∙ ap offset_of (get-here a.front a.back h i a.place)
-
-pub same-work : (ss : List InputPast) (before : List ℕ) (first old : JobView) → IsUnderWay ss before first old → work_of old.machine ≡ work_of first.machine
+pub same-work : (ss : List InputPast) (before : List ℕ) (first old : JobView) → IsUnderWay ss before first old → work_of old.state ≡ work_of first.state
 same-work ss before first old progress =
-    let m = old.machine in
-    let o = first.machine in
+    let m = old.state in
+    let o = first.state in
     ap (λ (order : PacketOrder). record { order = order; policy = m.policy; form = output_form m }) progress.order
     ∙ ap (λ (a : Policy). record { order = o.inputs.order; policy = a; form = output_form m }) progress.policy
     ∙ ap (λ (f : Form). record { order = o.inputs.order; policy = o.policy; form = f }) progress.form
@@ -35,13 +33,13 @@ clean-status end.OutputFailed is = (cc)
 
 -- a step that ended the job, and its report
 pub step-ends : (inputs_tell output_tells tells : Bool) (old mid new : JobView) (e : JobEnd) → IsTrue inputs_tell → IsTrue output_tells → IsStep inputs_tell output_tells old (Some e) mid → new ≡ ending e new.err mid
-    → IsTold tells mid.err (end_message mid.machine.output.names mid.machine.inputs.cursors e) new.err → (e ≡ end.Complete → new.err ≡ mid.err) → EndsJob tells old (end_status e) new
+    → IsTold tells mid.err (end_message mid.state.output.names mid.state.inputs.cursors e) new.err → (e ≡ end.Complete → new.err ≡ mid.err) → EndsJob tells old (end_status e) new
 step-ends inputs_tell output_tells tells old mid new e ti to step is exact quiet =
-    let M : MachineState → Type 0 = λ m. StepGives old.machine (Some e) m in
-    let N : List (List ℕ) → Type 0 = λ l. IsTold tells mid.err (end_message l mid.machine.inputs.cursors e) new.err in
-    let C : MachineState → Type 0 = λ m. IsTold tells mid.err (end_message old.machine.output.names m.inputs.cursors e) new.err in
-    let F : OutputView → Type 0 = λ v. IsTold tells v (end_message old.machine.output.names new.machine.inputs.cursors e) new.err in
-    let same : new.machine ≡ mid.machine = ap (λ (j : JobView). j.machine) is in
+    let M : JobState → Type 0 = λ m. StepGives old.state (Some e) m in
+    let N : List (List ℕ) → Type 0 = λ l. IsTold tells mid.err (end_message l mid.state.inputs.cursors e) new.err in
+    let C : JobState → Type 0 = λ m. IsTold tells mid.err (end_message old.state.output.names m.inputs.cursors e) new.err in
+    let F : OutputView → Type 0 = λ v. IsTold tells v (end_message old.state.output.names new.state.inputs.cursors e) new.err in
+    let same : new.state ≡ mid.state = ap (λ (j : JobView). j.state) is in
     record {
       end = e;
       leaves = subst M (sym same) (step.exact ti to);

@@ -1,7 +1,7 @@
 -- The steps that read an input on.
 use Rattle.std.proofs.Common.{◌≡◌, inl, inr, ℕ, suc, ◌+◌, ◌<◌, ◌≤◌, Bool, true, false, List, [], ◌∷◌, ◌++◌, length, map, get_or, Option, None, Some, Result, Ok, Err, refl, sym, ◌∙◌, ap, arith, subst}
 use Rattle.std.proofs.lemmas.List.{append_assoc, append-nil}
-use Rattle.std.specs.List.{slice_set}
+use Rattle.std.specs.List.{slice_get, slice_set}
 use Rattle.cap_octet.specs.Device.{HasGiven, Stops}
 use Rattle.cap_octet.specs.declared.device.DeviceFault.{DeviceFault}
 use Rattle.cap_octet.specs.declared.fault.Fault.{Fault}
@@ -14,7 +14,7 @@ use Rattle.cap_io.proofs.Standing.{IsAt-found, IsAt-closed, IsAt-fault}
 use Rattle.cap_inputs.specs.declared.inputs.Next.TheVariants as next
 use Rattle.cap_tools.specs.declared.step.JobEnd.{JobEnd}
 use Rattle.cap_packets.specs.Reports.{Report, Tally}
-use Rattle.cap_inputs.specs.Sequence.{InputItems, Event, FaultIn, PacketOrder, InTurn, ByTime, Sequence, sequence_of, with_front, whole_input}
+use Rattle.cap_io.specs.Sequence.{InputItems, Event, FaultIn, PacketOrder, InTurn, ByTime, Sequence, sequence_of, with_front, whole_input}
 use Rattle.cap_packets.specs.Verdict.{Policy, Edit, Filter, KeepAll, Count, SelectorState}
 use Rattle.cap_packets.specs.Selector as selecting
 use Rattle.cap_packets.specs.Selector.{PolicyState, IsWithin, with_empty_tally, is_count}
@@ -22,7 +22,8 @@ use Rattle.cap_packets.specs.Outcome.{Form, AsReports, JobProgress, cut_at, no_p
 use Rattle.cap_packets.specs.Output.{JobOutputView, Target, Capture, Text, Lines, HasWritten, Reports, form_at, written_to, failures_to}
 use Rattle.cap_inputs.specs.Inputs.{InputView, InputsView, Future, InputPast, AreInputsBehind, AreSettled, IsInput, ReadsInput, IsNext, waiting_packets, input_after, actual_future, input_items, inputs_with, inputs_left, limits_of, sequence_left, is_in_turn}
 use Rattle.cap_packets.specs.Reports.{report_text, reports_text}
-use Rattle.cap_tools.specs.Machine.{MachineState, AppendsOnce, PacketsDecided, GoesOn, CompletesOutput, BreaksAt, WhyBroken, StopsWriting, StepLeaves, Closes, ClosesBy, asks_report, report_at, unless_failed, progress_at, progress_of, progress_over, output_form, failures_by, written_by, wholes_of, sieve}
+use Rattle.cap_tools.specs.Packets.{JobState, AppendsOnce, PacketsDecided, GoesOn, CompletesOutput, BreaksAt, WhyBroken, StopsWriting, StepLeaves, Closes, ClosesBy, asks_report, report_at, unless_failed, progress_at, progress_of, progress_over, output_form, failures_by, written_by, wholes_of, sieve}
+use Rattle.cap_tools.proofs.Places.{get-at}
 use Rattle.cap_tools.proofs.Splits.{At, Fit, stands-split, stands-join, stands-length, fits-join, wholes-join, rests-join, finish-here, come-on}
 use Rattle.cap_tools.proofs.Coming.{carries-found, carries-closed, come-first, true-wholes, true-fits, finds}
 use Rattle.cap_packets.proofs.Outputs.{drained-text, ReportOk, report-ok, reports-more}
@@ -35,7 +36,7 @@ use Rattle.cap_inputs.proofs.Cursors.{greatest-here, greatest-same, limits-at, l
 abbrev pub inputs_at : PacketOrder → List InputView → InputsView
 inputs_at order cursors = record { order = order; cursors = cursors }
 
-abbrev pub mk : List InputView → PacketOrder → Policy → SelectorState → JobOutputView → ℕ → MachineState
+abbrev pub mk : List InputView → PacketOrder → Policy → SelectorState → JobOutputView → ℕ → JobState
 mk cursors order policy state output decided = record { inputs = inputs_at order cursors; policy = policy; state = state; output = output; decided = decided }
 
 at-here : (xs ys : List InputView) (v d : InputView) (n : ℕ) → length xs ≡ n → get_or (xs ++ v ∷ ys) n d ≡ v
@@ -58,7 +59,7 @@ found-goes us vs s before xs ys h s' order turn policy state output decided laws
     let waits : h.waiting ≡ false = laws.waits in
     let found : FindsPacket h.source s' = finds s h s' (Ok true) at waits advances in
     let P : Bool → Type 0 = λ b. IsAt s.text s.done s.packets b h.source in
-    let new : MachineState = mk (xs ++ input_after h (Ok true) s' ∷ ys) order policy state output decided in
+    let new : JobState = mk (xs ++ input_after h (Ok true) s' ∷ ys) order policy state output decided in
     let same : s.packets ++ [] ≡ s.packets = append-nil s.packets in
     let here : At (record { text = s.text; done = s.done ++ found.passes.passed; packets = s.packets ++ [] }) (input_after h (Ok true) s') =
     rw same (IsAt-found s.text s.done s.packets h.source s' (subst P waits at) found) in
@@ -181,7 +182,7 @@ wholes_of-length [] = refl
 wholes_of-length (u ∷ us) = ap suc (wholes_of-length us)
 
 -- what the output has where the job ends by a fault behind what is decided
-pub comes-broken : (ss : List InputPast) (before : List ℕ) (m : MachineState) (rs : List InputItems) (d : PacketsDecided ss before m) (new : MachineState) (input : ℕ) (fault : Fault) (offset : ℕ)
+pub comes-broken : (ss : List InputPast) (before : List ℕ) (m : JobState) (rs : List InputItems) (d : PacketsDecided ss before m) (new : JobState) (input : ℕ) (fault : Fault) (offset : ℕ)
     → progress_over m rs ≡ end_with (progress_of d) (FaultIn input fault offset) → written_by new ≡ written_by m → failures_by new ≡ failures_by m
     → CompletesOutput rs d new (FaultIn input fault offset)
 comes-broken ss before m rs d new input fault offset is same device = record {
@@ -227,13 +228,10 @@ broken-ends us vs s before xs ys h s' fault order turn policy state output decid
           ∙ cut-course)
           refl refl)
       | inr cut ↦ inr (inl (record {
-        front = us;
         past = s;
-        back = vs;
-        place = stands-length us xs front ∙ laws.here;
-        among = refl;
+        among = get-at us vs s turn (stands-length us xs front ∙ laws.here);
         cursor = h;
-        cursor_is = record { front = xs; back = ys; place = laws.here; splits = refl };
+        cursor_is = get-at xs ys h turn laws.here;
         next = tells;
         advances = advances;
         held = record { packets = s.packets; declared = s'.declared; ending = FaultAt fault s'.offset };
@@ -251,10 +249,10 @@ broken-ends us vs s before xs ys h s' fault order turn policy state output decid
       }))
     ]
   where
-    m : MachineState
+    m : JobState
     m = mk (xs ++ h ∷ ys) order policy state output decided
 
-    new : MachineState
+    new : JobState
     new = mk (xs ++ input_after h (Err fault) s' ∷ ys) order policy state output decided
 
     -- the future in which the input ends so
@@ -391,7 +389,7 @@ closed-core us vs s before xs ys h s' order turn policy state output decided r s
 closed-core us vs s before xs ys h s' order turn policy state output decided r selector' output' laws tells front at back advances steps d true asks by =
     rw (by.is, by.selector_is) (by_answer by.answer by.names by.reports)
   where
-    old : MachineState
+    old : JobState
     old = mk (xs ++ h ∷ ys) order policy state output decided
 
     report : Report
@@ -409,7 +407,7 @@ closed-core us vs s before xs ys h s' order turn policy state output decided r s
 
 -- ---- all of them
 
-abbrev pub FetchLeaves : {ss : List InputPast} {before : List ℕ} {old : MachineState} → PacketsDecided ss before old → ℕ → Result Bool Fault → Option JobEnd → MachineState → Type 0
+abbrev pub FetchLeaves : {ss : List InputPast} {before : List ℕ} {old : JobState} → PacketsDecided ss before old → ℕ → Result Bool Fault → Option JobEnd → JobState → Type 0
 FetchLeaves {ss} {before} {old} d i (Ok true) r new = GoesOn d new
 FetchLeaves {ss} {before} {old} d i (Ok false) r new = StepLeaves d r new
 FetchLeaves {ss} {before} {old} d i (Err fault) r new = BreaksAt d new i fault
@@ -429,14 +427,14 @@ read_input-core us vs s before xs ys h s' (Ok true) order turn policy state outp
     rw (follows.0, follows.1) (found-goes us vs s before xs ys h s' order turn policy state output decided laws front at back advances (limits-kept h.source s' true steps advances) d)
 read_input-core us vs s before xs ys h s' (Ok false) order turn policy state output decided r selector' output' laws tells front at back advances steps d follows =
     let h' : InputView = input_after h (Ok false) s' in
-    let same : follows.cursor ≡ h' = among-same (xs ++ h' ∷ ys) turn follows.cursor h' follows.among (record { front = xs; back = ys; place = laws.here; splits = refl }) in
+    let same : follows.cursor ≡ h' = (let e = sym follows.among ∙ get-at xs ys h' turn laws.here in cc) in
     let P : InputView → Type 0 = λ v. ClosesBy (asks_report order policy) turn v (sieve (record { policy = policy; state = state }) output) r (sieve selector' output') in
     let Q : PacketOrder → Type 0 = λ o. ClosesBy (asks_report o policy) turn h' (sieve (record { policy = policy; state = state }) output) r (sieve selector' output') in
     closed-core us vs s before xs ys h s' order turn policy state output decided r selector' output' laws tells front at back advances steps d (asks_report order policy) refl
     (subst P same follows.by)
 read_input-core us vs s before xs ys h s' (Err fault) order turn policy state output decided r selector' output' laws tells front at back advances steps d follows = rw (follows.0, follows.1) (record {
   cursor = input_after h (Err fault) s';
-  among = record { front = xs; back = ys; place = laws.here; splits = refl };
+  among = get-at xs ys (input_after h (Err fault) s') turn laws.here;
   why = broken-ends us vs s before xs ys h s' fault order turn policy state output decided laws tells front at back advances steps d;
 })
 
@@ -463,7 +461,7 @@ read_input-leaves ss before cursors order policy state output decided i a inputs
     let T : List InputView → Type 0 = λ l. IsNext (inputs_at order l) (next.Read i) in
     let d' = subst D m.splits d in
     let st = stands-split ss m.front m.back h d'.behind in
-    let new : MachineState = mk (m.front ++ h' ∷ m.back) order policy selector'.state output' decided in
+    let new : JobState = mk (m.front ++ h' ∷ m.back) order policy selector'.state output' decided in
     let core : (e : PacketsDecided (st.front ++ st.here ∷ st.back) before (mk (m.front ++ h ∷ m.back) order policy state output decided)) → FetchLeaves e i a r new = λ e.
     read_input-core st.front st.back st.here before m.front m.back h fetches.source a order i policy state output decided r selector' output' at.laws (subst T m.splits tells) st.before st.at st.behind (subst A same fetches.advances) (subst S same fetches.steps) e (subst F feed'_is follows) in
     let G : List InputPast → Type 0 = λ l. (e : PacketsDecided l before (mk (m.front ++ h ∷ m.back) order policy state output decided)) → FetchLeaves e i a r new in
@@ -493,3 +491,17 @@ counted ByTime policy selector selector' tally turn taken none = (cc)
 counted InTurn policy selector selector' tally here taken none =
     let C : Bool → Type 0 = λ b. selecting.TakesTally b selector (Some tally) selector' in
     let e = (subst C none taken).0 in cc
+
+-- where the inputs are merged, or packets aren't counted, nothing is reported
+pub unreported : (order : PacketOrder) (input : ℕ) (cursor : InputView) (selector : PolicyState) (output : JobOutputView) → is_in_turn order ≡ false → ClosesBy (asks_report order selector.policy) input cursor (sieve selector output) None (sieve selector output)
+unreported InTurn input cursor selector output merged = (cc)
+unreported ByTime input cursor selector output merged = (refl, refl, refl)
+
+pub uncounted : (order : PacketOrder) (input : ℕ) (cursor : InputView) (selector selector' : PolicyState) (output : JobOutputView) → is_in_turn order ≡ true → selecting.TakesTally (is_count selector.policy) selector None selector'
+    → ClosesBy (asks_report order selector.policy) input cursor (sieve selector output) None (sieve selector' output)
+uncounted ByTime input cursor selector selector' output turn taken = (cc)
+uncounted InTurn input cursor selector selector' output turn taken = by_count (is_count selector.policy) taken
+  where
+    by_count : (b : Bool) → selecting.TakesTally b selector None selector' → ClosesBy b input cursor (sieve selector output) None (sieve selector' output)
+    by_count false taken = (refl, taken.1, refl)
+    by_count true taken = absurd (let e = taken.0 in cc)

@@ -13,13 +13,13 @@ use Rattle.cap_io.specs.Source.{Ended}
 use Rattle.cap_io.proofs.Texts.{finish-none, finish-none-writes, finish-some}
 use Rattle.cap_inputs.specs.declared.inputs.Next.TheVariants as next
 use Rattle.cap_packets.specs.Reports.{Report}
-use Rattle.cap_inputs.specs.Sequence.{Event, InputItems, Complete, sequence_of, with_front, PacketOrder}
+use Rattle.cap_io.specs.Sequence.{Event, InputItems, Complete, sequence_of, with_front, PacketOrder}
 use Rattle.cap_packets.specs.Verdict.{Policy, SelectorState}
 use Rattle.cap_packets.specs.Outcome.{Form, AsCapture, JobProgress, closing_text, final_progress, lines_text, end_with, final_text, first_link}
 use Rattle.cap_packets.specs.Output.{JobOutputView, Target, Capture, Text, Lines, HasWrittenTo, EndsOutput, form_at, form_to, written_to, failures_to}
 use Rattle.cap_inputs.specs.Inputs.{InputView, Future, InputPast, AreInputsBehind, IsNext, actual_future, first_declared_link, AllEnded}
 use Rattle.cap_packets.specs.Reports.{reports_text}
-use Rattle.cap_tools.specs.Machine.{MachineState, PacketsDecided, CompletesOutput, StopsWriting, progress_at, progress_of, progress_over, wholes_of}
+use Rattle.cap_tools.specs.Packets.{JobState, PacketsDecided, CompletesOutput, StopsWriting, progress_at, progress_of, progress_over, wholes_of}
 use Rattle.cap_tools.proofs.Splits.{At}
 use Rattle.cap_tools.proofs.Coming.{true-whole, true-wholes, true-fit, true-fits}
 use Rattle.cap_packets.proofs.Outcomes.{course-close}
@@ -60,7 +60,7 @@ links (s ∷ ss) (h ∷ hs) st ended =
     ap (λ (o : Option ℕ). option_or o (first_link (wholes_of ss))) (declared-one s h st.0 ended.0)
     ∙ ap (option_or (first_link_of h.source.declared)) (links ss hs st.1 ended.1)
 
-abbrev over : MachineState → List Captured → List Report → JobProgress
+abbrev over : JobState → List Captured → List Report → JobProgress
 over m packets reports = end_with (progress_at m packets reports) Complete
 
 -- what is written of a job that met its clean end
@@ -90,7 +90,7 @@ finish-device before names (q ∷ qs) rs (Capture sink) new link has finishes =
 finish-device before names ps rs (Text bytes failures room) new link has finishes = ap failures_to finishes.1
 finish-device before names ps rs (Lines options bytes failures room) new link has finishes = ap failures_to finishes.1
 
-abbrev pub FinishLeaves : {ss : List InputPast} {before : List ℕ} {old : MachineState} → PacketsDecided ss before old → Result (Unit {0}) Fault → MachineState → Type 0
+abbrev pub FinishLeaves : {ss : List InputPast} {before : List ℕ} {old : JobState} → PacketsDecided ss before old → Result (Unit {0}) Fault → JobState → Type 0
 FinishLeaves {ss} {before} {old} d (Ok done) new = CompletesOutput (wholes_of ss) d new Complete
 FinishLeaves {ss} {before} {old} d (Err fault) new = StopsWriting d new
 
@@ -115,7 +115,7 @@ finish-empty before sink [] link fault new has finishes =
       stops = subst S (sym finishes.is) (finish-none-writes before sink link (Err fault) finishes.sink has finishes.writes);
     }
 
-finish-stops : (ss : List InputPast) (before : List ℕ) (names : List (List ℕ)) (target : Target) (cursors : List InputView) (order : PacketOrder) (policy : Policy) (state : SelectorState) (decided : ℕ) (fault : Fault) (new : MachineState)
+finish-stops : (ss : List InputPast) (before : List ℕ) (names : List (List ℕ)) (target : Target) (cursors : List InputView) (order : PacketOrder) (policy : Policy) (state : SelectorState) (decided : ℕ) (fault : Fault) (new : JobState)
     → (d : PacketsDecided ss before (mk cursors order policy state (record { names = names; target = target }) decided))
     → final_progress policy (form_to names target) (sequence_of order (wholes_of ss)) ≡ over (mk cursors order policy state (record { names = names; target = target }) decided) d.packets d.reports
     → sequence_of order (wholes_of ss) ≡ record { events = d.events; end = Complete }
@@ -141,12 +141,12 @@ finish-stops ss before names (Capture sink) cursors order policy state decided f
       stops = empty.stops;
     }
 
-pub finish-leaves : (ss : List InputPast) (before : List ℕ) (cursors : List InputView) (order : PacketOrder) (policy : Policy) (state : SelectorState) (output : JobOutputView) (decided : ℕ) (r : Result (Unit {0}) Fault) (new : MachineState)
+pub finish-leaves : (ss : List InputPast) (before : List ℕ) (cursors : List InputView) (order : PacketOrder) (policy : Policy) (state : SelectorState) (output : JobOutputView) (decided : ℕ) (r : Result (Unit {0}) Fault) (new : JobState)
     → IsNext (inputs_at order cursors) next.Finish → new.inputs ≡ record { order = order; cursors = cursors } → EndsOutput (first_declared_link cursors) output.target r new.output.target → (d : PacketsDecided ss before (mk cursors order policy state output decided))
     → FinishLeaves d r new
 finish-leaves ss before cursors order policy state output decided (Ok done) new tells inputs finishes d =
     let at : OverAt order cursors = over-at order cursors tells in
-    let m : MachineState = mk cursors order policy state output decided in
+    let m : JobState = mk cursors order policy state output decided in
     let stop = over-course ss before cursors order policy state output decided at d in
     let link = links ss cursors d.behind at.ended in
     let text_is : written_to new.output.target ≡ before ++ final_text (form_at output) (first_link (wholes_of ss)) (over m d.packets d.reports) =

@@ -3,7 +3,7 @@ use Rattle.std.proofs.Common.{ℕ, ◌+◌, ◌≤◌, Option, None, Some, arith
 use Rattle.cap_inputs.specs.Inputs.{InputsView, most_steps}
 use Rattle.cap_tools.specs.Jobs.{IsCounted}
 use Rattle.cap_tools.specs.Bounds.{HasFewTurns, IsPaid, most_turns, steps_owed_in_all}
-use Rattle.cap_filter.specs.Outcome.{OutputView}
+use Rattle.cap_octet.specs.Views.{OutputView}
 use Rattle.cap_tools.specs.Start.{Preparing}
 use Rattle.cap_tools.specs.Jobs.{JobView}
 use Rattle.cap_tools.specs.Bounds.{StepReads, reads_on, decides_one, leaves_one, reads_nothing}
@@ -25,7 +25,7 @@ few-kept (Some status) turns inputs inputs' paid upper_bound = tt
 
 -- a step reads what it read, whatever becomes of its messages and of the count of steps
 pub reads-kept : (tells goes : Bool) (old mid : JobView) (p : Option Preparing) (err : OutputView) (turns : ℕ) (ended : Option ℕ) → StepReads tells goes old mid
-    → StepReads tells goes old (record { preparing = p; machine = mid.machine; programs = mid.programs; err = err; turns = turns; done = ended })
+    → StepReads tells goes old (record { preparing = p; state = mid.state; programs = mid.programs; err = err; turns = turns; done = ended })
 reads-kept tells goes old mid p err turns ended (reads_on i answer on reads) = reads_on i answer on (record { next = reads.next; fetches = reads.fetches; exact = reads.exact; decided = reads.decided; output = reads.output; programs = reads.programs })
 reads-kept tells goes old mid p err turns ended (decides_one i one) = decides_one i (record { next = one.next; packet = one.packet; holds = one.holds; settles = one.settles; decided = one.decided; programs = one.programs; cost = one.cost })
 reads-kept tells goes old mid p err turns ended (leaves_one i ends one) = leaves_one i ends (record { next = one.next; packet = one.packet; holds = one.holds; inputs = one.inputs; decided = one.decided; programs = one.programs; cost = one.cost })

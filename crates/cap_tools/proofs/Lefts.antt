@@ -4,7 +4,7 @@ use Rattle.std.proofs.lemmas.List.{length-append}
 use Rattle.std.specs.List.{slice_set}
 use Rattle.cap_octet.specs.declared.fault.Fault.{Fault}
 use Rattle.cap_io.specs.Source.{SourceView, Phase, Reading, Ended, Failed, Steps, end_offset, phase_after}
-use Rattle.cap_inputs.specs.Sequence.{PacketOrder, InTurn, ByTime}
+use Rattle.cap_io.specs.Sequence.{PacketOrder, InTurn, ByTime}
 use Rattle.cap_inputs.specs.declared.inputs.Next.TheVariants as next
 use Rattle.cap_inputs.specs.Inputs.{InputView, InputsView, IsInput, IsNext, IsNextIn, IsOpen, MarksDecided, ReadSteps, input_after, input_behind, input_steps_left, is_packet_found, owed_by, steps_left, steps_left_in, steps_owed, with_cursor}
 use Rattle.cap_inputs.proofs.Cursors.{set-here}

@@ -3,7 +3,7 @@ use Rattle.std.proofs.Common.{◌≡◌, ℕ, ◌+◌, ◌<◌, ◌≤◌, true,
 use Rattle.cap_octet.specs.Packet.{Captured}
 use Rattle.cap_io.specs.Capture.{Placed, Items, after_packets}
 use Rattle.cap_io.specs.Source.{Ended}
-use Rattle.cap_inputs.specs.Sequence.{Packet, SequenceEnd, Complete, with_front, end_at, first_end, fault_in_front, sequence_by_time}
+use Rattle.cap_io.specs.Sequence.{Packet, SequenceEnd, Complete, with_front, end_at, first_end, fault_in_front, sequence_by_time}
 use Rattle.cap_inputs.specs.Inputs.{InputView, Future, AreFutures, waiting_packets, items_left, inputs_left, no_future, input_behind}
 use Rattle.cap_tools.proofs.Splits.{Fit}
 use Rattle.cap_tools.proofs.Coming.{hand_is}

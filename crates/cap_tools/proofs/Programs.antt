@@ -5,21 +5,21 @@ use Rattle.flt_bpf.specs.declared.insn.Insn.{Insn}
 use Rattle.flt_bpf.specs.Content.{Content}
 use Rattle.flt_tree.specs.Tree.{Expression, empty, truth}
 use Rattle.cap_octet.specs.declared.link.Link.{Link}
-use Rattle.cap_filter.specs.Links.{link_types}
+use Rattle.cap_octet.specs.Link.{all_links}
 use Rattle.cap_filter.specs.Programs.{AreMade, ran_at, ran_if}
 use Rattle.cap_filter.specs.FilterRules.{Rule, by_reading, by_answer}
 use Rattle.cap_filter.specs.Filters.{AreNew, place_by, spent_on}
 use Rattle.cap_packets.specs.Verdict.{Policy, Edit, Filter, KeepAll, Count, is_too_many}
 use Rattle.cap_packets.specs.Selector.{AreFor, HavePrograms, SelectorView, spent_by, spent_by_verdict}
-use Rattle.cap_tools.specs.Machine.{Spends}
+use Rattle.cap_tools.specs.Packets.{Spends}
 
 -- a run leaves a program's instructions
-made-ran : (e : Expression) (rows : List (ℕ × Link)) (programs : List Content) (i : ℕ) (p : Captured) → AreMade e rows programs → AreMade e rows (ran_at i p programs)
+made-ran : (e : Expression) (links : List Link) (programs : List Content) (i : ℕ) (p : Captured) → AreMade e links programs → AreMade e links (ran_at i p programs)
 made-ran e [] [] i p made = made
 made-ran e [] (x ∷ xs) i p made = absurd made
-made-ran e (row ∷ rows) [] i p made = absurd made
-made-ran e (row ∷ rows) (x ∷ xs) zero p made = (record { valid = made.0.valid; right = made.0.right }, made.1)
-made-ran e (row ∷ rows) (x ∷ xs) (suc i) p made = (made.0, made-ran e rows xs i p made.1)
+made-ran e (link ∷ links) [] i p made = absurd made
+made-ran e (link ∷ links) (x ∷ xs) zero p made = (record { valid = made.0.valid; right = made.0.right }, made.1)
+made-ran e (link ∷ links) (x ∷ xs) (suc i) p made = (made.0, made-ran e links xs i p made.1)
 
 insns-ran : (programs : List Content) (i : ℕ) (p : Captured) → map (λ (x : Content). x.insns) (ran_at i p programs) ≡ map (λ (x : Content). x.insns) programs
 insns-ran [] i p = refl
@@ -30,9 +30,9 @@ for-ran : (rule : Rule) (p : Captured) (programs : List Content) → AreFor rule
 for-ran (by_reading empty) p programs are = are
 for-ran (by_reading (truth a)) p programs are = by_place (place_by (by_reading (truth a)) p.link)
   where
-    by_place : (o : Option ℕ) → AreMade (truth a) link_types (ran_if o p programs)
+    by_place : (o : Option ℕ) → AreMade (truth a) all_links (ran_if o p programs)
     by_place None = are
-    by_place (Some i) = made-ran (truth a) link_types programs i p are
+    by_place (Some i) = made-ran (truth a) all_links programs i p are
 for-ran (by_answer prog) p programs are = insns-ran programs 0 p ∙ are
 
 have-ran : (policy : Policy) (p : Captured) (programs : List Content) → HavePrograms policy programs → HavePrograms policy (spent_by policy p programs)

@@ -8,13 +8,14 @@ use Rattle.cap_packets.specs.Reports.{nothing_counted}
 use Rattle.std.proofs.lemmas.List.{append-nil}
 use Rattle.cap_io.proofs.Standing.{IsAt-start}
 use Rattle.cap_io.proofs.Texts.{HasPackets-none}
-use Rattle.cap_inputs.specs.Sequence.{InputItems, sequence_in_turn, sequence_by_time, PacketOrder, InTurn, ByTime}
+use Rattle.cap_io.specs.Sequence.{InputItems, sequence_in_turn, sequence_by_time, PacketOrder, InTurn, ByTime}
 use Rattle.cap_packets.specs.Verdict.{Policy}
-use Rattle.cap_inputs.specs.Fresh.{FreshInput, fresh_view, nothing_done, fresh_inputs}
+use Rattle.cap_octet.specs.Views.{FreshInput}
+use Rattle.cap_inputs.specs.Fresh.{fresh_view, nothing_done, fresh_inputs}
 use Rattle.cap_packets.specs.Selector.{state_with}
 use Rattle.cap_inputs.specs.Inputs.{Future, AreInputsBehind, KnowGreatest, AreFutures, AreSettled, ended_count, inputs_with, inputs_left, input_items, steps_left_in, steps_left, most_steps}
 use Rattle.cap_tools.specs.Bounds.{reads_of, steps_owed_in_all, owed_in, most_turns}
-use Rattle.cap_tools.specs.Machine.{PacketsDecided}
+use Rattle.cap_tools.specs.Packets.{PacketsDecided}
 use Rattle.cap_tools.proofs.Coming.{come-first}
 use Rattle.cap_tools.proofs.Fetches.{mk}
 

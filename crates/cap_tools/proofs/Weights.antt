@@ -11,8 +11,9 @@ use Rattle.cap_packets.specs.declared.output.Writing.TheVariants as writing
 use Rattle.cap_packets.specs.Output.{HasFewOutputInterfaces, Target, Capture, Text, Lines, target_at}
 use Rattle.cap_inputs.specs.Inputs.{InputView, InputsView, IsInput, ReadSteps, MarksDecided, input_after, input_behind}
 use Rattle.cap_packets.specs.Selector.{HasFewMarks}
-use Rattle.cap_inputs.specs.Fresh.{FreshInput, fresh_view}
-use Rattle.cap_tools.specs.Machine.{MachineState}
+use Rattle.cap_octet.specs.Views.{FreshInput}
+use Rattle.cap_inputs.specs.Fresh.{fresh_view}
+use Rattle.cap_tools.specs.Packets.{JobState}
 use Rattle.cap_tools.specs.Bounds.{IsBounded, IsLight, IsSmall, declared_weight, inputs_weight, names_weight, target_weight}
 
 -- ---- one input for another
@@ -96,7 +97,7 @@ target-light (Capture sink) upper_bound =
 target-light (Text written failures room) upper_bound = omega arith
 target-light (Lines options written failures room) upper_bound = omega arith
 
-pub is-light : (m : MachineState) → IsBounded m.inputs m.output.target → HasFewMarks m.policy m.state → IsLight m
+pub is-light : (m : JobState) → IsBounded m.inputs m.output.target → HasFewMarks m.policy m.state → IsLight m
 is-light m bounded upper_bound =
     let cursors = cursors-light m.inputs.cursors bounded.0 in
     let target = target-light m.output.target bounded.1 in

@@ -1,7 +1,7 @@
 -- The bounds of a step, whatever the devices: what it reads, how many steps were made, and what the
 -- job holds.
 use Rattle.std.specs.Prelude.{◌≡◌, ℕ, ◌+◌, ◌*◌, ◌≤◌, ◌&&◌, Bool, IsTrue, true, false, List, [], ◌∷◌, length, map, Option, None, Some, Result, Ok, Err}
-use Rattle.std.specs.List.{All}
+use Rattle.std.specs.List.{All, slice_get}
 use Rattle.cap_octet.specs.declared.fault.Fault.{Fault}
 use Rattle.cap_io.specs.Capture.{Declared, Nothing, PcapFile, PcapngFile}
 use Rattle.cap_io.specs.Reading.{most_in_unit}
@@ -10,11 +10,11 @@ use Rattle.cap_io.specs.Text.{most_output_interfaces}
 use Rattle.cap_tools.specs.declared.step.JobEnd.{JobEnd}
 use Rattle.cap_packets.specs.Output.{Target, Capture, Text, Lines, HasFewOutputInterfaces}
 use Rattle.cap_inputs.specs.declared.inputs.Next.TheVariants as next
-use Rattle.cap_inputs.specs.Inputs.{InputView, InputsView, IsInput, IsNext, ReadsInput, ReadSteps, MarksDecided, is_clean_end, owed_by}
+use Rattle.cap_inputs.specs.Inputs.{InputView, InputsView, IsNext, ReadsInput, ReadSteps, MarksDecided, is_clean_end, owed_by}
 use Rattle.cap_octet.specs.Packet.{Captured}
 use Rattle.cap_filter.specs.Programs.{spent_in}
 use Rattle.cap_packets.specs.Selector.{most_spent, places, spent_by_verdict, window_of}
-use Rattle.cap_tools.specs.Machine.{MachineState, asks_report}
+use Rattle.cap_tools.specs.Packets.{JobState, asks_report}
 use Rattle.cap_tools.specs.Jobs.{JobView}
 
 -- ---- what a step reads
@@ -23,48 +23,48 @@ use Rattle.cap_tools.specs.Jobs.{JobView}
 -- nothing is written unless the input was read to its end and is to be reported.
 pub record ReadsOn (tells : Bool) (old : JobView) (input : ℕ) (answer : Result Bool Fault)
     (new : JobView) : Type 0 where
-  pub next : IsNext old.machine.inputs (next.Read input)
-  pub fetches : ReadSteps old.machine.inputs input answer new.machine.inputs
+  pub next : IsNext old.state.inputs (next.Read input)
+  pub fetches : ReadSteps old.state.inputs input answer new.state.inputs
   -- where the input tells its bytes: its next packet, its clean end or its fault, and no more
-  pub exact : IsTrue tells → ReadsInput old.machine.inputs input answer new.machine.inputs
-  pub decided : new.machine.decided ≡ old.machine.decided
-  pub output : (is_clean_end answer && asks_report old.machine.inputs.order old.machine.policy)
-      ≡ false → new.machine.output ≡ old.machine.output
+  pub exact : IsTrue tells → ReadsInput old.state.inputs input answer new.state.inputs
+  pub decided : new.state.decided ≡ old.state.decided
+  pub output : (is_clean_end answer && asks_report old.state.inputs.order old.state.policy)
+      ≡ false → new.state.output ≡ old.state.output
   pub programs : new.programs ≡ old.programs
 
 -- an input's current packet, which isn't decided yet
 pub record Holds (cursors : List InputView) (input : ℕ) (p : Captured) : Type 0 where
   pub cursor : InputView
-  pub among : IsInput cursors input cursor
+  pub among : slice_get cursors input ≡ Some cursor
   pub waits : cursor.waiting ≡ true
   pub held : cursor.source.packet ≡ Some p
 
 -- The packet that is next was decided, and nothing is read. It cost one run of a program at most.
 pub record DecidesOne (old : JobView) (input : ℕ) (new : JobView) : Type 0 where
-  pub next : IsNext old.machine.inputs (next.Decide input)
+  pub next : IsNext old.state.inputs (next.Decide input)
   pub packet : Captured
-  pub holds : Holds old.machine.inputs.cursors input packet
-  pub settles : MarksDecided old.machine.inputs input new.machine.inputs
-  pub decided : new.machine.decided ≡ old.machine.decided + 1
+  pub holds : Holds old.state.inputs.cursors input packet
+  pub settles : MarksDecided old.state.inputs input new.state.inputs
+  pub decided : new.state.decided ≡ old.state.decided + 1
   pub programs : new.programs
-      ≡ spent_by_verdict old.machine.policy (old.machine.decided + 1) packet old.programs
-  pub cost : spent_in new.programs ≤ spent_in old.programs + most_spent old.machine.policy
+      ≡ spent_by_verdict old.state.policy (old.state.decided + 1) packet old.programs
+  pub cost : spent_in new.programs ≤ spent_in old.programs + most_spent old.state.policy
 
 -- it is refused, or wasn't written
 pub record LeavesOne (old : JobView) (input : ℕ) (new : JobView) : Type 0 where
-  pub next : IsNext old.machine.inputs (next.Decide input)
+  pub next : IsNext old.state.inputs (next.Decide input)
   pub packet : Captured
-  pub holds : Holds old.machine.inputs.cursors input packet
-  pub inputs : new.machine.inputs ≡ old.machine.inputs
-  pub decided : new.machine.decided ≡ old.machine.decided
+  pub holds : Holds old.state.inputs.cursors input packet
+  pub inputs : new.state.inputs ≡ old.state.inputs
+  pub decided : new.state.decided ≡ old.state.decided
   pub programs : new.programs
-      ≡ spent_by_verdict old.machine.policy (old.machine.decided + 1) packet old.programs
-  pub cost : spent_in new.programs ≤ spent_in old.programs + most_spent old.machine.policy
+      ≡ spent_by_verdict old.state.policy (old.state.decided + 1) packet old.programs
+  pub cost : spent_in new.programs ≤ spent_in old.programs + most_spent old.state.policy
 
 -- nothing is read, no packet is decided, and no program runs
 pub record ReadsNothing (old new : JobView) : Type 0 where
-  pub inputs : new.machine.inputs ≡ old.machine.inputs
-  pub decided : new.machine.decided ≡ old.machine.decided
+  pub inputs : new.state.inputs ≡ old.state.inputs
+  pub decided : new.state.decided ≡ old.state.decided
   pub programs : new.programs ≡ old.programs
 
 abbrev pub is_fault : Result Bool Fault → Bool
@@ -141,7 +141,7 @@ target_weight (Lines options written failures room) = 0
 
 -- the bytes that a job holds of its inputs and of its output, 20 for each mark in its window, and
 -- 128 for its counters
-abbrev pub weight : MachineState → ℕ
+abbrev pub weight : JobState → ℕ
 weight m =
     inputs_weight m.inputs.cursors + target_weight m.output.target + 20 * length m.state.window
     + 128
@@ -164,6 +164,6 @@ IsBounded inputs target = All IsSmall inputs.cursors × HasFewOutputInterfaces t
 
 -- What a job holds of each input is bounded, and of all of them; a window of n packets has n - 1
 -- marks, and there is none where no duplicates are searched for.
-pub record IsLight (m : MachineState) : Type 0 where
+pub record IsLight (m : JobState) : Type 0 where
   pub each : IsBounded m.inputs m.output.target
   pub all : weight m ≤ most_weight (length m.inputs.cursors) (places (window_of m.policy))

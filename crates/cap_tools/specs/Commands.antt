@@ -1,4 +1,4 @@
--- The steps of a command's job, from the first one on, and its run.
+-- The steps of a command's job, from the first one on.
 use Rattle.std.specs.Prelude.{◌≡◌, ◌⊎◌, ℕ, ◌+◌, ◌<◌, ◌≤◌, Bool, true, List, Option, None, Some, IsTrue}
 use Rattle.cap_octet.specs.declared.link.Link.{Link}
 use Rattle.flt_bpf.specs.declared.insn.Insn.{Insn}
@@ -6,12 +6,10 @@ use Rattle.flt_bpf.specs.Content.{Content}
 use Rattle.flt_words.specs.declared.fault.ExprFault.{ExprFault}
 use Rattle.cap_filter.specs.declared.refusal.Refusal.{Refusal}
 use Rattle.cap_filter.specs.declared.refusal.Refusal.TheVariants as refusal
-use Rattle.cap_filter.specs.Compilation.{IsCompiled, CompileLeaves}
+use Rattle.cap_filter.specs.Compilation.{IsCompiled}
 use Rattle.cap_filter.specs.Expressions.{IsTextFault}
-use Rattle.cap_filter.specs.Messages.{refusal_message, refusal_status}
 use Rattle.cap_filter.specs.FilterRules.{Rule, IsRule, IsWhy}
 use Rattle.cap_filter.specs.Filters.{AreNew}
-use Rattle.cap_filter.specs.Outcome.{IsTold, Runs}
 use Rattle.cap_filter.specs.Programs.{spent_in}
 use Rattle.cap_tools.specs.declared.job.Turn.{Turn}
 use Rattle.cap_tools.specs.declared.job.Turn.TheVariants as turn
@@ -19,14 +17,13 @@ use Rattle.cap_tools.specs.Start.{FilterAsked, Preparing, ReadsFilter, Compiles}
 use Rattle.cap_packets.specs.Selector.{HavePrograms}
 use Rattle.cap_inputs.specs.Inputs.{InputPast, steps_left}
 use Rattle.cap_tools.specs.Bounds.{IsLight, StepReads, most_turns}
-use Rattle.cap_tools.specs.Call.{RunResult}
-use Rattle.cap_tools.specs.Jobs.{JobView, Decided, IsStatus, JobGives, JobRuns, done_by}
-use Rattle.cap_tools.specs.FirstStep.{IsFresh, WritesListing, RefusesStart, filtering, is_text, output_of, output_name}
+use Rattle.cap_tools.specs.Jobs.{JobView, Decided, IsStatus, done_by}
+use Rattle.cap_tools.specs.FirstStep.{IsFresh, WritesListing, RefusesStart, filtering, is_text}
 
 -- a job that still prepares made no step; what is compiled is written as text
 abbrev pub HasMadeNoStep : Preparing → JobView → Type 0
 HasMadeNoStep (ReadsFilter asked) j = IsFresh j
-HasMadeNoStep (Compiles words link) j = IsFresh j × (is_text j.machine.output.target ≡ true)
+HasMadeNoStep (Compiles words link) j = IsFresh j × (is_text j.state.output.target ≡ true)
 
 abbrev pub IsReadyIf : Option Preparing → JobView → Type 0
 IsReadyIf None j = Unit {0}
@@ -72,10 +69,6 @@ CompileGives words link tells old turn.More new = ⊥
 CompileGives words link tells old (turn.Done status) new =
     ListsSome words link tells old status new ⊎ RefusesExpression words tells old status new
 
-abbrev pub Prepares : Preparing → Bool → JobView → Turn → JobView → Type 0
-Prepares (ReadsFilter asked) tells old r new = FilterGives asked tells old r new
-Prepares (Compiles words link) tells old r new = CompileGives words link tells old r new
-
 -- what is prepared first, of any device; a listing is told where the output tells its bytes
 abbrev pub PreparesBy : Option Preparing → (output_tells tells : Bool) → JobView → Turn → JobView
     → Type 0
@@ -87,17 +80,13 @@ PreparesBy (Some (Compiles words link)) output_tells tells old r new =
 
 -- ---- a step
 
-abbrev pub GivesBy : Option Preparing → Bool → JobView → Turn → JobView → Type 0
-GivesBy None tells old r new = JobGives tells old r new
-GivesBy (Some preparing) tells old r new = Prepares preparing tells old r new
-
 -- so much is to be done at most
 abbrev pub preparing_left : Option Preparing → ℕ
 preparing_left None = 0
 preparing_left (Some preparing) = 1
 
 abbrev pub job_left : JobView → ℕ
-job_left j = preparing_left j.preparing + steps_left j.machine.inputs
+job_left j = preparing_left j.preparing + steps_left j.state.inputs
 
 -- What the first step of a job keeps that reads a filter or compiles: no input is touched.
 pub record KeepsFirst (old : JobView) (r : Turn) (new : JobView) : Type 0 where
@@ -105,11 +94,11 @@ pub record KeepsFirst (old : JobView) (r : Turn) (new : JobView) : Type 0 where
   pub done : new.done ≡ done_by r
   pub status : IsStatus r
   pub turns : new.turns ≡ old.turns + 1
-  pub upper_bound : new.turns ≤ most_turns old.machine.inputs + 1
-  pub light : IsLight new.machine
-  pub sound : HavePrograms new.machine.policy new.programs
-  pub inputs : new.machine.inputs ≡ old.machine.inputs
-  pub names : new.machine.output.names ≡ old.machine.output.names
+  pub upper_bound : new.turns ≤ most_turns old.state.inputs + 1
+  pub light : IsLight new.state
+  pub sound : HavePrograms new.state.policy new.programs
+  pub inputs : new.state.inputs ≡ old.state.inputs
+  pub names : new.state.output.names ≡ old.state.output.names
   pub quiet : r ≡ turn.More → new.err ≡ old.err
 
 -- What every step of a job keeps, whatever the devices: it prepares no more, its end is known, a
@@ -119,20 +108,20 @@ pub record StepKeeps (old : JobView) (r : Turn) (new : JobView) : Type 0 where
   pub done : new.done ≡ done_by r
   pub status : IsStatus r
   pub turns : old.done ≡ None → new.turns ≡ old.turns + 1
-  pub upper_bound : old.done ≡ None → new.turns ≤ most_turns old.machine.inputs + 1
-  pub light : IsLight new.machine
-  pub sound : HavePrograms new.machine.policy new.programs
+  pub upper_bound : old.done ≡ None → new.turns ≤ most_turns old.state.inputs + 1
+  pub light : IsLight new.state
+  pub sound : HavePrograms new.state.policy new.programs
   pub left : r ≡ turn.More → job_left new < job_left old
-  pub names : new.machine.output.names ≡ old.machine.output.names
+  pub names : new.state.output.names ≡ old.state.output.names
   -- a step that goes on sends no message
   pub quiet : r ≡ turn.More → new.err ≡ old.err
   -- a filter changes what is asked
-  pub policy : old.preparing ≡ None → new.machine.policy ≡ old.machine.policy
+  pub policy : old.preparing ≡ None → new.state.policy ≡ old.state.policy
 
 -- Nothing is read before the filter is there, and no packet is decided; no program has run.
 pub record PreparesOnly (old new : JobView) : Type 0 where
-  pub inputs : new.machine.inputs ≡ old.machine.inputs
-  pub decided : new.machine.decided ≡ old.machine.decided
+  pub inputs : new.state.inputs ≡ old.state.inputs
+  pub decided : new.state.decided ≡ old.state.decided
   pub unspent : spent_in new.programs ≡ spent_in old.programs
 
 abbrev pub StepReadsBy : Option Preparing → (tells goes : Bool) → JobView → JobView → Type 0
@@ -148,34 +137,3 @@ DecidedBy (Some (ReadsFilter asked)) ss before j =
     (rule : Rule) → IsRule asked.words asked.code rule → (programs : List Content)
     → AreNew rule programs → Decided ss before (filtering rule asked.count programs j)
 DecidedBy (Some (Compiles words link)) ss before j = Unit {0}
-
--- the job goes through the filter that it reads
-pub record RunsFiltered (asked : FilterAsked) (ss : List InputPast) (before : List ℕ) (tells : Bool)
-    (first : JobView) (r : RunResult) : Type 0 where
-  pub rule : Rule
-  pub is : IsRule asked.words asked.code rule
-  pub programs : List Content
-  pub made : AreNew rule programs
-  pub runs : JobRuns ss before tells (filtering rule asked.count programs first) r
-
--- nothing is read or written but a message
-pub record RunsRefused (asked : FilterAsked) (tells : Bool) (first : JobView)
-    (r : RunResult) : Type 0 where
-  pub refusal : Refusal
-  pub why : IsWhy asked.words asked.code refusal
-  pub status_is : r.status ≡ refusal_status refusal
-  pub same : r.output ≡ output_of first
-  pub exact : IsTold tells first.err (refusal_message refusal) r.messages
-
-abbrev pub RunsBy : Option Preparing → List InputPast → List ℕ → Bool → JobView → RunResult → Type 0
-RunsBy None ss before tells first r = JobRuns ss before tells first r
-RunsBy (Some (ReadsFilter asked)) ss before tells first r =
-    RunsFiltered asked ss before tells first r ⊎ RunsRefused asked tells first r
-RunsBy (Some (Compiles words link)) ss before tells first r =
-    Runs (λ message. CompileLeaves words link (output_name first)
-    (output_of first) r.output message r.status) tells first.err r.messages
-
-abbrev pub RunsCommand : Bool → JobView → RunResult → Type 0
-RunsCommand tells first r =
-    (ss : List InputPast) (before : List ℕ) → DecidedBy first.preparing ss before first
-    → RunsBy first.preparing ss before tells first r

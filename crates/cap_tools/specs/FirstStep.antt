@@ -3,10 +3,13 @@ use Rattle.std.specs.Prelude.{◌≡◌, ℕ, ◌+◌, ◌<◌, Bool, true, fals
 use Rattle.flt_bpf.specs.declared.insn.Insn.{Insn}
 use Rattle.flt_bpf.specs.Content.{Content}
 use Rattle.cap_filter.specs.declared.refusal.Refusal.{Refusal}
-use Rattle.cap_filter.specs.Compilation.{ListingLeaves}
-use Rattle.cap_filter.specs.Messages.{refusal_message, refusal_status}
+use Rattle.cap_tools.specs.Listing.{ListingLeaves}
+use Rattle.cap_packets.specs.Messages.{refusal_message}
+use Rattle.cap_filter.specs.Refusals.{refusal_status}
 use Rattle.cap_filter.specs.FilterRules.{Rule}
-use Rattle.cap_filter.specs.Outcome.{OutputView, IsTold, Runs, output_view}
+use Rattle.cap_octet.specs.Views.{OutputView, output_view}
+use Rattle.cap_packets.specs.Messages.{IsTold}
+use Rattle.cap_tools.specs.Listing.{Runs}
 use Rattle.cap_tools.specs.declared.job.Turn.{Turn}
 use Rattle.cap_tools.specs.declared.job.Turn.TheVariants as turn
 use Rattle.cap_packets.specs.Output.{Target, Capture, Text, Lines}
@@ -15,7 +18,7 @@ use Rattle.cap_packets.specs.Selector.{state_with}
 use Rattle.cap_inputs.specs.Inputs.{steps_left, most_steps}
 use Rattle.cap_packets.specs.Reports.{name_at, nothing_counted}
 use Rattle.cap_tools.specs.Bounds.{most_turns, steps_owed_in_all}
-use Rattle.cap_tools.specs.Machine.{MachineState, written_by, failures_by}
+use Rattle.cap_tools.specs.Packets.{JobState, written_by, failures_by}
 use Rattle.cap_tools.specs.Jobs.{JobView}
 
 -- a job that made no step
@@ -23,8 +26,8 @@ pub record IsFresh (j : JobView) : Type 0 where
   pub turns : j.turns ≡ 0
   pub done : j.done ≡ None
   pub programs : j.programs ≡ []
-  pub left : steps_left j.machine.inputs < most_steps
-  pub upper_bound : steps_owed_in_all j.machine.inputs < most_turns j.machine.inputs
+  pub left : steps_left j.state.inputs < most_steps
+  pub upper_bound : steps_owed_in_all j.state.inputs < most_turns j.state.inputs
 
 abbrev pub is_text : Target → Bool
 is_text (Capture sink) = false
@@ -32,7 +35,7 @@ is_text (Text written failures room) = true
 is_text (Lines options written failures room) = false
 
 -- packets are judged by this from here on
-abbrev pub asking : Policy → MachineState → MachineState
+abbrev pub asking : Policy → JobState → JobState
 asking policy m =
     record {
       inputs = m.inputs;
@@ -46,7 +49,7 @@ asking policy m =
 abbrev pub filtering : Rule → Option ℕ → List Content → JobView → JobView
 filtering rule count programs j = record {
   preparing = None;
-  machine = asking (Filter rule count) j.machine;
+  state = asking (Filter rule count) j.state;
   programs = programs;
   err = j.err;
   turns = j.turns + 1;
@@ -57,7 +60,7 @@ filtering rule count programs j = record {
 abbrev pub refusing : Refusal → OutputView → JobView → JobView
 refusing refusal err j = record {
   preparing = None;
-  machine = j.machine;
+  state = j.state;
   programs = j.programs;
   err = err;
   turns = j.turns + 1;
@@ -65,15 +68,15 @@ refusing refusal err j = record {
 }
 
 -- the output
-abbrev pub output_by : MachineState → OutputView
+abbrev pub output_by : JobState → OutputView
 output_by m = output_view (written_by m) (failures_by m)
 
 abbrev pub output_of : JobView → OutputView
-output_of j = output_by j.machine
+output_of j = output_by j.state
 
 -- the name of its output
 abbrev pub output_name : JobView → List ℕ
-output_name j = name_at j.machine.output.names (length j.machine.inputs.cursors)
+output_name j = name_at j.state.output.names (length j.state.inputs.cursors)
 
 -- It is refused, or there was no memory for it, and nothing is read or written. A message that
 -- can't be written is lost.

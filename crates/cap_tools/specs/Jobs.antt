@@ -1,7 +1,8 @@
 -- What a contract sees of a whole job, with its messages, and how it ends.
 use Rattle.std.specs.Prelude.{◌≡◌, ℕ, ◌+◌, ◌≤◌, Bool, true, false, List, [], length, Option, None, Some}
-use Rattle.cap_filter.specs.Messages.{fault_message, write_failed_message}
-use Rattle.cap_filter.specs.Outcome.{OutputView, IsTold}
+use Rattle.cap_packets.specs.Messages.{fault_message, write_failed_message}
+use Rattle.cap_octet.specs.Views.{OutputView}
+use Rattle.cap_packets.specs.Messages.{IsTold}
 use Rattle.cap_tools.specs.declared.step.JobEnd.{JobEnd}
 use Rattle.cap_tools.specs.declared.step.JobEnd.TheVariants as end
 use Rattle.cap_tools.specs.declared.job.Turn.{Turn}
@@ -12,17 +13,16 @@ use Rattle.cap_packets.specs.Selector.{HavePrograms, SelectorView, state_with}
 use Rattle.cap_packets.specs.Reports.{name_at, nothing_counted}
 use Rattle.cap_inputs.specs.Inputs.{InputView, InputsView, InputPast, most_steps, offset_at}
 use Rattle.cap_inputs.specs.Fresh.{fresh_inputs}
-use Rattle.cap_tools.specs.Call.{Call, RunResult}
+use Rattle.cap_command.specs.Call.{Call}
 use Rattle.flt_bpf.specs.Content.{Content}
-use Rattle.cap_tools.specs.Machine.{MachineState, PacketsDecided, GoesOn, EndLeaves, StepGives, output_form, written_by, failures_by, texts}
-use Rattle.cap_inputs.specs.Inputs.{device_limits}
+use Rattle.cap_tools.specs.Packets.{JobState, PacketsDecided, GoesOn, StepGives}
 
 -- ---- the view
 
 pub record JobView : Type 0 where
   -- what is done before the first packet; nothing once it is done
   pub preparing : Option Preparing
-  pub machine : MachineState
+  pub state : JobState
   -- by which packets are judged
   pub programs : List Content
   -- the messages
@@ -33,8 +33,8 @@ pub record JobView : Type 0 where
   pub done : Option ℕ
 
 -- of the parts of a job
-abbrev pub machine_at : InputsView → SelectorView → JobOutputView → ℕ → MachineState
-machine_at inputs selector output decided =
+abbrev pub state_at : InputsView → SelectorView → JobOutputView → ℕ → JobState
+state_at inputs selector output decided =
     record {
       inputs = inputs;
       policy = selector.policy;
@@ -47,7 +47,7 @@ machine_at inputs selector output decided =
 abbrev pub first_job : Assignment → Call → JobView
 first_job a call = record {
   preparing = a.preparing;
-  machine = record {
+  state = record {
     inputs = fresh_inputs a.order call.inputs;
     policy = a.policy;
     state = state_with 0 nothing_counted;
@@ -68,8 +68,8 @@ first_job a call = record {
 -- decided and written; and each program that judges is one for its expression and its link, or the
 -- listing's.
 pub record Decided (ss : List InputPast) (before : List ℕ) (j : JobView) : Type 0 where
-  pub packets : PacketsDecided ss before j.machine
-  pub programs : HavePrograms j.machine.policy j.programs
+  pub packets : PacketsDecided ss before j.state
+  pub programs : HavePrograms j.state.policy j.programs
 
 -- the steps that were made and those that are left, which a job that ended has none of
 abbrev pub IsCounted : Option ℕ → ℕ → ℕ → Type 0
@@ -96,9 +96,9 @@ end_status end.OutputFailed = 1
 -- message that can't be written is lost.
 pub record EndsJob (tells : Bool) (old : JobView) (status : ℕ) (new : JobView) : Type 0 where
   pub end : JobEnd
-  pub leaves : StepGives old.machine (Some end) new.machine
+  pub leaves : StepGives old.state (Some end) new.state
   pub exact : IsTold tells old.err
-      (end_message old.machine.output.names new.machine.inputs.cursors end) new.err
+      (end_message old.state.output.names new.state.inputs.cursors end) new.err
   -- where all went well nothing is reported
   pub quiet : status ≡ 0 → new.err ≡ old.err
   pub status_is : status ≡ end_status end
@@ -106,8 +106,8 @@ pub record EndsJob (tells : Bool) (old : JobView) (status : ℕ) (new : JobView)
 -- it goes on, and what held of it holds again, its programs included
 pub record StaysDecided {ss : List InputPast} {before : List ℕ} {old : JobView}
     (d : Decided ss before old) (new : JobView) : Type 0 where
-  pub goes : GoesOn d.packets new.machine
-  pub programs : HavePrograms new.machine.policy new.programs
+  pub goes : GoesOn d.packets new.state
+  pub programs : HavePrograms new.state.policy new.programs
 
 -- a job that goes on reports nothing
 abbrev pub JobGives : Bool → JobView → Turn → JobView → Type 0
@@ -128,35 +128,3 @@ IsStatus (turn.Done status) = status ≤ 2
 abbrev pub done_by : Turn → Option ℕ
 done_by turn.More = None
 done_by (turn.Done status) = Some status
-
--- ---- all steps
-
--- A job that went on from its first view, without a failure of the output: of the same texts more
--- bytes are done.
-pub record IsUnderWay (ss : List InputPast) (before : List ℕ) (first j : JobView) : Type 0 where
-  pub past : List InputPast
-  pub texts : texts past ≡ texts ss
-  pub decided : Decided past before j
-  pub policy : j.machine.policy ≡ first.machine.policy
-  pub form : output_form j.machine ≡ output_form first.machine
-  pub output : failures_by j.machine ≡ failures_by first.machine
-  pub names : j.machine.output.names ≡ first.machine.output.names
-  pub order : j.machine.inputs.order ≡ first.machine.inputs.order
-  -- what is known of the inputs' devices when the job begins holds of them
-  pub limits : device_limits j.machine.inputs.cursors ≡ device_limits first.machine.inputs.cursors
-
--- The last step ended the job in one way, behind steps that went on. The output and the messages'
--- device are handed back as that step left them.
-pub record JobRuns (ss : List InputPast) (before : List ℕ) (tells : Bool) (first : JobView)
-    (r : RunResult) : Type 0 where
-  pub old : JobView
-  pub last : MachineState
-  pub progress : IsUnderWay ss before first old
-  pub end : JobEnd
-  pub leaves : EndLeaves progress.decided.packets end last
-  pub written : r.output.written ≡ written_by last
-  pub failures : r.output.failures ≡ failures_by last
-  pub exact : IsTold tells first.err
-      (end_message first.machine.output.names last.inputs.cursors end) r.messages
-  pub quiet : r.status ≡ 0 → r.messages ≡ first.err
-  pub status_is : r.status ≡ end_status end

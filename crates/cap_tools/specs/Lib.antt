@@ -1,10 +1,10 @@
 pub mod Bounds
-pub mod Call
 pub mod Commands
 pub mod FirstStep
 pub mod Jobs
+pub mod Listing
 pub mod Run
 pub mod Start
-pub mod Machine
+pub mod Packets
 pub mod Messages
 pub mod Step

@@ -1,6 +1,6 @@
 -- What a contract sees of the messages of a job.
 use Rattle.std.specs.Prelude.{ℕ, List}
-use Rattle.cap_filter.specs.Outcome.{OutputView}
+use Rattle.cap_octet.specs.Views.{OutputView}
 
 -- the names of the inputs, then of the output; and the device
 pub record MessagesView : Type 0 where

@@ -16,13 +16,13 @@ use Rattle.cap_filter.specs.declared.refusal.Refusal.TheVariants as refusal
 use Rattle.cap_filter.specs.Compilation.{IsCompiled}
 use Rattle.cap_filter.specs.Expressions.{IsTextFault}
 use Rattle.cap_filter.specs.FilterRules.{Rule, IsRule, IsWhy}
-use Rattle.cap_filter.specs.Messages.{fault_message, no_memory_message, refusal_message, refusal_status, write_failed_message}
-use Rattle.cap_filter.specs.Outcome.{IsTold}
-use Rattle.cap_inputs.specs.Fresh.{FreshInput}
-use Rattle.cap_inputs.specs.Sequence.{Event, Packet, InputItems, whole_input}
+use Rattle.cap_io.specs.Sequence.{Event, Packet, InputItems, whole_input}
+use Rattle.cap_packets.specs.Messages.{fault_message, no_memory_message, refusal_message, write_failed_message, IsTold}
+use Rattle.cap_filter.specs.Refusals.{refusal_status}
+use Rattle.cap_octet.specs.Views.{FreshInput}
 use Rattle.cap_packets.specs.declared.output.Writing.{Writing}
 use Rattle.cap_packets.specs.declared.output.Writing.TheVariants as writing
-use Rattle.cap_tools.specs.Call.{Call, RunResult}
+use Rattle.cap_command.specs.Call.{Call, RunResult}
 use Rattle.cap_packets.specs.Outcome.{Form, AsCapture, AsReports, AsLines, Outcome, Work, IsNextEvent, AreAllEvents, closing_text, cut_at, first_link, form_refuses, form_takes_memory, outcome, progress_behind, text_behind}
 use Rattle.cap_packets.specs.Reports.{name_at}
 use Rattle.cap_tools.specs.Start.{Assignment, Preparing, ReadsFilter, Compiles}

@@ -11,7 +11,7 @@ use Rattle.cap_tools.specs.declared.start.Preparation.{Preparation}
 use Rattle.cap_tools.specs.declared.start.Preparation.TheVariants as preparation
 use Rattle.cap_packets.specs.declared.output.Writing.{Writing}
 use Rattle.cap_packets.specs.declared.output.Writing.TheVariants as writing
-use Rattle.cap_inputs.specs.Sequence.{PacketOrder, InTurn, order_of}
+use Rattle.cap_io.specs.Sequence.{PacketOrder, InTurn, order_of}
 use Rattle.cap_packets.specs.Verdict.{Policy, Edit, KeepAll, Count}
 use Rattle.cap_packets.specs.Selector.{edit_rule_of}
 

@@ -1,11 +1,11 @@
-//! Jobs: one machine for all commands, step by step.
+//! Jobs: one for all commands, step by step.
 ghost use Rattle.std.specs.Prelude.{ℕ, ◌≡◌, ◌+◌, ◌<◌, ◌≤◌, IfErr, IfOk, IsTrue, None, Some, length};
 ghost use Rattle.std.specs.Prelude.{map, string_bytes, true, vec_len};
 ghost use Rattle.cap_command.specs.Command.{is_proper};
-ghost use Rattle.cap_filter.specs.Outcome.{IsTold, output_view};
+ghost use Rattle.cap_packets.specs.Messages.{IsTold};
+ghost use Rattle.cap_octet.specs.Views.{device_view, fresh_input, fresh_output, output_view};
 ghost use Rattle.cap_tools.specs.Bounds.{IsLight, ReadsNothing, StepReads, most_turns};
-ghost use Rattle.cap_tools.specs.Call.{call_of, device_view, run_result};
-ghost use Rattle.cap_tools.specs.Commands.{RunsCommand};
+ghost use Rattle.cap_command.specs.Call.{call_of, run_result};
 ghost use Rattle.cap_inputs.specs.Inputs.{most_steps, steps_left};
 ghost use Rattle.cap_inputs.specs.Inputs as input_spec;
 ghost use Rattle.cap_tools.specs.Jobs.{end_status, end_message};
@@ -18,10 +18,10 @@ use crate::step::{JobEnd, close, decide, unwritten};
 use cap_command::{Command, Compile, Print};
 use cap_filter::compile::compile_text;
 use cap_filter::filter::Filter;
-use cap_filter::message::tell_no_memory;
 use cap_filter::refusal::Refusal;
 use cap_inputs::{InputCursor, Inputs, Next};
 use cap_octet::{Input, Output};
+use cap_packets::message::tell_no_memory;
 use cap_packets::{JobOutput, Selector};
 use flt_bpf::Program;
 use std::alloc::Allocator;
@@ -62,7 +62,7 @@ impl<I: Input, O: Output, E: Output, A: Allocator> Model for Job<I, O, E, A> {
     ghost use Rattle.cap_tools.specs.Bounds.{HasFewTurns, IsBounded};
     ghost use Rattle.cap_tools.specs.Commands.{IsReadyIf};
     ghost use Rattle.cap_inputs.specs.Inputs.{most_steps, steps_left};
-    ghost use Rattle.cap_tools.specs.Jobs.{JobView, IsCounted, machine_at};
+    ghost use Rattle.cap_tools.specs.Jobs.{JobView, IsCounted, state_at};
     ghost use Rattle.cap_packets.specs.Output.{output_at};
     ghost use Rattle.cap_packets.specs.Selector.{HasFewMarks, HavePrograms};
     ghost use Rattle.cap_tools.specs.Start.{preparing_of};
@@ -73,7 +73,7 @@ impl<I: Input, O: Output, E: Output, A: Allocator> Model for Job<I, O, E, A> {
 
     ghost view = { λ j. record {
       preparing = option_map preparing_of j.preparation;
-      machine = machine_at j.inputs j.selector (output_at j.messages.names j.output) j.decided;
+      state = state_at j.inputs j.selector (output_at j.messages.names j.output) j.decided;
       programs = j.selector.programs;
       err = j.messages.device;
       turns = j.turns;
@@ -88,7 +88,7 @@ impl<I: Input, O: Output, E: Output, A: Allocator> Model for Job<I, O, E, A> {
         × HasFewTurns j.done j.turns j.inputs
         × IsReadyIf (option_map preparing_of j.preparation) (record {
           preparing = option_map preparing_of j.preparation;
-          machine = machine_at j.inputs j.selector (output_at j.messages.names j.output) j.decided;
+          state = state_at j.inputs j.selector (output_at j.messages.names j.output) j.decided;
           programs = j.selector.programs;
           err = j.messages.device;
           turns = j.turns;
@@ -107,17 +107,16 @@ fn status_at_end(end: JobEnd) -> u8
 
 impl<I: Input, O: Output, E: Output, A: Allocator + Copy + Drop> Job<I, O, E, A> {
     ghost use Rattle.cap_filter.specs.Filters.{AreNew, programs_of, rule_of};
-    ghost use Rattle.cap_filter.specs.Messages.{refusal_status};
-    ghost use Rattle.cap_tools.specs.Commands.{CompileGives, DecidedBy, FilterGives, GivesBy};
+    ghost use Rattle.cap_filter.specs.Refusals.{refusal_status};
+    ghost use Rattle.cap_tools.specs.Commands.{CompileGives, DecidedBy, FilterGives};
     ghost use Rattle.cap_tools.specs.Commands.{StepKeeps, KeepsFirst, PreparesBy, PreparesOnly};
     ghost use Rattle.cap_tools.specs.Commands.{StepReadsBy};
     ghost use Rattle.cap_tools.specs.FirstStep.{EndsList, IsFresh, RefusesStart, filtering};
     ghost use Rattle.cap_tools.specs.FirstStep.{is_text};
     ghost use Rattle.cap_tools.specs.Jobs.{IsStatus, JobGives, done_by, first_job};
-    ghost use Rattle.cap_inputs.specs.Fresh.{fresh_input};
     ghost use Rattle.cap_tools.specs.Jobs.{turn_goes_on};
     ghost use Rattle.cap_inputs.specs.Fresh.{nothing_done};
-    ghost use Rattle.cap_tools.specs.Machine.{failures_by, written_by};
+    ghost use Rattle.cap_tools.specs.Packets.{failures_by, written_by};
     ghost use Rattle.cap_packets.specs.Selector.{HavePrograms};
     ghost use Rattle.cap_tools.specs.Start.{asked_by};
     ghost use Rattle.cap_tools.specs.Step.{IsStep, ending};
@@ -136,8 +135,8 @@ impl<I: Input, O: Output, E: Output, A: Allocator + Copy + Drop> Job<I, O, E, A>
         I: Drop,
         requires proper { is_proper command (vec_len inputs) ≡ true }
         ensures fresh { IfOk result (λ job. job ≡ first_job (assignment command)
-            (call_of I.Input O.Output E.Output (map string_bytes names.items) inputs.items out
-            err)) }
+            (call_of (map string_bytes names.items) (map (fresh_input I.Input) inputs.items)
+            (fresh_output O.Output out) (fresh_output E.Output err))) }
         ensures decided { IfOk result (λ job. DecidedBy job.preparing
             (map nothing_done (map (fresh_input I.Input) inputs.items)) (O.written out) job) }
         ensures refused { IfErr result (λ devices. (devices.0 ≡ out) × (devices.1 ≡ err)) }
@@ -178,7 +177,7 @@ impl<I: Input, O: Output, E: Output, A: Allocator + Copy + Drop> Job<I, O, E, A>
         ensures after { (s : ℕ) → self.old.done ≡ Some s → (result ≡ Turn.Done s)
             × (self.new ≡ self.old) }
         ensures exact { IsTrue I.tells → IsTrue O.tells → self.old.done ≡ None
-            → GivesBy self.old.preparing E.tells self.old result self.new }
+            → self.old.preparing ≡ None → JobGives E.tells self.old result self.new }
         ensures prepares { PreparesBy self.old.preparing O.tells E.tells self.old result self.new }
         ensures keeps { StepKeeps self.old result self.new }
         ensures reads { StepReadsBy self.old.preparing I.tells (turn_goes_on result)
@@ -213,7 +212,7 @@ impl<I: Input, O: Output, E: Output, A: Allocator + Copy + Drop> Job<I, O, E, A>
     fn compile(&mut self, compile: &Compile<A>) -> Turn
         requires fresh { IsFresh self.old }
         requires taken { self.old.preparing ≡ None }
-        requires text { is_text self.old.machine.output.target ≡ true }
+        requires text { is_text self.old.state.output.target ≡ true }
         ensures gives { IsTrue O.tells → CompileGives (string_bytes compile.now.expr)
             compile.now.link E.tells self.old result self.new }
         ensures keeps { KeepsFirst self.old result self.new }
@@ -240,16 +239,16 @@ impl<I: Input, O: Output, E: Output, A: Allocator + Copy + Drop> Job<I, O, E, A>
         ensures status { IsStatus result }
         ensures turns { self.old.done ≡ None → self.new.turns ≡ self.old.turns + 1 }
         ensures upper_bound { self.old.done ≡ None → self.new.turns
-            ≤ most_turns self.old.machine.inputs + 1 }
+            ≤ most_turns self.old.state.inputs + 1 }
         ensures reads { StepReads I.tells (turn_goes_on result) self.old
             self.new }
-        ensures light { IsLight self.new.machine }
-        ensures sound { HavePrograms self.new.machine.policy self.new.programs }
+        ensures light { IsLight self.new.state }
+        ensures sound { HavePrograms self.new.state.policy self.new.programs }
         ensures quiet { result ≡ Turn.More → self.new.err ≡ self.old.err }
         ensures left { result ≡ Turn.More → (self.new.turns ≡ self.old.turns + 1)
-            × (steps_left self.new.machine.inputs < steps_left self.old.machine.inputs) }
-        ensures kept { (self.new.machine.output.names ≡ self.old.machine.output.names)
-            × (self.new.machine.policy ≡ self.old.machine.policy) }
+            × (steps_left self.new.state.inputs < steps_left self.old.state.inputs) }
+        ensures kept { (self.new.state.output.names ≡ self.old.state.output.names)
+            × (self.new.state.policy ≡ self.old.state.policy) }
     {
         if let Some(status) = self.done {
             return Turn::Done(status);
@@ -280,8 +279,8 @@ impl<I: Input, O: Output, E: Output, A: Allocator + Copy + Drop> Job<I, O, E, A>
     /// Decides the current packet of an input.
     fn decide_next(&mut self, input: usize) -> Option<JobEnd>
         requires prepared { self.old.preparing ≡ None }
-        requires next { input_spec.IsNext self.old.machine.inputs (Next.Decide input) }
-        requires within { input < length self.old.machine.inputs.cursors }
+        requires next { input_spec.IsNext self.old.state.inputs (Next.Decide input) }
+        requires within { input < length self.old.state.inputs.cursors }
         ensures { IsStep I.tells O.tells self.old result self.new }
     {
         let number = self.decided + 1;
@@ -304,8 +303,8 @@ impl<I: Input, O: Output, E: Output, A: Allocator + Copy + Drop> Job<I, O, E, A>
     /// input is.
     fn read_next(&mut self, input: usize) -> Option<JobEnd>
         requires prepared { self.old.preparing ≡ None }
-        requires next { input_spec.IsNext self.old.machine.inputs (Next.Read input) }
-        requires within { input < length self.old.machine.inputs.cursors }
+        requires next { input_spec.IsNext self.old.state.inputs (Next.Read input) }
+        requires within { input < length self.old.state.inputs.cursors }
         ensures { IsStep I.tells O.tells self.old result self.new }
     {
         if self.is_awaited && !self.release_before(input) {
@@ -327,8 +326,8 @@ impl<I: Input, O: Output, E: Output, A: Allocator + Copy + Drop> Job<I, O, E, A>
     /// Reads an input on.
     fn read_input(&mut self, input: usize) -> Option<JobEnd>
         requires prepared { self.old.preparing ≡ None }
-        requires next { input_spec.IsNext self.old.machine.inputs (Next.Read input) }
-        requires within { input < length self.old.machine.inputs.cursors }
+        requires next { input_spec.IsNext self.old.state.inputs (Next.Read input) }
+        requires within { input < length self.old.state.inputs.cursors }
         ensures { IsStep I.tells O.tells self.old result self.new }
     {
         match self.inputs.read_input(input) {
@@ -351,7 +350,7 @@ impl<I: Input, O: Output, E: Output, A: Allocator + Copy + Drop> Job<I, O, E, A>
     /// Ends the output.
     fn finish(&mut self) -> Option<JobEnd>
         requires prepared { self.old.preparing ≡ None }
-        requires next { input_spec.IsNext self.old.machine.inputs Next.Finish }
+        requires next { input_spec.IsNext self.old.state.inputs Next.Finish }
         ensures { IsStep I.tells O.tells self.old result self.new }
     {
         let first = self.inputs.first_link();
@@ -367,8 +366,8 @@ impl<I: Input, O: Output, E: Output, A: Allocator + Copy + Drop> Job<I, O, E, A>
         requires upper_bound { self.old.turns ≤ most_steps }
         ensures done { result ≡ Turn.Done (end_status end) }
         ensures ended { self.new ≡ ending end self.new.err self.old }
-        ensures exact { IsTold E.tells self.old.err (end_message self.old.machine.output.names
-            self.old.machine.inputs.cursors end) self.new.err }
+        ensures exact { IsTold E.tells self.old.err (end_message self.old.state.output.names
+            self.old.state.inputs.cursors end) self.new.err }
         ensures quiet { end ≡ JobEnd.Complete → self.new.err ≡ self.old.err }
     {
         self.messages.end(&self.inputs, end);
@@ -386,8 +385,8 @@ impl<I: Input, O: Output, E: Output, A: Allocator + Copy + Drop> Job<I, O, E, A>
         ensures more { result ≡ Turn.More }
         ensures filtered { self.new ≡ filtering (rule_of filter) count (programs_of filter)
             self.old }
-        ensures light { IsLight self.new.machine }
-        ensures sound { HavePrograms self.new.machine.policy self.new.programs }
+        ensures light { IsLight self.new.state }
+        ensures sound { HavePrograms self.new.state.policy self.new.programs }
     {
         self.selector = Selector::filtering(filter, count);
         self.turns += 1;
@@ -401,8 +400,8 @@ impl<I: Input, O: Output, E: Output, A: Allocator + Copy + Drop> Job<I, O, E, A>
         ensures done { result ≡ Turn.Done (refusal_status refusal) }
         ensures status { IsStatus result }
         ensures refused { RefusesStart refusal E.tells self.old (refusal_status refusal) self.new }
-        ensures light { IsLight self.new.machine }
-        ensures sound { HavePrograms self.new.machine.policy self.new.programs }
+        ensures light { IsLight self.new.state }
+        ensures sound { HavePrograms self.new.state.policy self.new.programs }
     {
         self.messages.refuse(refusal);
         let status = refusal.status();
@@ -415,18 +414,18 @@ impl<I: Input, O: Output, E: Output, A: Allocator + Copy + Drop> Job<I, O, E, A>
     fn list(&mut self, program: &Program<A>) -> Turn
         requires fresh { IsFresh self.old }
         requires taken { self.old.preparing ≡ None }
-        requires text { is_text self.old.machine.output.target ≡ true }
+        requires text { is_text self.old.state.output.target ≡ true }
         ensures exact { IsTrue O.tells → EndsList program.now.insns E.tells self.old result
             self.new }
         ensures prepared { self.new.preparing ≡ None }
         ensures done { self.new.done ≡ done_by result }
         ensures status { IsStatus result }
         ensures turns { self.new.turns ≡ self.old.turns + 1 }
-        ensures inputs { self.new.machine.inputs ≡ self.old.machine.inputs }
+        ensures inputs { self.new.state.inputs ≡ self.old.state.inputs }
         ensures reads { ReadsNothing self.old self.new }
-        ensures light { IsLight self.new.machine }
-        ensures sound { HavePrograms self.new.machine.policy self.new.programs }
-        ensures names { self.new.machine.output.names ≡ self.old.machine.output.names }
+        ensures light { IsLight self.new.state }
+        ensures sound { HavePrograms self.new.state.policy self.new.programs }
+        ensures names { self.new.state.output.names ≡ self.old.state.output.names }
         ensures ends { result ≡ Turn.More → ⊥ }
     {
         match self.output.list(program) {
@@ -438,9 +437,9 @@ impl<I: Input, O: Output, E: Output, A: Allocator + Copy + Drop> Job<I, O, E, A>
     /// The inputs, the output and the messages' device, as the last step left them. It takes no
     /// memory.
     pub fn into_devices(self) -> (Vec<InputCursor<I, A>, A>, O, E)
-        ensures inputs { result.0.items ≡ self.machine.inputs.cursors }
-        ensures written { O.written result.1 ≡ written_by self.machine }
-        ensures failures { O.failures result.1 ≡ failures_by self.machine }
+        ensures inputs { result.0.items ≡ self.state.inputs.cursors }
+        ensures written { O.written result.1 ≡ written_by self.state }
+        ensures failures { O.failures result.1 ≡ failures_by self.state }
         ensures messages { output_view (E.written result.2) (E.failures result.2) ≡ self.err }
     {
         let Job {
@@ -460,35 +459,12 @@ impl<I: Input, O: Output, E: Output, A: Allocator + Copy + Drop> Job<I, O, E, A>
     pub fn close(self) -> (O, E)
     where
         I: Drop,
-        ensures written { O.written result.0 ≡ written_by self.machine }
-        ensures failures { O.failures result.0 ≡ failures_by self.machine }
+        ensures written { O.written result.0 ≡ written_by self.state }
+        ensures failures { O.failures result.0 ≡ failures_by self.state }
         ensures messages { output_view (E.written result.1) (E.failures result.1) ≡ self.err }
     {
         let (_, out, err) = self.into_devices();
         (out, err)
-    }
-}
-
-/// Steps to the end, and returns the status.
-fn run_on<I, O, E, A>(mut job: Job<I, O, E, A>) -> (u8, O, E)
-where
-    I: Input + Drop,
-    O: Output,
-    E: Output,
-    A: Allocator + Copy + Drop,
-    ensures status { result.0 ≤ 2 }
-    ensures exact { IsTrue I.tells → IsTrue O.tells → job.done ≡ None
-        → RunsCommand E.tells job (run_result result.0 (device_view O.Output result.1)
-        (device_view E.Output result.2)) }
-{
-    loop {
-        match job.step() {
-            Turn::More => {}
-            Turn::Done(status) => {
-                let (out, err) = job.close();
-                return (status, out, err);
-            }
-        }
     }
 }
 
@@ -512,14 +488,24 @@ where
     requires proper { is_proper command (vec_len inputs) ≡ true }
     ensures status { result.0 ≤ 2 }
     ensures exact { IsTrue I.tells → IsTrue O.tells → CommandRuns (assignment command)
-        (call_of I.Input O.Output E.Output (map string_bytes names.items) inputs.items out err)
+        (call_of (map string_bytes names.items) (map (fresh_input I.Input) inputs.items)
+        (fresh_output O.Output out) (fresh_output E.Output err))
         (run_result result.0 (device_view O.Output result.1) (device_view E.Output result.2)) }
 {
-    match Job::new(alloc, command, names, inputs, out, err) {
-        Ok(job) => run_on(job),
+    let mut job = match Job::new(alloc, command, names, inputs, out, err) {
+        Ok(job) => job,
         Err((out, mut err)) => {
             let _ = tell_no_memory(&mut err);
-            (1, out, err)
+            return (1, out, err);
+        }
+    };
+    loop {
+        match job.step() {
+            Turn::More => {}
+            Turn::Done(status) => {
+                let (out, err) = job.close();
+                return (status, out, err);
+            }
         }
     }
 }

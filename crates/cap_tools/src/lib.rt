@@ -1,8 +1,7 @@
-//! Jobs: one machine for all commands.
+//! Jobs: one for all commands.
 #![tactic(auto)]
 
 mod job;
-mod jobs;
 mod messages;
 mod start;
 mod step;
@@ -10,4 +9,3 @@ mod step;
 pub use cap_command::{Command, Compile, Edit, Merge, Print, Shift};
 pub use cap_inputs::InputCursor;
 pub use job::{Job, Turn, run};
-pub use jobs::Jobs;

@@ -6,10 +6,10 @@ ghost use Rattle.cap_tools.specs.Jobs.{end_message};
 ghost use Rattle.cap_packets.specs.Reports.{name_at};
 
 use crate::step::JobEnd;
-use cap_filter::message::{tell_fault, tell_refusal, tell_write_failed};
 use cap_filter::refusal::Refusal;
 use cap_inputs::Inputs;
 use cap_octet::{DeviceFault, Input, Output};
+use cap_packets::message::{tell_fault, tell_refusal, tell_write_failed};
 use std::alloc::Allocator;
 use std::marker::Model;
 
@@ -24,7 +24,7 @@ pub struct Messages<E: Output, A: Allocator> {
 impl<E: Output, A: Allocator> Model for Messages<E, A> {
     ghost use Rattle.std.specs.Prelude.{map};
     ghost use Rattle.std.specs.String.{string_bytes};
-    ghost use Rattle.cap_filter.specs.Outcome.{output_view};
+    ghost use Rattle.cap_octet.specs.Views.{output_view};
     ghost use Rattle.cap_tools.specs.Messages.{MessagesView};
 
     ghost Value = { MessagesView };
@@ -38,8 +38,9 @@ impl<E: Output, A: Allocator> Model for Messages<E, A> {
 impl<E: Output, A: Allocator> Messages<E, A> {
     ghost use Rattle.std.specs.Prelude.{◌≡◌, map};
     ghost use Rattle.std.specs.String.{string_bytes};
-    ghost use Rattle.cap_filter.specs.Messages.{refusal_message};
-    ghost use Rattle.cap_filter.specs.Outcome.{IsTold, output_view};
+    ghost use Rattle.cap_packets.specs.Messages.{refusal_message};
+    ghost use Rattle.cap_packets.specs.Messages.{IsTold};
+    ghost use Rattle.cap_octet.specs.Views.{output_view};
     ghost use Rattle.cap_tools.specs.Jobs.{end_message};
     ghost use Rattle.cap_packets.specs.Reports.{name_at};
 

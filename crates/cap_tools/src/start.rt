@@ -5,7 +5,7 @@ ghost use Rattle.cap_command.specs.Command.{listing_of};
 ghost use Rattle.cap_filter.specs.FilterRules.{IsRule, IsWhy};
 ghost use Rattle.cap_filter.specs.Filters.{AreNew, programs_of, rule_of};
 ghost use Rattle.cap_packets.specs.Selector.{HavePrograms, policy_of, programs_in};
-ghost use Rattle.cap_inputs.specs.Sequence.{order_of};
+ghost use Rattle.cap_io.specs.Sequence.{order_of};
 ghost use Rattle.cap_tools.specs.Start.{assignment, lines_unless, preparing_of};
 
 use cap_command::{Command, Compile, Print};

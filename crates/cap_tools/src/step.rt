@@ -1,11 +1,10 @@
 //! The parts of a step: a packet is decided, or an input that was read to its end is reported.
 ghost use Rattle.std.specs.Prelude.{◌≡◌, ◌<◌, ◌≤◌, IsTrue, false, length, true};
 ghost use Rattle.cap_octet.specs.Packet.{captured};
-ghost use Rattle.cap_inputs.specs.Inputs.{most_steps};
 ghost use Rattle.cap_packets.specs.Output.{HasFewOutputInterfaces, output_at};
-ghost use Rattle.cap_packets.specs.Selector.{GrowsByOne, HasFewMarks, IsWithin, policy_state};
-ghost use Rattle.cap_tools.specs.Machine.{Closes, DecidesPacket, Offers, Spends, asks_report};
-ghost use Rattle.cap_tools.specs.Machine.{sieve, end_of_failed_write};
+ghost use Rattle.cap_packets.specs.Reports.{FitsTally};
+ghost use Rattle.cap_packets.specs.Selector.{GrowsByOne, HasFewMarks, policy_state};
+ghost use Rattle.cap_tools.specs.Packets.{Closes, DecidesPacket, Offers, Spends, asks_report, sieve, end_of_failed_write};
 
 use crate::messages::Messages;
 use cap_inputs::{InputCursor, Inputs};
@@ -54,7 +53,7 @@ pub(crate) fn decide<I: Input, O: Output, A: Allocator + Copy + Drop>(
 ) -> Result<bool, Fault>
     requires { cursor.now.waiting ≡ true }
     ensures exact { IsTrue O.tells → selector.old.state.passed < number
-        → IsWithin most_steps selector.old.state.tally
+        → FitsTally selector.old.state.tally
         → DecidesPacket cursor.now.source.packet number (sieve (policy_state selector.old)
         output.old)
         result (sieve (policy_state selector.new) output.new) }

@@ -9,7 +9,7 @@ use Rattle.cap_octet.specs.Date.{NANOS_PER_SECOND}
 use Rattle.cap_octet.specs.Digits.{number_of}
 use Rattle.cap_octet.specs.Seconds.{fraction_of, span_at, span_value, span_with, time_within}
 use Rattle.cap_octet.specs.Timestamp.{clock_with, date_time_value, day_with, number_at, optional_fraction, is_date_time, time_value, time_with}
-use Rattle.cap_command.specs.Command.{is_at_least_one, is_time, is_window, most_window}
+use Rattle.cap_command.specs.Command.{is_at_least_one, is_time, is_window, least_window, most_window}
 use Rattle.clap.specs.Words.{ReadsOne, Text}
 use Rattle.clap.specs.ValueTests.{is_numeral, is_unsigned_in}
 use Rattle.clap.specs.declared.builder.value_parser.ValueParser.TheVariants as parser
@@ -50,9 +50,9 @@ pub one_or_more : (most : ℕ) (number : Option ℕ) → IfSome number (λ n. (1
 one_or_more most None some = refl
 one_or_more most (Some n) some = le-leb 1 n some.0
 
-pub proper_window : (number : Option ℕ) → IfSome number (λ n. (2 ≤ n) × (n ≤ most_window)) → option_map_or is_window number true ≡ true
+pub proper_window : (number : Option ℕ) → IfSome number (λ n. (least_window ≤ n) × (n ≤ most_window)) → option_map_or is_window number true ≡ true
 proper_window None some = refl
-proper_window (Some n) some = and_from _ _ (le-leb 2 n some.0) (le-leb n most_window some.1)
+proper_window (Some n) some = and_from _ _ (le-leb least_window n some.0) (le-leb n most_window some.1)
 
 -- ---- times
 

@@ -8,6 +8,7 @@ use Rattle.std.proofs.lemmas.Bool.{and_from, eq-eqb, lt-ltb}
 use Rattle.cap_octet.specs.declared.format.Format.{Format}
 use Rattle.cap_command.specs.Command.{has_one_filter, has_one_output, is_at_least_one, is_proper}
 use Rattle.clap.specs.Words.{Row, Text, first_of}
+use Rattle.cap_arguments.specs.declared.ids.TheConstants as ids
 use Rattle.capkit.specs.Line.{IsPrintOf, flag_in, format_in, has_exclusion, has_expression, has_two_filters, has_two_outputs, is_ready, or_else, print_fault, texts_in}
 use Rattle.capkit.specs.declared.line.Line.{Line}
 use Rattle.capkit.specs.declared.usage.Usage.{Usage}
@@ -51,9 +52,9 @@ ready matches line is none one count =
     let unread : has_one_filter (string_bytes print.expr) print.code ≡ true =
     ap (has_one_filter (string_bytes print.expr)) is.unread ∙ or_true (nat_eq (length (string_bytes print.expr)) 0) in
     let output : has_one_output print.link print.bytes print.write ≡ true =
-    one_output (first_of (codes "OUT") matches) (format_in (codes "FORMAT") matches) print.write print.link print.bytes is.write
-    (ap (λ link. is_some (first_of (codes "OUT") matches) && (link || print.bytes)) is.link
-    ∙ ap (λ bytes. is_some (first_of (codes "OUT") matches) && (flag_in (codes "link") matches || bytes)) is.bytes ∙ outputs.0) in
+    one_output (first_of ids.OUT.now matches) (format_in ids.FORMAT.now matches) print.write print.link print.bytes is.write
+    (ap (λ link. is_some (first_of ids.OUT.now matches) && (link || print.bytes)) is.link
+    ∙ ap (λ bytes. is_some (first_of ids.OUT.now matches) && (flag_in ids.LINK_HEADER.now matches || bytes)) is.bytes ∙ outputs.0) in
     ap (λ command. is_proper command (vec_len line.inputs) && (is_none line.code || not (has_expression command))) is.command
     ∙ and_from _ _ (and_from _ _ (eq-eqb _ 1 one) (and_from _ _ unread (and_from _ _ output count)))
-    (one_filter (first_of (codes "LISTING") matches) line.code (texts_in (codes "WORD") matches) (string_bytes print.expr) is.code is.expr filters.0)
+    (one_filter (first_of ids.LISTING.now matches) line.code (texts_in ids.WORD.now matches) (string_bytes print.expr) is.code is.expr filters.0)

@@ -5,6 +5,7 @@ use Rattle.std.specs.List.{list_any}
 use Rattle.clap.specs.Words.{Row, Text, first_of}
 use Rattle.clap.specs.declared.error.Error.{Error}
 use Rattle.cap_command.specs.Command.{most_inputs, most_ranges}
+use Rattle.cap_arguments.specs.declared.ids.TheConstants as ids
 use Rattle.capkit.specs.Line.{Asks, IsUsageOf, IsLineOf, SaysFault, SaysLine, fault_in, files_in, has_bad_time, has_exclusion, has_two_shifts, or_else, read_names, text_in, texts_in}
 use Rattle.capkit.specs.Names.{uses_name_twice}
 use Rattle.capkit.specs.Range.{range_of}
@@ -44,15 +45,15 @@ exclusion_or_name false false e same = cc
 
 not_refused : (asked : Subcommand) (matches : List Row) (e : Error) → fault_in asked matches ≡ Some (Refused e) → ⊥
 not_refused sub.Edit matches e same =
-    let words = texts_in (codes "RANGE") matches in
+    let words = texts_in ids.RANGE.now matches in
     edit_or_name (nat_lt most_ranges (length words)) (list_any (λ word. is_none (range_of word)) words) (has_bad_time matches) (has_two_shifts matches)
-    (uses_name_twice (text_in (codes "IN") matches ∷ []) (Some (text_in (codes "OUT") matches))) e same
+    (uses_name_twice (text_in ids.IN.now matches ∷ []) (Some (text_in ids.OUT.now matches))) e same
 not_refused sub.Merge matches e same =
-    count_or_name (nat_lt most_inputs (length (files_in matches))) (uses_name_twice (files_in matches) (Some (text_in (codes "OUT") matches))) e same
+    count_or_name (nat_lt most_inputs (length (files_in matches))) (uses_name_twice (files_in matches) (Some (text_in ids.OUT.now matches))) e same
 not_refused sub.Infos matches e same =
     count_or_name (nat_lt most_inputs (length (files_in matches))) (uses_name_twice (files_in matches) None) e same
 not_refused sub.Print matches e same =
-    exclusion_or_name (has_exclusion matches) (uses_name_twice (read_names matches) (first_of (codes "OUT") matches)) e same
+    exclusion_or_name (has_exclusion matches) (uses_name_twice (read_names matches) (first_of ids.OUT.now matches)) e same
 not_refused sub.Compile matches e same = cc
 
 says : (words : List Text) (asked : Subcommand) (matches : List Row) (usage : Usage) → Asks words asked matches → IsUsageOf (fault_in asked matches) usage

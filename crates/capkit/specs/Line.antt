@@ -1,5 +1,5 @@
 -- What the words of a command line ask for.
-use Rattle.std.specs.Prelude.{◌≡◌, ◌&&◌, ◌||◌, ◌⊎◌, ℕ, Bool, false, not, List, [], ◌∷◌, length, map, nat_lt, codes, ◌-◌, ◌^◌}
+use Rattle.std.specs.Prelude.{◌≡◌, ◌&&◌, ◌||◌, ◌⊎◌, ℕ, Bool, false, not, List, [], ◌∷◌, length, map, nat_lt, codes}
 use Rattle.std.specs.Prelude.{Option, Some, None, is_none, is_some, option_map, unwrap_or, if◌then◌else◌, string_bytes, vec_len}
 use Rattle.std.specs.Global.{Global, Vec}
 use Rattle.std.specs.List.{join_by, list_any}
@@ -9,8 +9,10 @@ use Rattle.std.specs.Str.Parse.{digits_value, without_leading_plus}
 use Rattle.cap_octet.specs.Seconds.{span_value}
 use Rattle.cap_octet.specs.Timestamp.{time_value}
 use Rattle.cap_octet.specs.declared.format.Format.{Format}
-use Rattle.cap_octet.specs.declared.format.Format.TheVariants.{Pcap, NsecPcap, Pcapng}
-use Rattle.cap_command.specs.Command.{is_proper, most_inputs, most_ranges, most_window}
+use Rattle.cap_octet.specs.declared.format.Format.TheVariants.{Pcapng}
+use Rattle.cap_octet.specs.Format.{format_named}
+use Rattle.cap_octet.specs.Link.{link_named}
+use Rattle.cap_command.specs.Command.{is_proper, least_window, most_inputs, most_ranges, most_window}
 use Rattle.cap_command.specs.declared.command.Command.{Command}
 use Rattle.cap_command.specs.declared.command.Command.TheVariants as command
 use Rattle.cap_command.specs.declared.command.Compile.{Compile}
@@ -22,8 +24,9 @@ use Rattle.cap_command.specs.declared.command.Shift.TheVariants as shift
 use Rattle.clap.specs.ValueTests.{is_unsigned_in}
 use Rattle.clap.specs.Words.{Row, Text, all_of, first_of, one_of}
 use Rattle.cap_octet.specs.declared.link.Link.{Link}
-use Rattle.cap_octet.specs.declared.link.Link.TheVariants.{Ether, Raw, Cooked}
-use Rattle.cap_arguments.specs.Arguments.{RefusesWords, TakesWords, name_of}
+use Rattle.cap_octet.specs.declared.link.Link.TheVariants.{Ether}
+use Rattle.cap_arguments.specs.Arguments.{RefusesWords, TakesWords, most_32, most_64, name_of}
+use Rattle.cap_arguments.specs.declared.ids.TheConstants as ids
 use Rattle.capkit.specs.Names.{uses_name_twice}
 use Rattle.capkit.specs.Range.{range_of}
 use Rattle.cap_arguments.specs.declared.arguments.Subcommand.{Subcommand}
@@ -43,23 +46,13 @@ texts_in id matches = unwrap_or (all_of id matches) []
 abbrev pub flag_in : Text → List Row → Bool
 flag_in id matches = option_map_or (λ text. bytes_eq text (codes "true")) (one_of id matches) false
 
-abbrev pub format_named : Text → Format
-format_named text =
-    if bytes_eq text (codes "pcap") then Pcap
-    else (if bytes_eq text (codes "nsecpcap") then NsecPcap else Pcapng)
-
 -- pcapng where no format is named
 abbrev pub format_in : Text → List Row → Format
-format_in id matches = option_map_or format_named (first_of id matches) Pcapng
-
-abbrev pub link_named : Text → Link
-link_named text =
-    if bytes_eq text (codes "raw") then Raw
-    else (if bytes_eq text (codes "cooked") then Cooked else Ether)
+format_in id matches = unwrap_or (option_and_then format_named (first_of id matches)) Pcapng
 
 -- Ethernet where no link is named
 abbrev pub link_in : Text → List Row → Link
-link_in id matches = option_map_or link_named (first_of id matches) Ether
+link_in id matches = unwrap_or (option_and_then link_named (first_of id matches)) Ether
 
 -- the number from `least` to `most` that a text writes; a plus sign may be in front of it
 abbrev pub number_between : (least most : ℕ) → Text → Option ℕ
@@ -71,13 +64,6 @@ number_between least most text =
 abbrev pub argument_number : (least most : ℕ) → Text → List Row → Option ℕ
 argument_number least most id matches =
     option_and_then (number_between least most) (one_of id matches)
-
--- the greatest numbers of 32 and of 64 bits
-abbrev pub most_32 : ℕ
-most_32 = 2 ^ 32 - 1
-
-abbrev pub most_64 : ℕ
-most_64 = 2 ^ 64 - 1
 
 -- the time that an argument names, in nanoseconds since 1970-01-01 00:00:00 UTC
 abbrev pub time_in : Text → List Row → Option ℕ
@@ -94,18 +80,18 @@ shift_by None None = shift.None
 
 -- times are shifted by `--later` or `--earlier`
 abbrev pub shift_in : List Row → Shift
-shift_in matches = shift_by (span_in (codes "later") matches) (span_in (codes "earlier") matches)
+shift_in matches = shift_by (span_in ids.LATER.now matches) (span_in ids.EARLIER.now matches)
 
 -- the packets are written in the named format where `-w` names a capture, and else a line for each
 -- of them
 abbrev pub write_in : List Row → Option Format
 write_in matches =
-    option_map (λ name. format_in (codes "FORMAT") matches) (first_of (codes "OUT") matches)
+    option_map (λ name. format_in ids.FORMAT.now matches) (first_of ids.OUT.now matches)
 
 -- the expression: the words, with one blank between each two
 abbrev pub expression_in : List Row → Text
 expression_in matches =
-    join_by (λ (word : Text). word) (codes " ") (texts_in (codes "WORD") matches)
+    join_by (λ (word : Text). word) (codes " ") (texts_in ids.WORD.now matches)
 
 -- ---- faults of usage
 
@@ -131,8 +117,8 @@ is_bad_span id matches = is_some (first_of id matches) && is_none (span_in id ma
 
 abbrev pub has_bad_time : List Row → Bool
 has_bad_time matches =
-    is_bad_time (codes "start") matches || (is_bad_time (codes "stop") matches
-    || (is_bad_span (codes "later") matches || is_bad_span (codes "earlier") matches))
+    is_bad_time ids.START.now matches || (is_bad_time ids.STOP.now matches
+    || (is_bad_span ids.LATER.now matches || is_bad_span ids.EARLIER.now matches))
 
 abbrev pub time_fault : List Row → Option Usage
 time_fault matches = if has_bad_time matches then Some BadTime else None
@@ -140,7 +126,7 @@ time_fault matches = if has_bad_time matches then Some BadTime else None
 -- times can't be shifted both ways
 abbrev pub has_two_shifts : List Row → Bool
 has_two_shifts matches =
-    is_some (first_of (codes "later") matches) && is_some (first_of (codes "earlier") matches)
+    is_some (first_of ids.LATER.now matches) && is_some (first_of ids.EARLIER.now matches)
 
 abbrev pub shift_fault : List Row → Option Usage
 shift_fault matches = if has_two_shifts matches then Some OptionsExclude else None
@@ -148,15 +134,15 @@ shift_fault matches = if has_two_shifts matches then Some OptionsExclude else No
 -- after the ranges: a bad time, then options that exclude each other, then a name used twice
 abbrev pub option_fault : List Row → Option Usage
 option_fault matches = or_else (time_fault matches) (or_else (shift_fault matches)
-    (name_fault (text_in (codes "IN") matches ∷ []) (Some (text_in (codes "OUT") matches))))
+    (name_fault (text_in ids.IN.now matches ∷ []) (Some (text_in ids.OUT.now matches))))
 
 -- too many ranges, then a bad one, then a fault of the options
 abbrev pub edit_fault : List Row → Option Usage
-edit_fault matches = or_else (range_fault (texts_in (codes "RANGE") matches)) (option_fault matches)
+edit_fault matches = or_else (range_fault (texts_in ids.RANGE.now matches)) (option_fault matches)
 
 -- the names of the inputs of a command that has several: there is one at least
 abbrev pub files_in : List Row → List Text
-files_in matches = text_in (codes "FILE") matches ∷ texts_in (codes "MORE") matches
+files_in matches = text_in ids.FILE.now matches ∷ texts_in ids.MORE.now matches
 
 abbrev pub count_fault : List Text → Option Usage
 count_fault inputs = if nat_lt most_inputs (length inputs) then Some TooManyValues else None
@@ -166,7 +152,7 @@ abbrev pub files_fault : List Text → Option Text → Option Usage
 files_fault inputs output = or_else (count_fault inputs) (name_fault inputs output)
 
 abbrev pub merge_fault : List Row → Option Usage
-merge_fault matches = files_fault (files_in matches) (Some (text_in (codes "OUT") matches))
+merge_fault matches = files_fault (files_in matches) (Some (text_in ids.OUT.now matches))
 
 abbrev pub infos_fault : List Row → Option Usage
 infos_fault matches = files_fault (files_in matches) None
@@ -174,24 +160,24 @@ infos_fault matches = files_fault (files_in matches) None
 -- the names that are read: the capture's, and the listing's where there is one
 abbrev pub read_names : List Row → List Text
 read_names matches =
-    text_in (codes "FILE") matches ∷ option_to_list (first_of (codes "LISTING") matches)
+    text_in ids.FILE.now matches ∷ option_to_list (first_of ids.LISTING.now matches)
 
 -- a listing stands in place of an expression
 abbrev pub has_two_filters : List Row → Bool
 has_two_filters matches =
-    is_some (first_of (codes "LISTING") matches)
-    && nat_lt 0 (length (texts_in (codes "WORD") matches))
+    is_some (first_of ids.LISTING.now matches)
+    && nat_lt 0 (length (texts_in ids.WORD.now matches))
 
 -- a capture that is written has no lines, which could have link headers or bytes
 abbrev pub has_two_outputs : List Row → Bool
 has_two_outputs matches =
-    is_some (first_of (codes "OUT") matches)
-    && (flag_in (codes "link") matches || flag_in (codes "bytes") matches)
+    is_some (first_of ids.OUT.now matches)
+    && (flag_in ids.LINK_HEADER.now matches || flag_in ids.BYTES.now matches)
 
 -- lines have no format
 abbrev pub has_idle_format : List Row → Bool
 has_idle_format matches =
-    is_some (first_of (codes "FORMAT") matches) && is_none (first_of (codes "OUT") matches)
+    is_some (first_of ids.FORMAT.now matches) && is_none (first_of ids.OUT.now matches)
 
 abbrev pub has_exclusion : List Row → Bool
 has_exclusion matches =
@@ -204,41 +190,41 @@ exclusion_fault matches = if has_exclusion matches then Some OptionsExclude else
 abbrev pub print_fault : List Row → Option Usage
 print_fault matches =
     or_else (exclusion_fault matches)
-    (name_fault (read_names matches) (first_of (codes "OUT") matches))
+    (name_fault (read_names matches) (first_of ids.OUT.now matches))
 
 -- ---- lines
 
 -- the edit has what the options say, besides its ranges
 pub record HasOptions (matches : List Row) (edit : Edit Global) : Type 0 where
-  pub keep : edit.keep ≡ flag_in (codes "keep") matches
-  pub start : edit.start ≡ time_in (codes "start") matches
-  pub stop : edit.stop ≡ time_in (codes "stop") matches
+  pub keep : edit.keep ≡ flag_in ids.KEEP.now matches
+  pub start : edit.start ≡ time_in ids.START.now matches
+  pub stop : edit.stop ≡ time_in ids.STOP.now matches
   pub chop_start : edit.chop_start ≡
-      unwrap_or (argument_number 0 most_32 (codes "chop_start") matches) 0
-  pub chop_end : edit.chop_end ≡ unwrap_or (argument_number 0 most_32 (codes "chop_end") matches) 0
-  pub snap : edit.snap ≡ argument_number 1 most_32 (codes "snap") matches
+      unwrap_or (argument_number 0 most_32 ids.CHOP_START.now matches) 0
+  pub chop_end : edit.chop_end ≡ unwrap_or (argument_number 0 most_32 ids.CHOP_END.now matches) 0
+  pub snap : edit.snap ≡ argument_number 1 most_32 ids.SNAP.now matches
   pub shift : edit.shift ≡ shift_in matches
-  pub window : edit.window ≡ argument_number 2 most_window (codes "window") matches
-  pub format : edit.format ≡ format_in (codes "FORMAT") matches
+  pub window : edit.window ≡ argument_number least_window most_window ids.WINDOW.now matches
+  pub format : edit.format ≡ format_in ids.FORMAT.now matches
 
 -- the line is the edit that the matches ask for
 pub record IsEditOf (matches : List Row) (line : Line) : Type 0 where
   pub edit : Edit Global
   pub command : line.command ≡ command.Edit edit
-  pub ranges : map Some edit.ranges.items ≡ map range_of (texts_in (codes "RANGE") matches)
+  pub ranges : map Some edit.ranges.items ≡ map range_of (texts_in ids.RANGE.now matches)
   pub options : HasOptions matches edit
-  pub inputs : map string_bytes line.inputs.items ≡ text_in (codes "IN") matches ∷ []
-  pub output : option_map string_bytes line.output ≡ Some (text_in (codes "OUT") matches)
+  pub inputs : map string_bytes line.inputs.items ≡ text_in ids.IN.now matches ∷ []
+  pub output : option_map string_bytes line.output ≡ Some (text_in ids.OUT.now matches)
   pub code : line.code ≡ None
 
 -- the line is the merge that the matches ask for
 pub record IsMergeOf (matches : List Row) (line : Line) : Type 0 where
   pub merge : Merge
   pub command : line.command ≡ command.Merge merge
-  pub append : merge.append ≡ flag_in (codes "append") matches
-  pub format : merge.format ≡ format_in (codes "FORMAT") matches
+  pub append : merge.append ≡ flag_in ids.APPEND.now matches
+  pub format : merge.format ≡ format_in ids.FORMAT.now matches
   pub inputs : map string_bytes line.inputs.items ≡ files_in matches
-  pub output : option_map string_bytes line.output ≡ Some (text_in (codes "OUT") matches)
+  pub output : option_map string_bytes line.output ≡ Some (text_in ids.OUT.now matches)
   pub code : line.code ≡ None
 
 -- the line asks for the reports that the matches ask for
@@ -254,20 +240,20 @@ pub record IsPrintOf (matches : List Row) (line : Line) : Type 0 where
   pub command : line.command ≡ command.Print print
   pub expr : string_bytes print.expr ≡ expression_in matches
   pub unread : print.code ≡ None
-  pub count : print.count ≡ argument_number 1 most_64 (codes "count") matches
-  pub link : print.link ≡ flag_in (codes "link") matches
-  pub bytes : print.bytes ≡ flag_in (codes "bytes") matches
+  pub count : print.count ≡ argument_number 1 most_64 ids.COUNT.now matches
+  pub link : print.link ≡ flag_in ids.LINK_HEADER.now matches
+  pub bytes : print.bytes ≡ flag_in ids.BYTES.now matches
   pub write : print.write ≡ write_in matches
-  pub inputs : map string_bytes line.inputs.items ≡ text_in (codes "FILE") matches ∷ []
-  pub output : option_map string_bytes line.output ≡ first_of (codes "OUT") matches
-  pub code : option_map string_bytes line.code ≡ first_of (codes "LISTING") matches
+  pub inputs : map string_bytes line.inputs.items ≡ text_in ids.FILE.now matches ∷ []
+  pub output : option_map string_bytes line.output ≡ first_of ids.OUT.now matches
+  pub code : option_map string_bytes line.code ≡ first_of ids.LISTING.now matches
 
 -- the line is the compilation that the matches ask for
 pub record IsCompileOf (matches : List Row) (line : Line) : Type 0 where
   pub compile : Compile Global
   pub command : line.command ≡ command.Compile compile
   pub expr : string_bytes compile.expr ≡ expression_in matches
-  pub link : compile.link ≡ link_in (codes "LINK") matches
+  pub link : compile.link ≡ link_in ids.LINK.now matches
   pub inputs : line.inputs.items ≡ []
   pub output : line.output ≡ None
   pub code : line.code ≡ None

@@ -8,6 +8,7 @@ use crate::line::Line;
 use crate::print_line::expression;
 use crate::usage::Usage;
 use crate::values::link;
+use cap_arguments::ids;
 use cap_command::{Command, Compile};
 use clap::ArgMatches;
 use std::alloc::Global;
@@ -20,7 +21,7 @@ pub fn compile_line(alloc: Global, matches: &ArgMatches<'_>) -> Result<Line, Usa
 {
     let compile = Compile {
         expr: expression(alloc, matches)?,
-        link: link(matches, "LINK"),
+        link: link(matches, ids::LINK),
     };
     Ok(Line {
         command: Command::Compile(compile),

@@ -13,7 +13,8 @@ use crate::names::uses_name_twice;
 use crate::range::range_in;
 use crate::usage::Usage;
 use crate::values::{flag, format, short_number, span, text, text_if, texts, time};
-use cap_command::{Command, Edit, MOST_RANGES, MOST_WINDOW, Shift};
+use cap_arguments::ids;
+use cap_command::{Command, Edit, LEAST_WINDOW, MOST_RANGES, MOST_WINDOW, Shift};
 use clap::ArgMatches;
 use std::alloc::Global;
 
@@ -55,17 +56,17 @@ fn is_bad_span(matches: &ArgMatches<'_>, id: &str) -> bool
 fn has_bad_time(matches: &ArgMatches<'_>) -> bool
     ensures { result ≡ has_bad_time (rows_of (found_of matches.now)) }
 {
-    is_bad_time(matches, "start")
-        || is_bad_time(matches, "stop")
-        || is_bad_span(matches, "later")
-        || is_bad_span(matches, "earlier")
+    is_bad_time(matches, ids::START)
+        || is_bad_time(matches, ids::STOP)
+        || is_bad_span(matches, ids::LATER)
+        || is_bad_span(matches, ids::EARLIER)
 }
 
 /// Whether times are to be shifted both ways.
 fn has_two_shifts(matches: &ArgMatches<'_>) -> bool
     ensures { result ≡ has_two_shifts (rows_of (found_of matches.now)) }
 {
-    text_if(matches, "later").is_some() && text_if(matches, "earlier").is_some()
+    text_if(matches, ids::LATER).is_some() && text_if(matches, ids::EARLIER).is_some()
 }
 
 /// The first fault of the words of an edit, besides its ranges.
@@ -80,7 +81,7 @@ fn check(matches: &ArgMatches<'_>) -> Result<(), Usage>
     if has_two_shifts(matches) {
         return Err(Usage::OptionsExclude);
     }
-    if uses_name_twice(&[text(matches, "IN")], Some(text(matches, "OUT"))) {
+    if uses_name_twice(&[text(matches, ids::IN)], Some(text(matches, ids::OUT))) {
         return Err(Usage::NameUsedTwice);
     }
     Ok(())
@@ -91,7 +92,7 @@ fn shift(matches: &ArgMatches<'_>) -> Shift
     ensures value { result ≡ shift_in (rows_of (found_of matches.now)) }
     ensures proper { is_proper_shift result ≡ true }
 {
-    match (span(matches, "later"), span(matches, "earlier")) {
+    match (span(matches, ids::LATER), span(matches, ids::EARLIER)) {
         (Some(span), _) => Shift::Later(span),
         (None, Some(span)) => Shift::Earlier(span),
         (None, None) => Shift::None,
@@ -107,15 +108,15 @@ fn edit_of(matches: &ArgMatches<'_>, ranges: Vec<(u64, u64)>) -> Edit
 {
     Edit {
         ranges,
-        keep: flag(matches, "keep"),
-        start: time(matches, "start"),
-        stop: time(matches, "stop"),
-        chop_start: short_number(matches, "chop_start", 0, u32::MAX).unwrap_or(0),
-        chop_end: short_number(matches, "chop_end", 0, u32::MAX).unwrap_or(0),
-        snap: short_number(matches, "snap", 1, u32::MAX),
+        keep: flag(matches, ids::KEEP),
+        start: time(matches, ids::START),
+        stop: time(matches, ids::STOP),
+        chop_start: short_number(matches, ids::CHOP_START, 0, u32::MAX).unwrap_or(0),
+        chop_end: short_number(matches, ids::CHOP_END, 0, u32::MAX).unwrap_or(0),
+        snap: short_number(matches, ids::SNAP, 1, u32::MAX),
         shift: shift(matches),
-        window: short_number(matches, "window", 2, MOST_WINDOW),
-        format: format(matches, "FORMAT"),
+        window: short_number(matches, ids::WINDOW, LEAST_WINDOW, MOST_WINDOW),
+        format: format(matches, ids::FORMAT),
     }
 }
 
@@ -126,10 +127,10 @@ pub fn edit_line(alloc: Global, matches: &ArgMatches<'_>) -> Result<Line, Usage>
     ensures ready { IfOk result (λ line. is_ready line ≡ true) }
     ensures fault { IfErr result (IsUsageOf (edit_fault (rows_of (found_of matches.now)))) }
 {
-    let ranges = ranges_in(alloc, texts(matches, "RANGE"))?;
+    let ranges = ranges_in(alloc, texts(matches, ids::RANGE))?;
     check(matches)?;
-    let output = String::from_str(alloc, text(matches, "OUT"))?;
-    let inputs = owned_texts(alloc, &[text(matches, "IN")])?;
+    let output = String::from_str(alloc, text(matches, ids::OUT))?;
+    let inputs = owned_texts(alloc, &[text(matches, ids::IN)])?;
     Ok(Line {
         command: Command::Edit(edit_of(matches, ranges)),
         inputs,

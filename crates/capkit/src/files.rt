@@ -8,6 +8,7 @@ ghost use Rattle.capkit.specs.Line.{files_fault, files_in, IsUsageOf};
 use crate::names::uses_name_twice;
 use crate::usage::Usage;
 use crate::values::{text, texts};
+use cap_arguments::ids;
 use cap_command::MOST_INPUTS;
 use clap::ArgMatches;
 use std::alloc::{AllocError, Global};
@@ -18,8 +19,8 @@ fn names_in<'a>(alloc: Global, matches: &ArgMatches<'a>) -> Result<Vec<&'a str>,
         ≡ files_in (rows_of (found_of matches.entry.now))) }
 {
     let mut names = Vec::new(alloc);
-    names.push(text(matches, "FILE"))?;
-    names.extend_from_slice(texts(matches, "MORE"))?;
+    names.push(text(matches, ids::FILE))?;
+    names.extend_from_slice(texts(matches, ids::MORE))?;
     Ok(names)
 }
 

@@ -7,6 +7,7 @@ use crate::files::input_names;
 use crate::line::Line;
 use crate::usage::Usage;
 use crate::values::{flag, format, text};
+use cap_arguments::ids;
 use cap_command::{Command, Merge};
 use clap::ArgMatches;
 use std::alloc::Global;
@@ -18,10 +19,10 @@ pub fn merge_line(alloc: Global, matches: &ArgMatches<'_>) -> Result<Line, Usage
     ensures ready { IfOk result (λ line. is_ready line ≡ true) }
     ensures fault { IfErr result (IsUsageOf (merge_fault (rows_of (found_of matches.now)))) }
 {
-    let output = text(matches, "OUT");
+    let output = text(matches, ids::OUT);
     let merge = Merge {
-        append: flag(matches, "append"),
-        format: format(matches, "FORMAT"),
+        append: flag(matches, ids::APPEND),
+        format: format(matches, ids::FORMAT),
     };
     let inputs = input_names(alloc, matches, Some(output))?;
     let output = String::from_str(alloc, output)?;

@@ -1,11 +1,13 @@
 //! The line of a print.
 ghost use Rattle.std.specs.Prelude.{◌≡◌, ◌∷◌, ◌≤◌, IfOk, IfErr, IfSome, OnOk, Some, None};
-ghost use Rattle.std.specs.Prelude.{option_map, codes, string_bytes, true};
+ghost use Rattle.std.specs.Prelude.{option_map, string_bytes, true};
 ghost use Rattle.std.specs.Option.{option_map_or, option_to_list};
 ghost use Rattle.cap_command.specs.Command.{is_at_least_one};
 ghost use Rattle.clap.specs.Words.{found_of, rows_of};
 ghost use Rattle.capkit.specs.Line.{expression_in, flag_in, has_exclusion, has_idle_format};
-ghost use Rattle.capkit.specs.Line.{has_two_filters, has_two_outputs, is_ready, most_64};
+ghost use Rattle.capkit.specs.Line.{has_two_filters, has_two_outputs, is_ready};
+ghost use Rattle.cap_arguments.specs.Arguments.{most_64};
+ghost use Rattle.cap_arguments.specs.declared.ids.TheConstants.{BYTES, COUNT, LINK_HEADER};
 ghost use Rattle.capkit.specs.Line.{argument_number, print_fault, write_in, IsUsageOf, IsPrintOf};
 ghost use Rattle.capkit.specs.Names.{uses_name_twice};
 
@@ -14,6 +16,7 @@ use crate::line::Line;
 use crate::names::uses_name_twice;
 use crate::usage::Usage;
 use crate::values::{flag, format, number, text, text_if, texts};
+use cap_arguments::ids;
 use cap_command::{Command, Print};
 use cap_octet::Format;
 use clap::ArgMatches;
@@ -24,7 +27,7 @@ pub fn expression(alloc: Global, matches: &ArgMatches<'_>) -> Result<String, All
     ensures { IfOk result (λ expr. string_bytes expr
         ≡ expression_in (rows_of (found_of matches.now))) }
 {
-    let joined = texts(matches, "WORD").join(alloc, " ")?;
+    let joined = texts(matches, ids::WORD).join(alloc, " ")?;
     Ok(joined)
 }
 
@@ -55,21 +58,22 @@ fn names_clash(input: &str, listing: Option<&str>, output: Option<&str>) -> bool
 fn has_two_filters(matches: &ArgMatches<'_>) -> bool
     ensures { result ≡ has_two_filters (rows_of (found_of matches.now)) }
 {
-    text_if(matches, "LISTING").is_some() && !texts(matches, "WORD").is_empty()
+    text_if(matches, ids::LISTING).is_some() && !texts(matches, ids::WORD).is_empty()
 }
 
 /// Whether lines are to have link headers or bytes, where packets are written in place of lines.
 fn has_two_outputs(matches: &ArgMatches<'_>) -> bool
     ensures { result ≡ has_two_outputs (rows_of (found_of matches.now)) }
 {
-    text_if(matches, "OUT").is_some() && (flag(matches, "link") || flag(matches, "bytes"))
+    text_if(matches, ids::OUT).is_some()
+        && (flag(matches, ids::LINK_HEADER) || flag(matches, ids::BYTES))
 }
 
 /// Whether there is a format, and no capture that is written.
 fn has_idle_format(matches: &ArgMatches<'_>) -> bool
     ensures { result ≡ has_idle_format (rows_of (found_of matches.now)) }
 {
-    text_if(matches, "FORMAT").is_some() && text_if(matches, "OUT").is_none()
+    text_if(matches, ids::FORMAT).is_some() && text_if(matches, ids::OUT).is_none()
 }
 
 fn has_exclusion(matches: &ArgMatches<'_>) -> bool
@@ -87,8 +91,12 @@ fn check(matches: &ArgMatches<'_>) -> Result<(), Usage>
     if has_exclusion(matches) {
         return Err(Usage::OptionsExclude);
     }
-    let listing = text_if(matches, "LISTING");
-    if names_clash(text(matches, "FILE"), listing, text_if(matches, "OUT")) {
+    let listing = text_if(matches, ids::LISTING);
+    if names_clash(
+        text(matches, ids::FILE),
+        listing,
+        text_if(matches, ids::OUT),
+    ) {
         return Err(Usage::NameUsedTwice);
     }
     Ok(())
@@ -98,19 +106,19 @@ fn check(matches: &ArgMatches<'_>) -> Result<(), Usage>
 fn write(matches: &ArgMatches<'_>) -> Option<Format>
     ensures { result ≡ write_in (rows_of (found_of matches.now)) }
 {
-    match text_if(matches, "OUT") {
-        Some(_) => Some(format(matches, "FORMAT")),
+    match text_if(matches, ids::OUT) {
+        Some(_) => Some(format(matches, ids::FORMAT)),
         None => None,
     }
 }
 
 /// After how many packets the print ends.
 fn count(matches: &ArgMatches<'_>) -> Option<u64>
-    ensures value { result ≡ argument_number 1 most_64 (codes "count")
+    ensures value { result ≡ argument_number 1 most_64 COUNT.now
         (rows_of (found_of matches.now)) }
     ensures bounds { IfSome result (λ n. (1 ≤ n) × (n ≤ most_64)) }
 {
-    number(matches, "count", 1, u64::MAX)
+    number(matches, ids::COUNT, 1, u64::MAX)
 }
 
 /// The print of this expression, by its options; its listing is not yet read.
@@ -118,18 +126,18 @@ fn print_of(matches: &ArgMatches<'_>, expr: String) -> Print
     ensures expr { result.expr ≡ expr }
     ensures unread { result.code ≡ None }
     ensures count { result.count
-        ≡ argument_number 1 most_64 (codes "count") (rows_of (found_of matches.now)) }
+        ≡ argument_number 1 most_64 COUNT.now (rows_of (found_of matches.now)) }
     ensures proper { option_map_or is_at_least_one result.count true ≡ true }
-    ensures link { result.link ≡ flag_in (codes "link") (rows_of (found_of matches.now)) }
-    ensures bytes { result.bytes ≡ flag_in (codes "bytes") (rows_of (found_of matches.now)) }
+    ensures link { result.link ≡ flag_in LINK_HEADER.now (rows_of (found_of matches.now)) }
+    ensures bytes { result.bytes ≡ flag_in BYTES.now (rows_of (found_of matches.now)) }
     ensures write { result.write ≡ write_in (rows_of (found_of matches.now)) }
 {
     Print {
         expr,
         code: None,
         count: count(matches),
-        link: flag(matches, "link"),
-        bytes: flag(matches, "bytes"),
+        link: flag(matches, ids::LINK_HEADER),
+        bytes: flag(matches, ids::BYTES),
         write: write(matches),
     }
 }
@@ -143,9 +151,9 @@ pub fn print_line(alloc: Global, matches: &ArgMatches<'_>) -> Result<Line, Usage
 {
     check(matches)?;
     let expr = expression(alloc, matches)?;
-    let output = owned(alloc, text_if(matches, "OUT"))?;
-    let code = owned(alloc, text_if(matches, "LISTING"))?;
-    let inputs = owned_texts(alloc, &[text(matches, "FILE")])?;
+    let output = owned(alloc, text_if(matches, ids::OUT))?;
+    let code = owned(alloc, text_if(matches, ids::LISTING))?;
+    let inputs = owned_texts(alloc, &[text(matches, ids::FILE)])?;
     Ok(Line {
         command: Command::Print(print_of(matches, expr)),
         inputs,

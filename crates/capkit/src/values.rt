@@ -47,9 +47,8 @@ pub fn format(matches: &ArgMatches<'_>, id: &str) -> Format
     ensures { result ≡ format_in id.entry.now (rows_of (found_of matches.entry.now)) }
 {
     match text_if(matches, id) {
-        Some("pcap") => Format::Pcap,
-        Some("nsecpcap") => Format::NsecPcap,
-        _ => Format::Pcapng,
+        Some(name) => Format::named(name).unwrap_or(Format::Pcapng),
+        None => Format::Pcapng,
     }
 }
 
@@ -58,9 +57,8 @@ pub fn link(matches: &ArgMatches<'_>, id: &str) -> Link
     ensures { result ≡ link_in id.entry.now (rows_of (found_of matches.entry.now)) }
 {
     match text_if(matches, id) {
-        Some("raw") => Link::Raw,
-        Some("cooked") => Link::Cooked,
-        _ => Link::Ether,
+        Some(name) => Link::named(name).unwrap_or(Link::Ether),
+        None => Link::Ether,
     }
 }
 

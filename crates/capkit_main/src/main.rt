@@ -2,7 +2,7 @@
 #![tactic(auto)]
 
 use cap_streams::program::status;
-use cap_tools::Jobs;
+use capkit_engine::Jobs;
 use std::process::ExitCode;
 
 fn main(rt: HostRuntime) -> ExitCode {

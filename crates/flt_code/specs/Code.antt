@@ -23,7 +23,8 @@ use Rattle.flt_code.specs.declared.elementary.FieldTest.{FieldTest}
 use Rattle.flt_code.specs.declared.elementary.Elementary.{Elementary}
 use Rattle.flt_code.specs.declared.elementary.MaskedField.{MaskedField}
 use Rattle.flt_code.specs.declared.elementary.Elementary.TheVariants.{Outcome, Field}
-use Rattle.flt_code.specs.Elementary.{with, network}
+use Rattle.flt_code.specs.Elementary.{with}
+use Rattle.cap_octet.specs.Link.{network_offset}
 use Rattle.flt_code.specs.Follow.{fact, always, and_fact, and_fork, target}
 use Rattle.flt_code.specs.Numbers.{width_of}
 use Rattle.flt_code.specs.Formula.{Formula, Single, Compare, Both, Either, Except, Guard, Fork, Choose, Among}
@@ -139,8 +140,8 @@ emit_test t hit miss c =
 -- what loads an accessor's field where its first byte stands at the number in A
 abbrev pub emit_transport : Link → Width → List Insn → List Insn
 emit_transport link width c =
-    plain LoadHeaderLength (network link) ∷ plain (Compute arithmetic.Add IndexRegister) 0
-    ∷ plain CopyToIndex 0 ∷ plain (LoadIndirect width) (network link) ∷ c
+    plain LoadHeaderLength (network_offset link) ∷ plain (Compute arithmetic.Add IndexRegister) 0
+    ∷ plain CopyToIndex 0 ∷ plain (LoadIndirect width) (network_offset link) ∷ c
 
 abbrev pub emit_base : ℕ → Width → List Insn → List Insn
 emit_base at width c = plain CopyToIndex 0 ∷ plain (LoadIndirect width) at ∷ c
@@ -151,7 +152,7 @@ emit_accessor link Ether width c = emit_base 0 width c
 emit_accessor link Tcp width c = emit_transport link width c
 emit_accessor link Udp width c = emit_transport link width c
 emit_accessor link Icmp width c = emit_transport link width c
-emit_accessor link _ width c = emit_base (network link) width c
+emit_accessor link _ width c = emit_base (network_offset link) width c
 
 -- the left operand is in A when it goes into a word; later it comes back from there, and the right
 -- one is in X

@@ -1,15 +1,14 @@
--- The elementary tests, as a table for both links, and what they read of a packet.
+-- The elementary tests, as a table for every link, and what they read of a packet.
 use Rattle.std.specs.Prelude.{ℕ, ◌+◌, ◌%◌, ◌^◌, ◌==◌, not, nat_lt, nat_le, Bool, true, false, List, Option, Some, None, bit_and}
-use Rattle.cap_octet.specs.Assigned.{LINKTYPE_ETHERNET, LINKTYPE_RAW, LINKTYPE_LINUX_SLL}
 use Rattle.cap_octet.specs.Assigned.{ETHERTYPE_IPV4, ETHERTYPE_IPV6, ETHERTYPE_ARP, ETHERTYPE_RARP}
-use Rattle.cap_octet.specs.Assigned.{ETHERNET_TYPE_OFFSET, ETHERNET_HEADER_LENGTH, LINUX_SLL_TYPE_OFFSET, LINUX_SLL_HEADER_LENGTH}
+use Rattle.cap_octet.specs.Link.{network_offset, type_offset}
 use Rattle.flt_bpf.specs.declared.operation.Width.{Width}
 use Rattle.flt_bpf.specs.declared.operation.Width.TheVariants.{HalfWord, Byte}
 use Rattle.flt_bpf.specs.Machine.{field, header_length}
 use Rattle.flt_words.specs.declared.token.Comparison.{Comparison}
 use Rattle.flt_words.specs.declared.token.Comparison.TheVariants.{Equal, NotEqual, Less, AtMost, Greater, AtLeast}
 use Rattle.cap_octet.specs.declared.link.Link.{Link}
-use Rattle.cap_octet.specs.declared.link.Link.TheVariants.{Ether, Raw, Cooked}
+use Rattle.cap_octet.specs.declared.link.Link.TheVariants.{Ether}
 use Rattle.flt_code.specs.declared.elementary.FrameKind.{FrameKind}
 use Rattle.flt_code.specs.declared.elementary.FrameKind.TheVariants.{Ethernet, Ip, Ip6, Arp, Rarp}
 use Rattle.flt_code.specs.declared.elementary.Offset.{Offset}
@@ -101,43 +100,39 @@ compares_at offset width comparison value =
       value = value;
     })
 
--- the link type of a link
-abbrev pub link_type : Link → ℕ
-link_type Ether = LINKTYPE_ETHERNET
-link_type Raw = LINKTYPE_RAW
-link_type Cooked = LINKTYPE_LINUX_SLL
+-- the EtherType at a place in the link header is this number; raw IP has none
+abbrev pub has_type_at : Option ℕ → ℕ → Elementary
+has_type_at None n = Outcome false
+has_type_at (Some at) n = is_at at HalfWord n
 
--- where the network header begins
-abbrev pub network : Link → ℕ
-network Ether = ETHERNET_HEADER_LENGTH
-network Raw = 0
-network Cooked = LINUX_SLL_HEADER_LENGTH
+abbrev pub has_type : Link → ℕ → Elementary
+has_type link n = has_type_at (type_offset link) n
 
--- a frame is of a kind: by the type in its Ethernet header, else by the version in its first byte
+-- a frame is of a kind: by the EtherType at a place, or of raw IP by the version in its first byte
+abbrev pub type_test : Option ℕ → FrameKind → Elementary
+type_test type_offset Ethernet = Outcome false
+type_test None Ip = is_masked 0 Byte 0xf0 0x40
+type_test None Ip6 = is_masked 0 Byte 0xf0 0x60
+type_test at Ip = has_type_at at ETHERTYPE_IPV4
+type_test at Ip6 = has_type_at at ETHERTYPE_IPV6
+type_test at Arp = has_type_at at ETHERTYPE_ARP
+type_test at Rarp = has_type_at at ETHERTYPE_RARP
+
+abbrev pub is_ethernet : Link → Bool
+is_ethernet Ether = true
+is_ethernet _ = false
+
 abbrev pub kind_test : Link → FrameKind → Elementary
-kind_test Ether Ethernet = Outcome true
-kind_test Ether Ip = is_at ETHERNET_TYPE_OFFSET HalfWord ETHERTYPE_IPV4
-kind_test Ether Ip6 = is_at ETHERNET_TYPE_OFFSET HalfWord ETHERTYPE_IPV6
-kind_test Ether Arp = is_at ETHERNET_TYPE_OFFSET HalfWord ETHERTYPE_ARP
-kind_test Ether Rarp = is_at ETHERNET_TYPE_OFFSET HalfWord ETHERTYPE_RARP
-kind_test Raw Ethernet = Outcome false
-kind_test Raw Ip = is_masked 0 Byte 0xf0 0x40
-kind_test Raw Ip6 = is_masked 0 Byte 0xf0 0x60
-kind_test Raw Arp = Outcome false
-kind_test Raw Rarp = Outcome false
-kind_test Cooked Ethernet = Outcome false
-kind_test Cooked Ip = is_at LINUX_SLL_TYPE_OFFSET HalfWord ETHERTYPE_IPV4
-kind_test Cooked Ip6 = is_at LINUX_SLL_TYPE_OFFSET HalfWord ETHERTYPE_IPV6
-kind_test Cooked Arp = is_at LINUX_SLL_TYPE_OFFSET HalfWord ETHERTYPE_ARP
-kind_test Cooked Rarp = is_at LINUX_SLL_TYPE_OFFSET HalfWord ETHERTYPE_RARP
+kind_test link Ethernet = Outcome (is_ethernet link)
+kind_test link kind = type_test (type_offset link) kind
 
 -- an IPv4 packet is no fragment but the first
 abbrev pub first_fragment : Link → Elementary
-first_fragment link = is_masked (network link + 6) HalfWord 0x1fff 0
+first_fragment link = is_masked (network_offset link + 6) HalfWord 0x1fff 0
 
 -- the protocol behind an IPv4 header, and behind an IPv6 header
 abbrev pub has_ip_proto : Link → ℕ → Elementary
-has_ip_proto link n = is_at (network link + 9) Byte n
+has_ip_proto link n = is_at (network_offset link + 9) Byte n
 
 abbrev pub has_ip6_proto : Link → ℕ → Elementary
-has_ip6_proto link n = is_at (network link + 6) Byte n
+has_ip6_proto link n = is_at (network_offset link + 6) Byte n

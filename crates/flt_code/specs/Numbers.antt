@@ -12,7 +12,8 @@ use Rattle.flt_tree.specs.Tree.{NumberTree, literal, len, named, load, negated, 
 use Rattle.cap_octet.specs.declared.link.Link.{Link}
 use Rattle.flt_code.specs.declared.elementary.FrameKind.TheVariants as kind
 use Rattle.flt_code.specs.declared.elementary.Elementary.{Elementary}
-use Rattle.flt_code.specs.Elementary.{with, header_at, network, kind_test, has_ip_proto, first_fragment}
+use Rattle.flt_code.specs.Elementary.{with, header_at, kind_test, has_ip_proto, first_fragment}
+use Rattle.cap_octet.specs.Link.{network_offset}
 
 -- how many bytes are read: 1, 2 or 4
 abbrev pub width_of : ℕ → Width
@@ -21,10 +22,10 @@ width_of size = if size == 1 then Byte else if size == 2 then HalfWord else Word
 -- the place of byte 0 of a protocol: the frame, the network header, or what follows an IPv4 header
 abbrev pub base : Link → Protocol → List ℕ → Option ℕ
 base link Ether p = Some 0
-base link Tcp p = with (header_at p (network link)) (λ x. Some (x + network link))
-base link Udp p = with (header_at p (network link)) (λ x. Some (x + network link))
-base link Icmp p = with (header_at p (network link)) (λ x. Some (x + network link))
-base link _ p = Some (network link)
+base link Tcp p = with (header_at p (network_offset link)) (λ x. Some (x + network_offset link))
+base link Udp p = with (header_at p (network_offset link)) (λ x. Some (x + network_offset link))
+base link Icmp p = with (header_at p (network_offset link)) (λ x. Some (x + network_offset link))
+base link _ p = Some (network_offset link)
 
 -- two numbers with an operator between them, modulo 2^32; a shift by 32 or more gives 0, and there
 -- is no division by 0

@@ -19,5 +19,6 @@ pub use elementary::{
 pub use emit::{emit_all, emit_comparison, emit_elementary, emit_fork, emit_sides};
 pub use follow::Knowledge;
 pub use table::{
-    compares_at, first_fragment, has_ip_proto, has_ip6_proto, is_at, kind_test, network,
+    compares_at, first_fragment, has_ip_proto, has_ip6_proto, has_type, is_at, kind_test,
+    network_offset,
 };

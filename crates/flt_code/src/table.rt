@@ -1,28 +1,23 @@
-//! The table of elementary tests, for both links.
+//! The table of elementary tests, for every link.
 
-ghost use Rattle.std.specs.Prelude.{◌≡◌, ◌≤◌, Some, None};
-ghost use Rattle.flt_code.specs.Elementary.{network, is_at, is_masked, compares_at, kind_test};
+ghost use Rattle.std.specs.Prelude.{◌≡◌, ◌≤◌, IfSome, Some, None};
+ghost use Rattle.cap_octet.specs.Link.{longest_header, network_offset};
+ghost use Rattle.flt_code.specs.Elementary.{is_at, is_masked, compares_at, kind_test, type_test};
+ghost use Rattle.flt_code.specs.Elementary.{has_type, has_type_at};
 ghost use Rattle.flt_code.specs.Elementary.{first_fragment, has_ip_proto, has_ip6_proto};
 
 use crate::elementary::{Elementary, FieldTest, FrameKind, Offset};
 use cap_octet::Link;
-use cap_octet::assigned::{
-    ETHERNET_HEADER_LENGTH, ETHERNET_TYPE_OFFSET, ETHERTYPE_ARP, ETHERTYPE_IPV4, ETHERTYPE_IPV6,
-    ETHERTYPE_RARP, LINUX_SLL_HEADER_LENGTH, LINUX_SLL_TYPE_OFFSET,
-};
+use cap_octet::assigned::{ETHERTYPE_ARP, ETHERTYPE_IPV4, ETHERTYPE_IPV6, ETHERTYPE_RARP};
 use flt_bpf::operation::Width;
 use flt_words::Comparison;
 
 /// Where the network header begins.
-pub fn network(link: Link) -> u32
-    ensures place { result ≡ network link }
-    ensures near { result ≤ 16 }
+pub fn network_offset(link: Link) -> u32
+    ensures place { result ≡ network_offset link }
+    ensures near { result ≤ longest_header }
 {
-    match link {
-        Link::Ether => ETHERNET_HEADER_LENGTH as u32,
-        Link::Raw => 0,
-        Link::Cooked => LINUX_SLL_HEADER_LENGTH as u32,
-    }
+    link.header_length() as u32
 }
 
 /// The field at a place is a number.
@@ -58,34 +53,48 @@ pub fn compares_at(offset: Offset, width: Width, comparison: Comparison, value: 
     })
 }
 
-/// The link header has this EtherType at a place.
-fn has_type(at: usize, ethertype: u16) -> Elementary
-    requires { at ≤ 16 }
-    ensures { result ≡ is_at at Width.HalfWord ethertype }
+/// The EtherType at a place in the link header is this number. Raw IP has none.
+fn has_type_at(type_offset: Option<usize>, ethertype: u32) -> Elementary
+    requires { IfSome type_offset (λ at. at ≤ longest_header) }
+    ensures { result ≡ has_type_at type_offset ethertype }
 {
-    is_at(at as u32, Width::HalfWord, u32::from(ethertype))
+    match type_offset {
+        None => Elementary::Outcome(false),
+        Some(at) => is_at(at as u32, Width::HalfWord, ethertype),
+    }
 }
 
-/// A frame is of a kind: by the type in its Ethernet header, else by the version in its first byte.
+/// The EtherType in the link header is this number.
+pub fn has_type(link: Link, ethertype: u32) -> Elementary
+    ensures { result ≡ has_type link ethertype }
+{
+    has_type_at(link.type_offset(), ethertype)
+}
+
+/// A frame is of a kind: by the EtherType at a place, or of raw IP by the version in its first
+/// byte.
+fn type_test(type_offset: Option<usize>, kind: FrameKind) -> Elementary
+    requires { IfSome type_offset (λ at. at ≤ longest_header) }
+    ensures { result ≡ type_test type_offset kind }
+{
+    match (type_offset, kind) {
+        (_, FrameKind::Ethernet) => Elementary::Outcome(false),
+        (None, FrameKind::Ip) => is_masked(0, Width::Byte, 0xf0, 0x40),
+        (None, FrameKind::Ip6) => is_masked(0, Width::Byte, 0xf0, 0x60),
+        (at, FrameKind::Ip) => has_type_at(at, u32::from(ETHERTYPE_IPV4)),
+        (at, FrameKind::Ip6) => has_type_at(at, u32::from(ETHERTYPE_IPV6)),
+        (at, FrameKind::Arp) => has_type_at(at, u32::from(ETHERTYPE_ARP)),
+        (at, FrameKind::Rarp) => has_type_at(at, u32::from(ETHERTYPE_RARP)),
+    }
+}
+
+/// A frame is of a kind.
 pub fn kind_test(link: Link, kind: FrameKind) -> Elementary
     ensures { result ≡ kind_test link kind }
 {
-    match (link, kind) {
-        (Link::Ether, FrameKind::Ethernet) => Elementary::Outcome(true),
-        (Link::Ether, FrameKind::Ip) => has_type(ETHERNET_TYPE_OFFSET, ETHERTYPE_IPV4),
-        (Link::Ether, FrameKind::Ip6) => has_type(ETHERNET_TYPE_OFFSET, ETHERTYPE_IPV6),
-        (Link::Ether, FrameKind::Arp) => has_type(ETHERNET_TYPE_OFFSET, ETHERTYPE_ARP),
-        (Link::Ether, FrameKind::Rarp) => has_type(ETHERNET_TYPE_OFFSET, ETHERTYPE_RARP),
-        (Link::Raw, FrameKind::Ip) => is_masked(0, Width::Byte, 0xf0, 0x40),
-        (Link::Raw, FrameKind::Ip6) => is_masked(0, Width::Byte, 0xf0, 0x60),
-        (Link::Raw, FrameKind::Ethernet | FrameKind::Arp | FrameKind::Rarp) => Elementary::Outcome(
-            false,
-        ),
-        (Link::Cooked, FrameKind::Ethernet) => Elementary::Outcome(false),
-        (Link::Cooked, FrameKind::Ip) => has_type(LINUX_SLL_TYPE_OFFSET, ETHERTYPE_IPV4),
-        (Link::Cooked, FrameKind::Ip6) => has_type(LINUX_SLL_TYPE_OFFSET, ETHERTYPE_IPV6),
-        (Link::Cooked, FrameKind::Arp) => has_type(LINUX_SLL_TYPE_OFFSET, ETHERTYPE_ARP),
-        (Link::Cooked, FrameKind::Rarp) => has_type(LINUX_SLL_TYPE_OFFSET, ETHERTYPE_RARP),
+    match kind {
+        FrameKind::Ethernet => Elementary::Outcome(matches!(link, Link::Ether)),
+        _ => type_test(link.type_offset(), kind),
     }
 }
 
@@ -93,19 +102,19 @@ pub fn kind_test(link: Link, kind: FrameKind) -> Elementary
 pub fn first_fragment(link: Link) -> Elementary
     ensures { result ≡ first_fragment link }
 {
-    is_masked(network(link) + 6, Width::HalfWord, 0x1fff, 0)
+    is_masked(network_offset(link) + 6, Width::HalfWord, 0x1fff, 0)
 }
 
 /// The protocol behind an IPv4 header (RFC 791, section 3.1).
 pub fn has_ip_proto(link: Link, protocol: u32) -> Elementary
     ensures { result ≡ has_ip_proto link protocol }
 {
-    is_at(network(link) + 9, Width::Byte, protocol)
+    is_at(network_offset(link) + 9, Width::Byte, protocol)
 }
 
 /// The protocol behind an IPv6 header (RFC 8200, section 3).
 pub fn has_ip6_proto(link: Link, protocol: u32) -> Elementary
     ensures { result ≡ has_ip6_proto link protocol }
 {
-    is_at(network(link) + 6, Width::Byte, protocol)
+    is_at(network_offset(link) + 6, Width::Byte, protocol)
 }

@@ -18,7 +18,6 @@ use Rattle.flt_tree.specs.Tree.{NumberTree, literal, len, named, load, negated, 
 use Rattle.flt_tree.specs.Counts as count
 use Rattle.flt_tree.specs.Resolved.{is_unfilled, any_primitive}
 use Rattle.cap_octet.specs.declared.link.Link.{Link}
-use Rattle.cap_octet.specs.declared.link.Link.TheVariants.{Ether, Raw, Cooked}
 use Rattle.flt_code.specs.declared.elementary.FrameKind.{FrameKind}
 use Rattle.flt_code.specs.declared.elementary.FrameKind.TheVariants as kind
 use Rattle.flt_code.specs.declared.elementary.Offset.{Offset}
@@ -66,9 +65,7 @@ proto_tests_fit : (link : Link) (p : Option Protocol) (n : ℕ) → tests (proto
 proto_tests_fit link None n = omega arith
 proto_tests_fit link (Some protocol.Ip) n = omega arith
 proto_tests_fit link (Some protocol.Ip6) n = omega arith
-proto_tests_fit Ether (Some protocol.Ether) n = omega arith
-proto_tests_fit Raw (Some protocol.Ether) n = omega arith
-proto_tests_fit Cooked (Some protocol.Ether) n = omega arith
+proto_tests_fit link (Some protocol.Ether) n = omega arith
 proto_tests_fit link (Some _) n = omega arith
 
 ether_tests_are : (link : Link) (d : Direction) (a : ℕ) → tests (ether_host link d a) ≡ count.ether_tests d
@@ -301,9 +298,7 @@ bare_proto_value : (link : Link) (p : Option Protocol) (n : ℕ) → Bare (proto
 bare_proto_value link None n = bare_proto link n
 bare_proto_value link (Some protocol.Ip) n = bare_guard _ _ (bare_one _)
 bare_proto_value link (Some protocol.Ip6) n = bare_guard _ _ (bare_one _)
-bare_proto_value Ether (Some protocol.Ether) n = bare_pair _ _
-bare_proto_value Raw (Some protocol.Ether) n = bare_pair _ _
-bare_proto_value Cooked (Some protocol.Ether) n = bare_one _
+bare_proto_value link (Some protocol.Ether) n = bare_one _
 bare_proto_value link (Some _) n = bare_one _
 
 bare_kind : (link : Link) (k : FrameKind) (net : NetTest) → Bare (hosts_of_kind link k (hosts.Net net) [])

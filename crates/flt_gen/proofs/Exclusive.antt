@@ -5,10 +5,10 @@ use Rattle.std.proofs.lemmas.Bool.Decides.{nat_tests}
 use Rattle.flt_bpf.specs.declared.operation.Width.TheVariants.{HalfWord, Byte}
 use Rattle.flt_bpf.specs.Machine.{field}
 use Rattle.cap_octet.specs.declared.link.Link.{Link}
-use Rattle.cap_octet.specs.declared.link.Link.TheVariants.{Ether, Raw, Cooked}
 use Rattle.flt_code.specs.declared.elementary.FrameKind.TheVariants.{Ip, Ip6, Arp, Rarp}
 use Rattle.flt_code.specs.declared.elementary.Elementary.{Elementary}
-use Rattle.flt_code.specs.Elementary.{Yes, No, reading_of, with, under_mask, elementary_reads, kind_test}
+use Rattle.cap_octet.specs.Link.{type_offset}
+use Rattle.flt_code.specs.Elementary.{Yes, No, reading_of, with, under_mask, elementary_reads, kind_test, type_test}
 use Rattle.flt_gen.proofs.Ascending.{Searchable}
 use Rattle.flt_code.specs.Formula.{Formula, Single, Compare, Both, Either, Except, Guard, Fork, Choose, Among, both, either, reads}
 
@@ -59,22 +59,31 @@ module _ (p : List ℕ) where
   excluded_no n link t (Fork u v a) h e = absurd h
   excluded_no n link t (Among f vs) h e = absurd h
 
+  -- by the place of the type in the link header
+  ip_or_ip6 : (place : Option ℕ) → Excludes (type_test place Ip) (type_test place Ip6)
+  ip_or_ip6 None = other_value (field p 0 Byte) (Some 0xf0) 0x40 0x60 refl
+  ip_or_ip6 (Some at) = other_value (field p at HalfWord) None 0x0800 0x86dd refl
+
+  ip_or_arp : (place : Option ℕ) → Excludes (type_test place Ip) (type_test place Arp)
+  ip_or_arp None = λ e. refl
+  ip_or_arp (Some at) = other_value (field p at HalfWord) None 0x0800 0x0806 refl
+
+  ip_or_rarp : (place : Option ℕ) → Excludes (type_test place Ip) (type_test place Rarp)
+  ip_or_rarp None = λ e. refl
+  ip_or_rarp (Some at) = other_value (field p at HalfWord) None 0x0800 0x8035 refl
+
+  arp_or_rarp : (place : Option ℕ) → Excludes (type_test place Arp) (type_test place Rarp)
+  arp_or_rarp None = λ e. refl
+  arp_or_rarp (Some at) = other_value (field p at HalfWord) None 0x0806 0x8035 refl
+
   pub ip_no_ip6 : (link : Link) → Excludes (kind_test link Ip) (kind_test link Ip6)
-  ip_no_ip6 Ether = other_value (field p 12 HalfWord) None 0x0800 0x86dd refl
-  ip_no_ip6 Raw = other_value (field p 0 Byte) (Some 0xf0) 0x40 0x60 refl
-  ip_no_ip6 Cooked = other_value (field p 14 HalfWord) None 0x0800 0x86dd refl
+  ip_no_ip6 link = ip_or_ip6 (type_offset link)
 
   pub ip_no_arp : (link : Link) → Excludes (kind_test link Ip) (kind_test link Arp)
-  ip_no_arp Ether = other_value (field p 12 HalfWord) None 0x0800 0x0806 refl
-  ip_no_arp Raw = λ e. refl
-  ip_no_arp Cooked = other_value (field p 14 HalfWord) None 0x0800 0x0806 refl
+  ip_no_arp link = ip_or_arp (type_offset link)
 
   pub ip_no_rarp : (link : Link) → Excludes (kind_test link Ip) (kind_test link Rarp)
-  ip_no_rarp Ether = other_value (field p 12 HalfWord) None 0x0800 0x8035 refl
-  ip_no_rarp Raw = λ e. refl
-  ip_no_rarp Cooked = other_value (field p 14 HalfWord) None 0x0800 0x8035 refl
+  ip_no_rarp link = ip_or_rarp (type_offset link)
 
   pub arp_no_rarp : (link : Link) → Excludes (kind_test link Arp) (kind_test link Rarp)
-  arp_no_rarp Ether = other_value (field p 12 HalfWord) None 0x0806 0x8035 refl
-  arp_no_rarp Raw = λ e. refl
-  arp_no_rarp Cooked = other_value (field p 14 HalfWord) None 0x0806 0x8035 refl
+  arp_no_rarp link = arp_or_rarp (type_offset link)

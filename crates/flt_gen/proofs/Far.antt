@@ -21,7 +21,7 @@ use Rattle.flt_code.specs.declared.elementary.Offset.{Offset}
 use Rattle.flt_code.specs.declared.elementary.Offset.TheVariants.{Fixed, AfterHeader}
 use Rattle.flt_code.specs.declared.elementary.Elementary.TheVariants.{Outcome, Field}
 use Rattle.flt_bpf.specs.Instructions.{operation_of, code_of}
-use Rattle.flt_code.specs.Elementary.{network}
+use Rattle.cap_octet.specs.Link.{network_offset}
 use Rattle.flt_code.specs.Numbers.{width_of}
 use Rattle.flt_code.specs.Formula.{Formula, Single, Compare, Both, Either, Except, Guard, Fork, Choose, Among}
 use Rattle.flt_code.specs.declared.code.Reach.TheVariants.{Near, YesFar, NoFar, BothFar}
@@ -185,7 +185,7 @@ accessor_needed link Ether w c h = base_needed 0 w c h
 accessor_needed link Tcp w c h = transport_needed link w c h
 accessor_needed link Udp w c h = transport_needed link w c h
 accessor_needed link Icmp w c h = transport_needed link w c h
-accessor_needed link _ w c h = base_needed (network link) w c h
+accessor_needed link _ w c h = base_needed (network_offset link) w c h
 
 number_needed : (link : Link) (e : NumberTree) (slot : ℕ) (c : List Insn) → JumpsAreNeeded c → JumpsAreNeeded (emit_number link e slot c)
 number_needed link (literal k) slot c h = needed_put c _ (λ e. absurd (omega arith)) h

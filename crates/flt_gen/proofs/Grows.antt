@@ -24,7 +24,7 @@ use Rattle.flt_bpf.specs.declared.fault.CheckFault.{CheckFault}
 use Rattle.flt_bpf.specs.declared.fault.CheckFault.TheVariants.{JumpOut, NoSuchWord, DivisionByZero, ShiftTooFar}
 use Rattle.flt_bpf.specs.Instructions.{operation_of}
 use Rattle.flt_bpf.specs.Check.{fault_of, unless, ends_in_return, IsFaultless}
-use Rattle.flt_code.specs.Elementary.{network}
+use Rattle.cap_octet.specs.Link.{network_offset}
 use Rattle.flt_code.specs.Numbers.{width_of}
 use Rattle.flt_code.specs.Formula.{Formula, Single, Compare, Both, Either, Except, Guard, Fork, Choose, Among}
 use Rattle.flt_tree.specs.Counts.{number_words, number_size}
@@ -209,14 +209,14 @@ base_grows at w c d m g = grows_put c _ (m + 1) (m + 4) _ (grows_put c d m (m + 
 
 transport_grows : (link : Link) (w : Width) (c d : List Insn) (m : ℕ) → Grows c d m → Grows c (emit_transport link w d) (m + 4)
 transport_grows link w c d m g =
-    grows_put c _ (m + 3) (m + 4) _ (grows_put c _ (m + 2) (m + 3) _ (grows_put c _ (m + 1) (m + 2) _ (grows_put c d m (m + 1) _ g (indirect_fine w (network link) (length d)) (omega arith)) (to_x_fine 0 _) (omega arith)) (add_fine 0 _) (omega arith)) (header_fine (network link) _) (omega arith)
+    grows_put c _ (m + 3) (m + 4) _ (grows_put c _ (m + 2) (m + 3) _ (grows_put c _ (m + 1) (m + 2) _ (grows_put c d m (m + 1) _ g (indirect_fine w (network_offset link) (length d)) (omega arith)) (to_x_fine 0 _) (omega arith)) (add_fine 0 _) (omega arith)) (header_fine (network_offset link) _) (omega arith)
 
 accessor_grows : (link : Link) (protocol : Protocol) (w : Width) (c d : List Insn) (m : ℕ) → Grows c d m → Grows c (emit_accessor link protocol w d) (m + 4)
 accessor_grows link Ether w c d m g = base_grows 0 w c d m g
 accessor_grows link Tcp w c d m g = transport_grows link w c d m g
 accessor_grows link Udp w c d m g = transport_grows link w c d m g
 accessor_grows link Icmp w c d m g = transport_grows link w c d m g
-accessor_grows link _ w c d m g = base_grows (network link) w c d m g
+accessor_grows link _ w c d m g = base_grows (network_offset link) w c d m g
 
 number_grows : (link : Link) (e : NumberTree) (slot : ℕ) (c d : List Insn) (m : ℕ) → slot + number_words e ≤ 16 → Grows c d m → Grows c (emit_number link e slot d) (m + 6 * number_size e)
 number_grows link (literal k) slot c d m upper_bound g = grows_put c d m _ _ g (literal_fine k (length d)) (omega arith)

@@ -20,7 +20,8 @@ use Rattle.cap_octet.specs.declared.link.Link.{Link}
 use Rattle.flt_code.specs.declared.elementary.FrameKind.TheVariants as kind
 use Rattle.flt_code.specs.declared.elementary.Offset.TheVariants.{Fixed}
 use Rattle.flt_code.specs.declared.elementary.Elementary.{Elementary}
-use Rattle.flt_code.specs.Elementary.{Reading, Yes, No, Rejected, reading_of, with, under_mask, network, kind_test, elementary_reads}
+use Rattle.flt_code.specs.Elementary.{Reading, Yes, No, Rejected, reading_of, with, under_mask, kind_test, elementary_reads}
+use Rattle.cap_octet.specs.Link.{network_offset}
 use Rattle.flt_code.specs.Formula.{both, either, all_of, sides, reads}
 use Rattle.flt_gen.specs.Counts.{tests}
 use Rattle.flt_gen.specs.Primitives.{partial_mask, address_test, ip6_test, ip6_tests, ip6_formula, value_formula}
@@ -62,7 +63,7 @@ sides_tests (direction.Both Or) prefix address s t = let l = side_tests prefix a
 sides_tests (direction.Both And) prefix address s t = let l = side_tests prefix address s in let m = side_tests prefix address t in omega arith
 
 pub needed_tests_fit : (link : Link) (k : ValueType) (p : Option Protocol) (d : Direction) (v : Value) → tests (value_needed link k p d v) ≤ count.typed_tests k p d v
-needed_tests_fit link Net p d (value.Ip6 a n) = let l = sides_tests d n a (network link + 8) (network link + 24) in omega arith
+needed_tests_fit link Net p d (value.Ip6 a n) = let l = sides_tests d n a (network_offset link + 8) (network_offset link + 24) in omega arith
 needed_tests_fit link Net p d (value.Number n m) = value_tests_fit link Net p d (value.Number n m)
 needed_tests_fit link Net p d (value.Dotted a m) = value_tests_fit link Net p d (value.Dotted a m)
 needed_tests_fit link Net p d (value.Mac a) = value_tests_fit link Net p d (value.Mac a)
@@ -215,7 +216,7 @@ module _ (link : Link) (p : List ℕ) (n : ℕ) where
   ip6_same : (d : Direction) (prefix : Option ℕ) (address : ℕ) → reads link (ip6_needed link d prefix address) p n ≡ reads link (ip6_formula link d prefix address) p n
   ip6_same d prefix address =
       ap (λ r. both (elementary_reads (kind_test link kind.Ip6) p) r)
-      (sides_same d _ _ _ _ (word_same prefix address (network link + 8)) (word_same prefix address (network link + 24)))
+      (sides_same d _ _ _ _ (word_same prefix address (network_offset link + 8)) (word_same prefix address (network_offset link + 24)))
 
   pub value_same : (k : ValueType) (q : Option Protocol) (d : Direction) (v : Value) → reads link (value_needed link k q d v) p n ≡ reads link (value_formula link k q d v) p n
   value_same Net q d (value.Ip6 a m) = ip6_same d m a

@@ -1,10 +1,10 @@
 -- The test of a kind of network header reads what the packet's network header is.
-use Rattle.std.proofs.Common.{◌≡◌, get_or-drop, ℕ, ◌+◌, ◌*◌, ◌/◌, ◌%◌, ◌<◌, List, length, drop, Bool, true, false, nat_lt, nat_le, ◌==◌, Some, None, refl, sym, ap, subst, ◌∙◌, arith, if◌then◌else◌}
+use Rattle.std.proofs.Common.{◌≡◌, get_or-drop, ℕ, ◌+◌, ◌*◌, ◌/◌, ◌%◌, ◌<◌, List, length, drop, Bool, true, false, nat_lt, nat_le, ◌==◌, Option, Some, None, refl, sym, ap, subst, ◌∙◌, arith, if◌then◌else◌}
 use Rattle.std.specs.Prelude.{◌↔◌, ◌^◌, All, bit_and, slice_index}
 use Rattle.std.proofs.lemmas.Bool.Decides.{nat_tests}
 use Rattle.std.proofs.lemmas.Grind.{and_high_numeral}
 use Rattle.cap_octet.specs.Assigned.{ETHERTYPE_IPV4, ETHERTYPE_IPV6, ETHERTYPE_ARP, ETHERTYPE_RARP}
-use Rattle.cap_octet.specs.NetworkHeader.{network_header, of_type, of_version}
+use Rattle.cap_octet.specs.NetworkHeader.{header_after, network_header, of_type, of_version}
 use Rattle.cap_octet.specs.Number.{u16_in, number_in}
 use Rattle.cap_octet.specs.declared.network.NetworkHeader.{NetworkHeader}
 use Rattle.cap_octet.specs.declared.network.NetworkHeader.TheVariants.{Known, OtherType, OtherVersion, Short}
@@ -14,9 +14,10 @@ use Rattle.cap_octet.specs.declared.number.Order.TheVariants.{Big}
 use Rattle.flt_bpf.specs.declared.operation.Width.TheVariants.{HalfWord}
 use Rattle.flt_bpf.specs.Machine.{big_endian_at}
 use Rattle.cap_octet.specs.declared.link.Link.{Link}
-use Rattle.cap_octet.specs.declared.link.Link.TheVariants.{Ether, Raw, Cooked}
-use Rattle.flt_code.specs.Elementary.{Reading, Yes, No, Rejected, reading_of, with, elementary_reads, is_at, kind_test, link_type}
-use Rattle.flt_gen.specs.Laws.{frame_kind, carries}
+use Rattle.cap_octet.specs.declared.link.Link.TheVariants.{Ether}
+use Rattle.flt_code.specs.Elementary.{Reading, Yes, No, Rejected, reading_of, with, elementary_reads, is_at, kind_test, type_test}
+use Rattle.cap_octet.specs.Link.{all_links, link_of, link_type, type_offset}
+use Rattle.flt_gen.specs.Laws.{frame_kind, carried, carries}
 
 -- a test reads what a packet's header is
 pub record Agrees (reading : Reading) (header : NetworkHeader) (kind : NetworkKind) (carried : Bool) : Type 0 where
@@ -185,7 +186,7 @@ module _ (kind : NetworkKind) (n m : ℕ) (times : m ≡ 16 * n) (is : (w : ℕ)
       go false false long none = absurd (grind (arith, nat_tests))
 
 -- raw IP isn't asked for ARP and RARP, and has none
-not_carried : (kind : NetworkKind) (p : List ℕ) → (IsIp (Known kind) → ⊥) → Agrees No (network_header (link_type Raw) p) kind false
+not_carried : (kind : NetworkKind) (p : List ℕ) → (IsIp (Known kind) → ⊥) → Agrees No (header_after None p) kind false
 not_carried kind p other = record {
   matches = (λ e. absurd (cc), λ e. absurd (go (length p == 0) e));
   rejects = (λ e. absurd (cc), λ e. absurd (let true_is = e.1 in cc));
@@ -195,17 +196,26 @@ not_carried kind p other = record {
     go true e = absurd (cc)
     go false e = not_ip (slice_index p 0 / 16) other e
 
+by_place : (place : Option ℕ) (kind : NetworkKind) (p : List ℕ) → All (λ b. b < 2 ^ 8) p
+    → Agrees (elementary_reads (type_test place (frame_kind kind)) p) (header_after place p) kind (carried place kind)
+by_place (Some at) Ipv4 p bytes = at_type at Ipv4 p
+by_place (Some at) Ipv6 p bytes = at_type at Ipv6 p
+by_place (Some at) Arp p bytes = at_type at Arp p
+by_place (Some at) Rarp p bytes = at_type at Rarp p
+by_place None Ipv4 p bytes = by_version Ipv4 4 0x40 refl is_four p bytes
+by_place None Ipv6 p bytes = by_version Ipv6 6 0x60 refl is_six p bytes
+by_place None Arp p bytes = not_carried Arp p (λ x. x)
+by_place None Rarp p bytes = not_carried Rarp p (λ x. x)
+
+-- a link type tells its link
+its_link : (link : Link) → link_of (link_type link) ≡ Some link
+unfolding all_links
+its_link Ether = refl
+its_link _ = refl
+
 pub agrees : (link : Link) (kind : NetworkKind) (p : List ℕ) → All (λ b. b < 2 ^ 8) p
     → Agrees (elementary_reads (kind_test link (frame_kind kind)) p) (network_header (link_type link) p) kind (carries link kind)
-agrees Ether Ipv4 p bytes = at_type 12 Ipv4 p
-agrees Ether Ipv6 p bytes = at_type 12 Ipv6 p
-agrees Ether Arp p bytes = at_type 12 Arp p
-agrees Ether Rarp p bytes = at_type 12 Rarp p
-agrees Raw Ipv4 p bytes = by_version Ipv4 4 0x40 refl is_four p bytes
-agrees Raw Ipv6 p bytes = by_version Ipv6 6 0x60 refl is_six p bytes
-agrees Raw Arp p bytes = not_carried Arp p (λ x. x)
-agrees Raw Rarp p bytes = not_carried Rarp p (λ x. x)
-agrees Cooked Ipv4 p bytes = at_type 14 Ipv4 p
-agrees Cooked Ipv6 p bytes = at_type 14 Ipv6 p
-agrees Cooked Arp p bytes = at_type 14 Arp p
-agrees Cooked Rarp p bytes = at_type 14 Rarp p
+agrees link Ipv4 p bytes = rw (its_link link) (by_place (type_offset link) Ipv4 p bytes)
+agrees link Ipv6 p bytes = rw (its_link link) (by_place (type_offset link) Ipv6 p bytes)
+agrees link Arp p bytes = rw (its_link link) (by_place (type_offset link) Arp p bytes)
+agrees link Rarp p bytes = rw (its_link link) (by_place (type_offset link) Rarp p bytes)

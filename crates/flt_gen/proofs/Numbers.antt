@@ -24,7 +24,8 @@ use Rattle.flt_words.specs.declared.token.Protocol.{Protocol}
 use Rattle.flt_words.specs.declared.token.Protocol.TheVariants.{Ether, Tcp, Udp, Icmp}
 use Rattle.flt_tree.specs.Tree.{NumberTree, literal, len, named, load, negated, applied}
 use Rattle.cap_octet.specs.declared.link.Link.{Link}
-use Rattle.flt_code.specs.Elementary.{with, network}
+use Rattle.flt_code.specs.Elementary.{with}
+use Rattle.cap_octet.specs.Link.{network_offset}
 use Rattle.flt_code.specs.Numbers.{width_of, base, result_of, number}
 use Rattle.flt_tree.specs.Counts.{number_words}
 use Rattle.flt_code.specs.Code.{plain, computation, takes, constant, constant_operand, branch_insn, emit_base, emit_transport, emit_accessor, emit_operands, emit_number}
@@ -186,12 +187,12 @@ module _ (p : List ℕ) (n : ℕ) where
   into_runs c' c slot s u long same None e = e
   into_runs c' c slot s u long same (Some v) e = (record u { accumulator = v }, record { long = long; kept = λ j l. ap (λ ws. slice_get ws j) same }, refl, e)
 
-  transport_runs : (link : Link) (w : Width) (c : List Insn) (slot : ℕ) (v : ℕ) (s : State) → length s.memory ≡ 16 → s.accumulator ≡ v → (o : Option ℕ) → field p (network link) Byte ≡ o → NumberRuns (emit_transport link w c) c slot s (with (with (with o (λ b. Some (header_length b))) (λ x. Some (x + network link))) (λ at. field p ((at + v) % 2 ^ 32) w))
+  transport_runs : (link : Link) (w : Width) (c : List Insn) (slot : ℕ) (v : ℕ) (s : State) → length s.memory ≡ 16 → s.accumulator ≡ v → (o : Option ℕ) → field p (network_offset link) Byte ≡ o → NumberRuns (emit_transport link w c) c slot s (with (with (with o (λ b. Some (header_length b))) (λ x. Some (x + network_offset link))) (λ at. field p ((at + v) % 2 ^ 32) w))
   transport_runs link w c slot v s long e None f =
-      run_header (network link) (plain (Compute arithmetic.Add IndexRegister) 0 ∷ plain CopyToIndex 0 ∷ plain (LoadIndirect w) (network link) ∷ c) s ∙ ap (λ o. answer_after (answer_of (plain (Compute arithmetic.Add IndexRegister) 0 ∷ plain CopyToIndex 0 ∷ plain (LoadIndirect w) (network link) ∷ c) p n) (into Index (option_map header_length o) s)) f
+      run_header (network_offset link) (plain (Compute arithmetic.Add IndexRegister) 0 ∷ plain CopyToIndex 0 ∷ plain (LoadIndirect w) (network_offset link) ∷ c) s ∙ ap (λ o. answer_after (answer_of (plain (Compute arithmetic.Add IndexRegister) 0 ∷ plain CopyToIndex 0 ∷ plain (LoadIndirect w) (network_offset link) ∷ c) p n) (into Index (option_map header_length o) s)) f
   transport_runs link w c slot v s long e (Some b) f =
       let x = header_length b in
-      let l = network link in
+      let l = network_offset link in
       let u : State = record { accumulator = (s.accumulator + x) % 2 ^ 32; index = (s.accumulator + x) % 2 ^ 32; memory = s.memory } in
       let to_x = run_header l (plain (Compute arithmetic.Add IndexRegister) 0 ∷ plain CopyToIndex 0 ∷ plain (LoadIndirect w) l ∷ c) s ∙ ap (λ o. answer_after (answer_of (plain (Compute arithmetic.Add IndexRegister) 0 ∷ plain CopyToIndex 0 ∷ plain (LoadIndirect w) l ∷ c) p n) (into Index (option_map header_length o) s)) f in
       let added = run_operator Add 0 (plain CopyToIndex 0 ∷ plain (LoadIndirect w) l ∷ c) (record s { index = x }) in
@@ -212,7 +213,7 @@ module _ (p : List ℕ) (n : ℕ) where
   accessor_runs link Tcp w c slot v s long e = transport_runs link w c slot v s long e _ refl
   accessor_runs link Udp w c slot v s long e = transport_runs link w c slot v s long e _ refl
   accessor_runs link Icmp w c slot v s long e = transport_runs link w c slot v s long e _ refl
-  accessor_runs link _ w c slot v s long e = base_runs (network link) w c slot v s long e
+  accessor_runs link _ w c slot v s long e = base_runs (network_offset link) w c slot v s long e
 
   -- code in front of c puts one number into A and another into X
   abbrev pub TwoRuns : List Insn → List Insn → ℕ → State → Option ℕ → Option ℕ → Type 0

@@ -12,7 +12,7 @@ use Rattle.flt_words.specs.declared.token.Operator.TheVariants.{Or, And, ShiftLe
 use Rattle.flt_words.specs.declared.token.Protocol.{Protocol}
 use Rattle.flt_words.specs.declared.token.Protocol.TheVariants.{Ether, Tcp, Udp, Icmp}
 use Rattle.flt_code.specs.declared.elementary.Elementary.{Elementary}
-use Rattle.flt_code.specs.Elementary.{network}
+use Rattle.cap_octet.specs.Link.{network_offset}
 use Rattle.flt_code.specs.Numbers.{width_of}
 use Rattle.flt_code.specs.declared.follow.Knowledge.{Knowledge}
 use Rattle.flt_code.specs.Follow.{and_fork, fact, always, and_fact, target}
@@ -436,7 +436,7 @@ module _ (p : List ℕ) (n : ℕ) where
   accessor_settled link Tcp w c h = transport_settled link w c h
   accessor_settled link Udp w c h = transport_settled link w c h
   accessor_settled link Icmp w c h = transport_settled link w c h
-  accessor_settled link _ w c h = base_settled (network link) w c h
+  accessor_settled link _ w c h = base_settled (network_offset link) w c h
 
   number_settled : (link : Link) (e : NumberTree) (slot : ℕ) (c : List Insn) → Calm c → Calm (emit_number link e slot c)
   number_settled link (literal k) slot c h = settled_put c _ refl h

@@ -17,7 +17,7 @@ use Rattle.cap_octet.specs.declared.link.Link.{Link}
 use Rattle.flt_code.specs.declared.elementary.Offset.{Offset}
 use Rattle.flt_code.specs.declared.elementary.Offset.TheVariants.{Fixed, AfterHeader}
 use Rattle.flt_code.specs.declared.elementary.Elementary.TheVariants.{Outcome, Field}
-use Rattle.flt_code.specs.Elementary.{network}
+use Rattle.cap_octet.specs.Link.{network_offset}
 use Rattle.flt_code.specs.Numbers.{width_of}
 use Rattle.flt_code.specs.Formula.{Formula, Single, Compare, Both, Either, Except, Guard, Fork, Choose, Among}
 use Rattle.flt_tree.specs.Counts.{number_size}
@@ -117,7 +117,7 @@ accessor_slim link Ether w c d m s = base_slim 0 w c d m s
 accessor_slim link Tcp w c d m s = transport_slim link w c d m s
 accessor_slim link Udp w c d m s = transport_slim link w c d m s
 accessor_slim link Icmp w c d m s = transport_slim link w c d m s
-accessor_slim link _ w c d m s = base_slim (network link) w c d m s
+accessor_slim link _ w c d m s = base_slim (network_offset link) w c d m s
 
 number_slim : (link : Link) (e : NumberTree) (slot : ℕ) (c d : List Insn) (m : ℕ) → Slim c d m → Slim c (emit_number link e slot d) (m + 6 * number_size e)
 number_slim link (literal k) slot c d m s = slim_put c d m _ _ s (λ e. absurd (omega arith)) (omega arith)

@@ -19,7 +19,7 @@ use Rattle.flt_code.specs.declared.elementary.Offset.TheVariants.{Fixed, AfterHe
 use Rattle.flt_code.specs.declared.elementary.FieldTest.{FieldTest}
 use Rattle.flt_code.specs.declared.elementary.Elementary.{Elementary}
 use Rattle.flt_code.specs.declared.elementary.Elementary.TheVariants.{Outcome, Field}
-use Rattle.flt_code.specs.Elementary.{network}
+use Rattle.cap_octet.specs.Link.{network_offset}
 use Rattle.flt_code.specs.Numbers.{width_of, accessor_tests}
 use Rattle.flt_code.specs.Formula.{Formula, Single, Compare, Both, Either, Except, Guard, Fork, Choose, Among}
 use Rattle.flt_code.specs.declared.code.Reach.{Reach}
@@ -96,7 +96,7 @@ accessor_extends link Ether w c d e = base_extends 0 w c d e
 accessor_extends link Tcp w c d e = transport_extends link w c d e
 accessor_extends link Udp w c d e = transport_extends link w c d e
 accessor_extends link Icmp w c d e = transport_extends link w c d e
-accessor_extends link _ w c d e = base_extends (network link) w c d e
+accessor_extends link _ w c d e = base_extends (network_offset link) w c d e
 
 -- by what is behind a left operand
 pub by_right : (P : List Insn → Type 0) (o : Option ℕ) (slot : ℕ) (short : ℕ → List Insn) (long : List Insn) → ((k : ℕ) → o ≡ Some k → P (short k)) → P (plain (Store Accumulator) slot ∷ long) → P (emit_right o slot short long)

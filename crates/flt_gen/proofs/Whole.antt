@@ -12,7 +12,7 @@ use Rattle.flt_tree.specs.Tree.{TruthTree, Expression, empty, truth}
 use Rattle.flt_tree.specs.Counts.{words_of, bound_of, truth_tests, truth_size}
 use Rattle.flt_tree.specs.Resolved.{is_unfilled, any_primitive, some_primitive}
 use Rattle.flt_short.specs.Alike.{Replaces}
-use Rattle.flt_make.specs.Betters.{Betters}
+use Rattle.flt_passes.specs.Betters.{Betters}
 use Rattle.cap_octet.specs.declared.link.Link.{Link}
 use Rattle.flt_code.specs.declared.elementary.Elementary.TheVariants.{Outcome}
 use Rattle.flt_code.specs.Elementary.{Reading, Yes, No, Rejected}

@@ -15,7 +15,8 @@ use Rattle.cap_octet.specs.declared.link.Link.{Link}
 use Rattle.flt_code.specs.declared.elementary.FrameKind.TheVariants as kind
 use Rattle.flt_code.specs.declared.elementary.Elementary.{Elementary}
 use Rattle.flt_code.specs.declared.elementary.Elementary.TheVariants.{Outcome, Field}
-use Rattle.flt_code.specs.Elementary.{network, kind_test}
+use Rattle.flt_code.specs.Elementary.{kind_test}
+use Rattle.cap_octet.specs.Link.{network_offset}
 use Rattle.flt_code.specs.Formula.{Formula, Compare, Guard, checked_formula, sides}
 use Rattle.flt_gen.specs.Primitives.{ip6_tests, net_value_formula, value_formula}
 
@@ -91,8 +92,8 @@ needed_sides direction source destination =
 abbrev pub ip6_needed : Link → Direction → Option ℕ → ℕ → Formula
 ip6_needed link direction prefix address =
     Guard (kind_test link kind.Ip6)
-    (needed_sides direction (ip6_tests prefix address (network link + 8))
-    (ip6_tests prefix address (network link + 24)))
+    (needed_sides direction (ip6_tests prefix address (network_offset link + 8))
+    (ip6_tests prefix address (network_offset link + 24)))
 
 abbrev pub net_needed : Link → Option Protocol → Direction → Value → Formula
 net_needed link protocol direction (value.Ip6 address prefix) =

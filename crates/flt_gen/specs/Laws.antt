@@ -1,5 +1,5 @@
 -- Laws of the table of primitives.
-use Rattle.std.specs.Prelude.{◌≡◌, ◌↔◌, ℕ, ◌-◌, ◌^◌, ◌<◌, Bool, true, false, List, All, map, Option, unwrap_or}
+use Rattle.std.specs.Prelude.{◌≡◌, ◌↔◌, ℕ, ◌-◌, ◌^◌, ◌<◌, Bool, true, false, List, All, map, Option, None, unwrap_or}
 use Rattle.std.specs.Int.Digits.{number_from_digits}
 use Rattle.flt_tree.specs.Nets.{ip6_mask}
 use Rattle.cap_octet.specs.NetworkHeader.{network_header}
@@ -10,8 +10,8 @@ use Rattle.flt_code.specs.declared.elementary.Elementary.{Elementary}
 use Rattle.flt_code.specs.declared.elementary.FrameKind.{FrameKind}
 use Rattle.flt_code.specs.declared.elementary.FrameKind.TheVariants as frame
 use Rattle.cap_octet.specs.declared.link.Link.{Link}
-use Rattle.cap_octet.specs.declared.link.Link.TheVariants.{Raw}
-use Rattle.flt_code.specs.Elementary.{Yes, Rejected, elementary_reads, kind_test, link_type}
+use Rattle.flt_code.specs.Elementary.{Yes, Rejected, elementary_reads, kind_test}
+use Rattle.cap_octet.specs.Link.{link_type, type_offset}
 use Rattle.flt_code.specs.declared.elementary.Elementary.TheVariants.{Outcome, Field}
 use Rattle.flt_gen.specs.Primitives.{ip6_tests}
 
@@ -36,11 +36,14 @@ frame_kind network.Ipv6 = frame.Ip6
 frame_kind network.Arp = frame.Arp
 frame_kind network.Rarp = frame.Rarp
 
--- raw IP has neither ARP nor RARP
+-- raw IP, whose header has no EtherType, has neither ARP nor RARP
+abbrev pub carried : Option ℕ → NetworkKind → Bool
+carried None network.Arp = false
+carried None network.Rarp = false
+carried type_offset kind = true
+
 abbrev pub carries : Link → NetworkKind → Bool
-carries Raw network.Arp = false
-carries Raw network.Rarp = false
-carries link kind = true
+carries link kind = carried (type_offset link) kind
 
 -- the test of a kind matches exactly the packets whose network header is of that kind
 abbrev pub MatchesKind : Type 0

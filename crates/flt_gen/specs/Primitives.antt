@@ -1,6 +1,6 @@
 -- The table of primitives: each is a formula of elementary tests.
 use Rattle.std.specs.Prelude.{ℕ, ◌+◌, ◌-◌, ◌*◌, ◌/◌, ◌%◌, ◌^◌, ◌==◌, if◌then◌else◌, min, max, false, List, [], ◌∷◌, Option, Some, None}
-use Rattle.cap_octet.specs.Assigned.{IPPROTO_ICMP, IPPROTO_TCP, IPPROTO_UDP, IPPROTO_ICMPV6, ETHERNET_TYPE_OFFSET, LINUX_SLL_TYPE_OFFSET}
+use Rattle.cap_octet.specs.Assigned.{IPPROTO_ICMP, IPPROTO_TCP, IPPROTO_UDP, IPPROTO_ICMPV6}
 use Rattle.flt_bpf.specs.declared.operation.Width.TheVariants.{Word, HalfWord, Byte}
 use Rattle.flt_words.specs.declared.token.Comparison.TheVariants.{NotEqual, AtMost, AtLeast, Equal}
 use Rattle.flt_words.specs.declared.token.Protocol.{Protocol}
@@ -21,7 +21,6 @@ use Rattle.flt_tree.specs.declared.net.Ip4Net.{Ip4Net}
 use Rattle.flt_tree.specs.Nets.{first_bits, ip4_net}
 use Rattle.flt_tree.specs.Tree.{literal, len}
 use Rattle.cap_octet.specs.declared.link.Link.{Link}
-use Rattle.cap_octet.specs.declared.link.Link.TheVariants.{Cooked}
 use Rattle.flt_code.specs.declared.elementary.FrameKind.{FrameKind}
 use Rattle.flt_code.specs.declared.elementary.FrameKind.TheVariants.{Ethernet, Ip, Ip6, Arp, Rarp}
 use Rattle.flt_code.specs.declared.elementary.Offset.{Offset}
@@ -36,7 +35,8 @@ use Rattle.flt_gen.specs.declared.wanted.Hosts.TheVariants as hosts
 use Rattle.flt_gen.specs.declared.wanted.PortTest.{PortTest}
 use Rattle.flt_gen.specs.declared.wanted.Transport.{Transport}
 use Rattle.flt_gen.specs.declared.wanted.Ports.TheVariants.{One, Between, Several}
-use Rattle.flt_code.specs.Elementary.{with, is_at, compares_at, network, kind_test, first_fragment, has_ip_proto, has_ip6_proto}
+use Rattle.flt_code.specs.Elementary.{with, is_at, compares_at, has_type, kind_test, first_fragment, has_ip_proto, has_ip6_proto}
+use Rattle.cap_octet.specs.Link.{network_offset}
 use Rattle.flt_code.specs.Formula.{Formula, Single, Compare, Guard, Fork, Choose, all_of, guarded_formula, sides, any_sides}
 
 -- protocols; of the kinds of frames at most one is yes
@@ -51,8 +51,7 @@ abbrev pub any_proto : Link → ℕ → Formula
 any_proto link n = Choose (kind_test link Ip) (Single (has_ip_proto link n)) (ip6_proto link n)
 
 abbrev pub ether_proto : Link → ℕ → Formula
-ether_proto Cooked n = Single (is_at LINUX_SLL_TYPE_OFFSET HalfWord n)
-ether_proto link n = all_of (kind_test link Ethernet ∷ is_at ETHERNET_TYPE_OFFSET HalfWord n ∷ [])
+ether_proto link n = Single (has_type link n)
 
 abbrev pub check_formula : Link → Protocol → Formula
 check_formula link protocol.Ether = Single (kind_test link Ethernet)
@@ -101,9 +100,10 @@ cast_formula link (Some protocol.Ether) Broadcast =
     ether_host link (direction.One Destination) 0xffff_ffff_ffff
 cast_formula link (Some _) Broadcast = Single (Outcome false)
 cast_formula link (Some protocol.Ip) Multicast =
-    all_of (kind_test link Ip ∷ compares_at (Fixed (network link + 16)) Byte AtLeast 224 ∷ [])
+    all_of
+    (kind_test link Ip ∷ compares_at (Fixed (network_offset link + 16)) Byte AtLeast 224 ∷ [])
 cast_formula link (Some protocol.Ip6) Multicast =
-    all_of (kind_test link Ip6 ∷ is_at (network link + 24) Byte 255 ∷ [])
+    all_of (kind_test link Ip6 ∷ is_at (network_offset link + 24) Byte 255 ∷ [])
 cast_formula link None Multicast = all_of (kind_test link Ethernet ∷ is_group_address ∷ [])
 cast_formula link (Some protocol.Ether) Multicast =
     all_of (kind_test link Ethernet ∷ is_group_address ∷ [])
@@ -137,8 +137,8 @@ destination_offset _ = 24
 abbrev pub address_places : Link → FrameKind → Sides
 address_places link kind = record {
   width = Word;
-  source = Fixed (network link + source_offset kind);
-  destination = Fixed (network link + destination_offset kind);
+  source = Fixed (network_offset link + source_offset kind);
+  destination = Fixed (network_offset link + destination_offset kind);
 }
 
 abbrev pub net_tests : Sides → NetTest → Formula
@@ -189,8 +189,8 @@ ip6_tests prefix address at =
 
 abbrev pub ip6_formula : Link → Direction → Option ℕ → ℕ → Formula
 ip6_formula link direction prefix address =
-    Guard (kind_test link Ip6) (sides direction (ip6_tests prefix address (network link + 8))
-    (ip6_tests prefix address (network link + 24)))
+    Guard (kind_test link Ip6) (sides direction (ip6_tests prefix address (network_offset link + 8))
+    (ip6_tests prefix address (network_offset link + 24)))
 
 -- ports
 
@@ -243,8 +243,8 @@ ip_transport link = record {
   tcp = has_ip_proto link IPPROTO_TCP;
   udp = has_ip_proto link IPPROTO_UDP;
   whole = Some (first_fragment link);
-  source = AfterHeader (network link) (network link);
-  destination = AfterHeader (network link) (network link + 2);
+  source = AfterHeader (network_offset link) (network_offset link);
+  destination = AfterHeader (network_offset link) (network_offset link + 2);
 }
 
 -- behind an IPv6 header
@@ -253,8 +253,8 @@ ip6_transport link = record {
   tcp = has_ip6_proto link IPPROTO_TCP;
   udp = has_ip6_proto link IPPROTO_UDP;
   whole = None;
-  source = Fixed (network link + 40);
-  destination = Fixed (network link + 42);
+  source = Fixed (network_offset link + 40);
+  destination = Fixed (network_offset link + 42);
 }
 
 abbrev pub port_formula : Link → PortTest → List ℕ → Formula

@@ -1,6 +1,7 @@
 //! The code of hosts and networks of IPv4 and IPv6.
 
 ghost use Rattle.std.specs.Prelude.{◌≡◌, ◌+◌, ◌*◌, ◌≤◌, length};
+ghost use Rattle.cap_octet.specs.Link.{longest_header};
 ghost use Rattle.flt_tree.specs.Nets.{first_bits};
 ghost use Rattle.flt_code.specs.Elementary.{kind_test};
 ghost use Rattle.flt_code.specs.Emits.{HasRoom, Emits, EmitsFormula, EmitsBehind};
@@ -15,7 +16,7 @@ use cap_octet::Link;
 use flt_bpf::operation::Width;
 use flt_code::{
     Code, Context, Elementary, FieldTest, FrameKind, Offset, Sides, emit_any_sides,
-    emit_elementary, emit_sides, kind_test, network,
+    emit_elementary, emit_sides, kind_test, network_offset,
 };
 use flt_tree::Direction;
 use flt_words::{Comparison, Join, Protocol, Side};
@@ -42,7 +43,7 @@ fn address_places(link: Link, kind: FrameKind) -> Sides
         FrameKind::Ip => (12, 16),
         _ => (14, 24),
     };
-    let start = network(link);
+    let start = network_offset(link);
     Sides {
         width: Width::Word,
         source: Offset::Fixed(start + source),
@@ -165,7 +166,7 @@ fn prefix_mask(bits: u32) -> u32
 
 /// One of the four words of an IPv6 address that begins at a place.
 fn ip6_test(prefix: Option<u32>, address: u128, at: u32, word: u32) -> Elementary
-    requires { (at ≤ 40) × (word ≤ 3) }
+    requires { (at ≤ longest_header + 24) × (word ≤ 3) }
     ensures { result ≡ ip6_test prefix address at word }
 {
     let mask = match prefix {
@@ -177,7 +178,7 @@ fn ip6_test(prefix: Option<u32>, address: u128, at: u32, word: u32) -> Elementar
 }
 
 fn ip6_tests(prefix: Option<u32>, address: u128, at: u32) -> [Elementary; 4]
-    requires { at ≤ 40 }
+    requires { at ≤ longest_header + 24 }
     ensures { result ≡ ip6_tests prefix address at }
 {
     [
@@ -278,7 +279,7 @@ pub fn emit_ip6<A: Allocator>(
     ensures { EmitsFormula 54 result context (ip6_needed context.link direction prefix address)
         code.old code.new }
 {
-    let start = network(context.link);
+    let start = network_offset(context.link);
     let source = ip6_tests(prefix, address, start + 8);
     let destination = ip6_tests(prefix, address, start + 24);
     let kind = kind_test(context.link, FrameKind::Ip6);

@@ -13,7 +13,8 @@ use cap_octet::Link;
 use cap_octet::assigned::{IPPROTO_ICMP, IPPROTO_TCP, IPPROTO_UDP};
 use flt_bpf::operation::{AluOperation, Operand, Operation, Register, Source, Width};
 use flt_code::{
-    Code, Context, FrameKind, Targets, emit_all, first_fragment, has_ip_proto, kind_test, network,
+    Code, Context, FrameKind, Targets, emit_all, first_fragment, has_ip_proto, kind_test,
+    network_offset,
 };
 use flt_words::{Operator, Protocol};
 use std::alloc::{AllocError, Allocator};
@@ -90,7 +91,7 @@ fn emit_transport<A: Allocator>(
 ) -> Result<(), AllocError>
     ensures { OnOk result (code.new ≡ emit_transport link width code.old) }
 {
-    let start = network(link);
+    let start = network_offset(link);
     code.emit_plain(Operation::LoadIndirect(width), start)?;
     code.emit_plain(Operation::CopyToIndex, 0)?;
     code.emit_plain(computation(Operator::Add, Operand::IndexRegister), 0)?;
@@ -109,7 +110,7 @@ pub fn emit_accessor<A: Allocator>(
     match protocol {
         Protocol::Ether => emit_base(code, 0, width),
         Protocol::Tcp | Protocol::Udp | Protocol::Icmp => emit_transport(code, link, width),
-        _ => emit_base(code, network(link), width),
+        _ => emit_base(code, network_offset(link), width),
     }
 }
 

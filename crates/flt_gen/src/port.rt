@@ -13,7 +13,7 @@ use flt_bpf::operation::Width;
 use flt_code::{
     Code, Context, Elementary, FrameKind, Offset, Sides, compares_at, emit_any_sides,
     emit_elementary, emit_fork, emit_sides, first_fragment, has_ip_proto, has_ip6_proto, kind_test,
-    network,
+    network_offset,
 };
 use flt_words::{Comparison, Protocol};
 use std::alloc::{AllocError, Allocator};
@@ -146,7 +146,7 @@ fn emit_ports_of_kind<A: Allocator>(
 fn ip_transport(link: Link) -> Transport
     ensures { result ≡ ip_transport link }
 {
-    let start = network(link);
+    let start = network_offset(link);
     Transport {
         tcp: has_ip_proto(link, IPPROTO_TCP.into()),
         udp: has_ip_proto(link, IPPROTO_UDP.into()),
@@ -159,7 +159,7 @@ fn ip_transport(link: Link) -> Transport
 fn ip6_transport(link: Link) -> Transport
     ensures { result ≡ ip6_transport link }
 {
-    let start = network(link);
+    let start = network_offset(link);
     Transport {
         tcp: has_ip6_proto(link, IPPROTO_TCP.into()),
         udp: has_ip6_proto(link, IPPROTO_UDP.into()),

@@ -7,15 +7,12 @@ ghost use Rattle.flt_code.specs.Emits.{HasRoom, EmitsFormula, EmitsBehind};
 ghost use Rattle.flt_gen.specs.Primitives.{ether_proto, check_formula, proto_formula};
 ghost use Rattle.flt_gen.specs.Primitives.{ether_host, mac_tests, is_group_address, cast_formula};
 
-use cap_octet::Link;
-use cap_octet::assigned::{
-    ETHERNET_TYPE_OFFSET, IPPROTO_ICMP, IPPROTO_ICMPV6, IPPROTO_TCP, IPPROTO_UDP,
-    LINUX_SLL_TYPE_OFFSET,
-};
+use cap_octet::assigned::{IPPROTO_ICMP, IPPROTO_ICMPV6, IPPROTO_TCP, IPPROTO_UDP};
 use flt_bpf::operation::Width;
 use flt_code::{
     Code, Context, Elementary, FieldTest, FrameKind, Offset, compares_at, emit_all,
-    emit_elementary, emit_sides, has_ip_proto, has_ip6_proto, is_at, kind_test, network,
+    emit_elementary, emit_sides, has_ip_proto, has_ip6_proto, has_type, is_at, kind_test,
+    network_offset,
 };
 use flt_tree::Direction;
 use flt_words::{Cast, Comparison, Protocol, Side};
@@ -44,20 +41,7 @@ fn emit_ether_proto<A: Allocator>(
     requires { HasRoom 12 code.old }
     ensures { EmitsFormula 12 result context (ether_proto context.link protocol) code.old code.new }
 {
-    match context.link {
-        Link::Cooked => {
-            let has_type = is_at(LINUX_SLL_TYPE_OFFSET as u32, Width::HalfWord, protocol);
-            emit_elementary(code, context, has_type)
-        }
-        link => {
-            let has_type = is_at(ETHERNET_TYPE_OFFSET as u32, Width::HalfWord, protocol);
-            emit_all(
-                code,
-                context,
-                &[kind_test(link, FrameKind::Ethernet), has_type],
-            )
-        }
-    }
+    emit_elementary(code, context, has_type(context.link, protocol))
 }
 
 fn emit_kind<A: Allocator>(
@@ -192,12 +176,12 @@ pub fn emit_cast<A: Allocator>(
             emit_all(code, context, &tests)
         }
         (Cast::Multicast, Some(Protocol::Ip)) => {
-            let first = Offset::Fixed(network(link) + 16);
+            let first = Offset::Fixed(network_offset(link) + 16);
             let is_high = compares_at(first, Width::Byte, Comparison::AtLeast, 224);
             emit_all(code, context, &[kind_test(link, FrameKind::Ip), is_high])
         }
         (Cast::Multicast, Some(Protocol::Ip6)) => {
-            let is_high = is_at(network(link) + 24, Width::Byte, 255);
+            let is_high = is_at(network_offset(link) + 24, Width::Byte, 255);
             emit_all(code, context, &[kind_test(link, FrameKind::Ip6), is_high])
         }
         (_, Some(_)) => Ok(context.to.no),

@@ -11,7 +11,7 @@ use crate::walk::Walk;
 use cap_octet::Link;
 use flt_bpf::insn::Insn;
 use flt_bpf::program::{Program, check};
-use flt_make::best_of;
+use flt_passes::best_of;
 use flt_short::{pass_loads, shortened};
 use flt_tree::{Checked, Node};
 use std::alloc::{AllocError, Allocator};

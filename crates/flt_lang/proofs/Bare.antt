@@ -5,12 +5,12 @@ use Rattle.flt_words.specs.declared.token.TokenKind.TheVariants as token
 use Rattle.flt_tree.specs.declared.value.Value.{Value}
 use Rattle.flt_tree.specs.declared.node.Node.{Node}
 use Rattle.flt_tree.specs.declared.node.Node.TheVariants as node
-use Rattle.flt_reader.specs.declared.frame.Frame.{Frame}
-use Rattle.flt_reader.specs.declared.frame.Operand.TheVariants as operand
-use Rattle.flt_reader.specs.Values.{ReadsValue}
-use Rattle.flt_reader.specs.Machine.{◌>>=◌, next_precedence, begin, run, with_frames, bare_of}
-use Rattle.flt_reader.proofs.ValuesBack.{value_back}
-use Rattle.flt_reader.proofs.Valued.{value_suffix, value_some, run_begins}
+use Rattle.flt_lang.specs.declared.frame.Frame.{Frame}
+use Rattle.flt_lang.specs.declared.frame.Operand.TheVariants as operand
+use Rattle.flt_lang.specs.Values.{ReadsValue}
+use Rattle.flt_lang.specs.Parser.{◌>>=◌, next_precedence, begin, run, with_frames, bare_of}
+use Rattle.flt_lang.proofs.ValuesBack.{value_back}
+use Rattle.flt_lang.proofs.Valued.{value_suffix, value_some, run_begins}
 
 -- the tokens where a value is read at once
 abbrev pub is_value_front : List TokenKind → Bool

@@ -1,3 +1,9 @@
+pub mod Fronts
+pub mod Reducing
+pub mod ValuesBack
+pub mod Valued
+pub mod Prefixes
+pub mod Stepping
 pub mod Bare
 pub mod Complete
 pub mod Stacked

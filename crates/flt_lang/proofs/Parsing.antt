@@ -4,8 +4,8 @@ use Rattle.flt_words.specs.declared.token.TokenKind.{TokenKind}
 use Rattle.flt_tree.specs.declared.node.Node.{Node}
 use Rattle.flt_tree.specs.Tree.{Expression}
 use Rattle.flt_tree.specs.Nodes.{expr_nodes, tree_of, tree_back, IsTree}
-use Rattle.flt_reader.specs.Grammar.{IsReadAs}
-use Rattle.flt_reader.specs.Machine.{all_run}
+use Rattle.flt_lang.specs.Grammar.{IsReadAs}
+use Rattle.flt_lang.specs.Parser.{all_run}
 use Rattle.flt_lang.proofs.Complete.{complete}
 use Rattle.flt_lang.proofs.Sound.{sound}
 use Rattle.flt_tree.proofs.NodesBack.{expr_turned}

@@ -12,7 +12,7 @@ use Rattle.flt_words.specs.Characters.{is_inside}
 use Rattle.flt_words.specs.Tokens.{IsToken, TokensFrom}
 use Rattle.flt_words.specs.Tokens.TokensFrom.{at_end, blank, token as one_more}
 use Rattle.flt_words.proofs.BracketCounts.{closings, openings, token_has}
-use Rattle.flt_reader.specs.Grammar.{kinds_of}
+use Rattle.flt_lang.specs.Grammar.{kinds_of}
 use Rattle.flt_lang.specs.declared.spelling.Behind.{Behind}
 use Rattle.flt_lang.specs.Texts.{gap, joins_next, joins_previous, next_behind, spelling, tokens_text}
 use Rattle.flt_lang.specs.Writable.{IsSpellable}

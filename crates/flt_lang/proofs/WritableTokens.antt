@@ -25,7 +25,7 @@ use Rattle.flt_words.specs.Words.WordMeans.{known}
 use Rattle.flt_words.proofs.AddressValues.{ends_fit, number_between, number_zeros}
 use Rattle.flt_words.proofs.Groups.{small_hexadecimal}
 use Rattle.flt_words.proofs.Tables.{both, found_passes}
-use Rattle.flt_reader.specs.Grammar.{kinds_of}
+use Rattle.flt_lang.specs.Grammar.{kinds_of}
 use Rattle.flt_lang.specs.Writable.{IsDottedAddress, IsSpellable, has_name}
 
 -- a token of a table

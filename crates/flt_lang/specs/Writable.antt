@@ -12,7 +12,7 @@ use Rattle.flt_tree.specs.declared.value.Value.TheVariants as value
 use Rattle.flt_tree.specs.Tree.{NumberTree, literal, len, named, load, negated, applied, TruthTree, check, cast, sized, bare, valued, qualified, compared, denied, joined, Expression, empty, truth}
 use Rattle.flt_tree.specs.Filled.{fill_expression}
 use Rattle.flt_tree.specs.Resolved.{fill_fault}
-use Rattle.flt_reader.specs.Grammar.{IsReadAs, has_casts, is_accessor, is_check, kinds_of}
+use Rattle.flt_lang.specs.Grammar.{IsReadAs, has_casts, is_accessor, is_check, kinds_of}
 
 -- the numbers that have names
 abbrev pub has_name : ℕ → Bool

@@ -7,7 +7,7 @@ ghost use Rattle.flt_words.specs.Tokens.{Tokens};
 ghost use Rattle.flt_tree.specs.Tree.{Expression};
 ghost use Rattle.flt_tree.specs.Filled.{fill_expression};
 ghost use Rattle.flt_tree.specs.Resolved.{IsResolved};
-ghost use Rattle.flt_reader.specs.Grammar.{IsReadAs, kinds_of};
+ghost use Rattle.flt_lang.specs.Grammar.{IsReadAs, kinds_of};
 ghost use Rattle.flt_lang.specs.Explained.{explained_text};
 ghost use Rattle.flt_lang.specs.Writable.{IsReadBack, IsWritable};
 

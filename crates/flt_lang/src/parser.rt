@@ -2,11 +2,12 @@
 
 ghost use Rattle.std.specs.Prelude.{◌≡◌, ◌↔◌, ◌⊎◌, Err, IfOk, IfErr};
 ghost use Rattle.flt_tree.specs.Tree.{Expression};
-ghost use Rattle.flt_reader.specs.Grammar.{IsReadAs, kinds_of};
-ghost use Rattle.flt_reader.specs.Machine.{IsReadFault};
-ghost use Rattle.flt_reader.specs.Nesting.{IsTooDeep};
+ghost use Rattle.flt_lang.specs.Grammar.{IsReadAs, kinds_of};
+ghost use Rattle.flt_lang.specs.Parser.{IsReadFault};
+ghost use Rattle.flt_lang.specs.Nesting.{IsTooDeep};
 
-use flt_reader::{Reader, is_nested_too_deep};
+use crate::nesting::is_nested_too_deep;
+use crate::reader::Reader;
 use flt_tree::Expr;
 use flt_words::{ExprFault, Token};
 use std::alloc::Allocator;

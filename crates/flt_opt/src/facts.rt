@@ -50,6 +50,9 @@ pub(crate) fn facts_in(facts: &[Fact], span: Span) -> &[Fact]
     }
 }
 
+/// So few pieces are tried one after the other.
+const FEW_PIECES: usize = 3;
+
 /// How many outcomes of tests a walk keeps.
 pub const OUTCOMES: usize = 4;
 
@@ -318,7 +321,7 @@ fn is_likely(pieces: &[Piece], outcome: &Learnt, learnt: &[Learnt]) -> bool {
 fn may_be_among(pieces: &[Piece], outcome: &Learnt, learnt: &[Learnt]) -> bool
     ensures { result ≡ false → NeverAmong pieces.now outcome.now learnt.now }
 {
-    if is_likely(pieces, outcome, learnt) {
+    if pieces.len() > FEW_PIECES && is_likely(pieces, outcome, learnt) {
         return true;
     }
     for piece in pieces {

@@ -1,1 +1,2 @@
+pub mod Bettering
 pub mod Improving

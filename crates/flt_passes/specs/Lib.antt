@@ -1,1 +1,2 @@
+pub mod Betters
 pub mod Improves

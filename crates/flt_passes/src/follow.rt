@@ -39,7 +39,7 @@ struct Follower<'a, A: Allocator> {
     nodes: &'a [Node],
     lives: &'a [Live],
     pieces: &'a [Piece],
-    known: Known,
+    known: &'a Known,
     /// What tests have shown that aren't decided.
     learnt: Vec<Learnt, A>,
     /// Where it may be put, the nearest first.
@@ -75,8 +75,8 @@ impl<A: Allocator> Follower<'_, A> {
             && (index || !live.index)
     }
 
-    /// An operation can't fail.
-    fn succeeds(&self, operation: Operation, k: u32, registers: Registers) -> bool {
+    /// What an operation loads is there.
+    fn is_there(&self, operation: Operation, k: u32, registers: Registers) -> bool {
         let both = Both {
             new: self.known.registers,
             old: registers,
@@ -84,8 +84,16 @@ impl<A: Allocator> Follower<'_, A> {
             same_index: false,
         };
         let term = asked(operation, k, registers);
-        let there = is_there(term, self.known.facts.as_slice(), &both);
-        is_sure(operation, k, there)
+        is_there(term, self.known.facts.as_slice(), &both)
+    }
+
+    /// An operation can't fail.
+    fn succeeds(&self, operation: Operation, k: u32, registers: Registers) -> bool {
+        is_sure(
+            operation,
+            k,
+            loads(operation) && self.is_there(operation, k, registers),
+        )
     }
 
     /// Behind a node that isn't a test.
@@ -197,8 +205,10 @@ impl<A: Allocator> Follower<'_, A> {
             let first = self.trail.len();
             self.follow_side(&way, true, splits - 1)?;
             let second = self.trail.len();
-            self.follow_side(&way, false, splits - 1)?;
-            self.keep_common(first, second);
+            if second > first {
+                self.follow_side(&way, false, splits - 1)?;
+                self.keep_common(first, second);
+            }
         }
         Ok(())
     }
@@ -240,7 +250,7 @@ pub(crate) fn followed<A: Allocator + Clone>(
         nodes,
         lives,
         pieces,
-        known: *known,
+        known,
         learnt: Vec::new(alloc.clone()?),
         trail: Vec::new(alloc),
         fuel: FUEL,

@@ -5,7 +5,8 @@ use crate::live::{Reads, is_of_use};
 use crate::sets::{ALL, narrowed, united};
 use flt_bpf::operation::{Operation, Test};
 use flt_opt::{
-    Fact, Knowledge, Learnt, Piece, Registers, Span, Term, after, asked, decided, is_known, source,
+    Both, Fact, Knowledge, Learnt, Piece, Registers, Span, Term, after, asked, decided, is_known,
+    is_there, source,
 };
 use std::alloc::{AllocError, Allocator};
 
@@ -107,15 +108,30 @@ impl Facts {
 
     /// The facts with this one, in place of another one on its term, or of the oldest one.
     fn with(&self, fact: Fact) -> Facts {
-        let is_full = self.len >= MOST_FACTS && self.numbers(fact.term).is_none();
-        let mut facts = NO_FACTS;
-        for (at, other) in self.as_slice().iter().enumerate() {
-            if other.term != fact.term && !(is_full && at == 0) {
-                facts.push(*other);
-            }
+        let mut facts = *self;
+        let same = self
+            .as_slice()
+            .iter()
+            .position(|other| other.term == fact.term);
+        match same {
+            Some(at) => facts.remove(at),
+            None if self.len >= MOST_FACTS => facts.remove(0),
+            None => {}
         }
         facts.push(fact);
         facts
+    }
+
+    /// Drops the fact with an index.
+    fn remove(&mut self, at: usize) {
+        for next in at.saturating_add(1)..self.len {
+            if let Some(fact) = self.list.get(next).copied()
+                && let Some(place) = self.list.get_mut(next.saturating_sub(1))
+            {
+                *place = fact;
+            }
+        }
+        self.len = self.len.saturating_sub(1);
     }
 }
 
@@ -216,6 +232,21 @@ impl Known {
             registers: after(node.operation, node.k, self.registers),
             facts: facts_after(&self.facts, node.operation, node.k, self.registers),
         }
+    }
+
+    /// What a node makes that is no test is known, and so is that it's there.
+    pub(crate) fn tells_of(&self, node: Node) -> bool {
+        let term = asked(node.operation, node.k, self.registers);
+        if !loads(node.operation) {
+            return is_known(term);
+        }
+        let both = Both {
+            new: self.registers,
+            old: self.registers,
+            same_accumulator: true,
+            same_index: true,
+        };
+        is_there(term, self.facts.as_slice(), &both)
     }
 
     /// What is known behind a test with this outcome.

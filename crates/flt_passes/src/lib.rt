@@ -1,7 +1,9 @@
 //! Shorter and quicker code for code: passes over a graph of its instructions. No pass is trusted:
-//! what it makes is taken only where `flt_opt` sees that it returns the same.
+//! what it makes is taken only where `flt_opt` sees that it returns the same. The best program that
+//! is made so of a plain one is laid out by `flt_lay`.
 #![tactic(auto)]
 
+mod best;
 mod bits;
 mod edges;
 mod finder;
@@ -28,5 +30,6 @@ mod thread;
 mod walk;
 mod write;
 
+pub use best::best_of;
 pub use optimise::{Improved, optimised, optimised_counted};
 pub use pass::{Pass, passed};

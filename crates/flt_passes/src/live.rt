@@ -51,10 +51,9 @@ pub(crate) struct Reads {
 
 /// What is known of a term may be of use to one of these runs.
 pub(crate) fn is_of_use(term: Term, reads: &[Reads]) -> bool {
-    let (bit, field) = (bit_of_term(term), source(term));
-    reads.iter().any(|run| {
-        run.live.fields & bit != 0 || run.live.accumulator && source(run.accumulator) == field
-    })
+    let bit = bit_of_term(term);
+    reads.iter().any(|run| run.live.fields & bit != 0)
+        || reads.iter().any(|run| run.live.accumulator && source(run.accumulator) == source(term))
 }
 
 /// One of 62 bits for a field at so many bytes.

@@ -1,5 +1,6 @@
 //! The rules by which an instruction of new code stands for some of the old code.
 
+use crate::known::loads;
 use flt_bpf::Wide;
 use flt_bpf::operation::{AluOperation, Operand, Operation, Test, decode};
 use flt_opt::{
@@ -86,7 +87,8 @@ pub(crate) fn may_be_own(new: Wide, both: &Both, facts: &[Fact]) -> bool {
         None => false,
         Some(Operation::JumpIf(_, _)) => true,
         Some(operation) => {
-            let there = is_there(asked(operation, new.k, both.new), facts, both);
+            let term = asked(operation, new.k, both.new);
+            let there = loads(operation) && is_there(term, facts, both);
             is_sure(operation, new.k, there)
         }
     }

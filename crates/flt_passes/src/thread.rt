@@ -28,16 +28,20 @@ struct Threading<A: Allocator> {
 }
 
 impl<A: Allocator + Clone> Threading<A> {
+    /// A run ends at a node, or there is none.
+    fn ends(&self, at: usize) -> bool {
+        self.nodes
+            .get(at)
+            .is_none_or(|node| node.flow() == Flow::Ends)
+    }
+
     /// A run comes to a node with this knowledge.
     fn arrive(&mut self, at: usize, mut known: Known) -> Result<(), AllocError> {
-        let reads = self.reads(&known, at);
-        known.facts.keep_of_use(&reads);
-        let Some(node) = self.nodes.get(at) else {
-            return Ok(());
-        };
-        if node.flow() == Flow::Ends {
+        if self.ends(at) {
             return Ok(());
         }
+        let reads = self.reads(&known, at);
+        known.facts.keep_of_use(&reads);
         let slot = entry_at(&self.slots, at);
         match self.waiting.get_mut(slot) {
             None => self.wait(at, known),
@@ -96,8 +100,16 @@ impl<A: Allocator + Clone> Threading<A> {
         )
     }
 
-    /// Leads a side of a test on. Returns where.
-    fn lead_side(&mut self, known: &Known, to: usize) -> Result<usize, AllocError> {
+    /// A run with this knowledge may go on behind a node that is no test.
+    fn may_pass(&self, known: &Known, at: usize) -> bool {
+        let Some(node) = self.nodes.get(at) else {
+            return false;
+        };
+        node.flow() != Flow::Goes || known.tells_of(*node)
+    }
+
+    /// Leads on from where a run begins. Returns where.
+    fn lead_start(&mut self, known: &Known, to: usize) -> Result<usize, AllocError> {
         let to = self.led(known, to)?;
         self.arrive(to, *known)?;
         Ok(to)
@@ -133,17 +145,27 @@ impl<A: Allocator + Clone> Threading<A> {
         Ok(on_side)
     }
 
+    /// Leads a side of a test on. Returns where.
+    fn lead_side(&mut self, known: &Known, node: Node, holds: bool) -> Result<usize, AllocError> {
+        let to = if holds { node.yes } else { node.no };
+        if self.ends(to) {
+            return Ok(to);
+        }
+        let on_side = self.known_on_side(known, node, holds)?;
+        let to = self.led(&on_side, to)?;
+        self.arrive(to, on_side)?;
+        Ok(to)
+    }
+
     /// Leads both sides of a test on, where a run with this knowledge comes to it.
     fn lead_test(&mut self, at: usize, node: Node, known: &Known) -> Result<(), AllocError> {
         let (can_hold, can_fail) = self.outcomes(known, node);
         let (mut yes, mut no) = (node.yes, node.no);
         if can_hold {
-            let on_yes = self.known_on_side(known, node, true)?;
-            yes = self.lead_side(&on_yes, node.yes)?;
+            yes = self.lead_side(known, node, true)?;
         }
         if can_fail {
-            let on_no = self.known_on_side(known, node, false)?;
-            no = self.lead_side(&on_no, node.no)?;
+            no = self.lead_side(known, node, false)?;
         }
         let (yes, no) = (
             if can_hold { yes } else { no },
@@ -168,7 +190,10 @@ impl<A: Allocator + Clone> Threading<A> {
     fn lead_on(&mut self, at: usize, node: Node, mut known: Known) -> Result<(), AllocError> {
         let reads = self.reads(&known, node.yes);
         known.facts.keep_of_use(&reads);
-        let mut to = self.led(&known, node.yes)?;
+        let mut to = node.yes;
+        if !self.ends(to) && self.may_pass(&known, to) {
+            to = self.led(&known, to)?;
+        }
         if self
             .nodes
             .get(to)
@@ -197,7 +222,7 @@ impl<A: Allocator + Clone> Threading<A> {
 
     /// Leads all edges on. Returns where a run begins.
     fn lead_all(&mut self) -> Result<usize, AllocError> {
-        let entry = self.lead_side(&AT_START, 0)?;
+        let entry = self.lead_start(&AT_START, 0)?;
         for at in 0..self.nodes.len() {
             self.lead(at)?;
         }

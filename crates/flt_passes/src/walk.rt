@@ -90,7 +90,7 @@ impl<A: Allocator> Walker<'_, A> {
     fn behind(&self, way: &Way, operation: Operation, k: u32) -> Step {
         let here = &way.here;
         let term = asked(operation, k, here.both.old);
-        let there = is_there(term, self.facts.as_slice(), &here.both);
+        let there = loads(operation) && is_there(term, self.facts.as_slice(), &here.both);
         let succeeds = is_sure(operation, k, there);
         if !succeeds && !loads(operation) {
             return Step::Ends;

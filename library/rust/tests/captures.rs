@@ -95,7 +95,7 @@ fn a_packet_of_the_greatest_length() {
     }
 }
 
-/// An output that fails once it has so many bytes.
+/// An output that fails once it has that many bytes.
 struct Full(usize);
 
 impl Write for Full {

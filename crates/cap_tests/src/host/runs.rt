@@ -5,7 +5,7 @@ use cap_streams::opening::{create, open, read_listing};
 use cap_streams::progress::Progress;
 use cap_streams::runner::run;
 use cap_streams::stop::Stop;
-use cap_tools::Jobs;
+use capkit_engine::Jobs;
 use std::alloc::{AllocError, Global};
 use std::{fs, io};
 

@@ -5,6 +5,6 @@ use Rattle.cap_filter.proofs.compiled.make_programs.Given as goal
 
 abbrev pub invariant-loop-link : goal.invariant-loop-link
 invariant-loop-link g l = record {
-  made : AreMade l.tree.expr (take l.link-index l.table) l.programs.items;
+  made : AreMade l.tree.expr (take l.link-index l.links) l.programs.items;
   fresh : All (λ (program : Content). program.spent ≡ 0) l.programs.items;
 }

@@ -2,7 +2,7 @@
 use Rattle.std.proofs.Common.{Option, ℕ, length, sym, subst}
 use Rattle.cap_memory.specs.Layout.{first_interfaces}
 use Rattle.cap_memory.specs.Units.{BeginsWithUnit}
-use Rattle.cap_memory.specs.declared.layout.Form.TheVariants as form
+use Rattle.cap_io.specs.declared.file_state.FileState.TheVariants as form
 use Rattle.cap_memory.proofs.Fronts.{block_unit, no_unit}
 use Rattle.cap_memory.proofs.reader.block_step.Goals as goal
 

@@ -1,17 +1,41 @@
 use Rattle.std.proofs.Common.{map, refl, ap, subst, string_bytes}
-use Rattle.cap_filter.specs.Messages.{no_memory_message}
-use Rattle.cap_filter.specs.Outcome.{OutputView, IsTold, output_view}
-use Rattle.cap_tools.specs.Call.{Call, call_of}
+use Rattle.cap_packets.specs.Messages.{IsTold, no_memory_message}
+use Rattle.cap_octet.specs.Views.{OutputView, fresh_input, fresh_output, output_view}
+use Rattle.cap_command.specs.Call.{Call, call_of}
+use Rattle.cap_tools.specs.declared.job.Turn.TheVariants as turn
 use Rattle.cap_tools.specs.Run.{never_began}
 use Rattle.cap_tools.specs.Start.{assignment}
 use Rattle.cap_tools.proofs.Calls.{call-runs}
+use Rattle.cap_tools.proofs.CommandRuns.{fresh, gives, under-more, under-done}
 use Rattle.cap_tools.proofs.CommandStarts.{command-begun}
 use Rattle.cap_tools.proofs.job.run.Goals as goal
 
-pub returns-in-Ok-clause-exact : goal.returns-in-Ok-clause-exact
-returns-in-Ok-clause-exact g c = λ ti to.
-    let call : Call = call_of g.I.Input g.O.Output g.E.Output (map string_bytes c.args.names.items) c.args.inputs.items c.args.out c.args.err in
-    call-runs (assignment c.args.command) call _ (command-begun c.args.command call c.in-Ok.job _ c.in-Ok.ensures.fresh (c.run_on.ensures.exact ti to))
+pub loop-status-init : goal.loop-status-init
+loop-status-init g c = record { undone = λ none. none; exact = λ ti to none ss before d. fresh refl }
+
+pub loop-status-preserved : goal.loop-status-preserved
+loop-status-preserved g c = record {
+  undone = λ none. c.in-More.ensures.keeps.done;
+  exact = λ ti to none ss before d.
+      let job = c.loop-status.job in
+      let new = c.step.new.self in
+      let step = gives job.preparing g.O.Output.tells g.E.Output.tells job turn.More new to (c.in-More.ensures.exact ti to (c.loop-status.invariant.undone none)) c.in-More.ensures.prepares in
+      under-more g.E.Output.tells c.in-Ok.job job new ss before step d c.in-More.ensures.keeps.prepared c.in-More.ensures.keeps.done c.in-More.ensures.keeps.names c.in-More.ensures.keeps.policy
+      (c.loop-status.invariant.exact ti to none ss before d);
+}
+
+pub returns-in-Done : goal.returns-in-Done
+returns-in-Done g c = record {
+  status = c.in-Done.ensures.keeps.status;
+  exact = λ ti to.
+      let call : Call = call_of (map string_bytes c.args.names.items) (map (fresh_input g.I.Input) c.args.inputs.items) (fresh_output g.O.Output c.args.out) (fresh_output g.E.Output c.args.err) in
+      let job = c.loop-status.job in
+      let new = c.step.new.self in
+      call-runs (assignment c.args.command) call _ (command-begun c.args.command call c.in-Ok.job _ c.in-Ok.ensures.fresh (λ none ss before d.
+      let step = gives job.preparing g.O.Output.tells g.E.Output.tells job (turn.Done c.in-Done.status) new to (c.in-Done.ensures.exact ti to (c.loop-status.invariant.undone none)) c.in-Done.ensures.prepares in
+      under-done g.E.Output.tells c.in-Ok.job job new ss before _ step d c.close-out.ensures.written c.close-out.ensures.failures c.close-out.ensures.messages
+      (c.loop-status.invariant.exact ti to none ss before d)));
+}
 
 pub returns-in-Err-clause-exact : goal.returns-in-Err-clause-exact
 returns-in-Err-clause-exact g c = λ ti to.

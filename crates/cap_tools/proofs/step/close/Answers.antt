@@ -1,11 +1,12 @@
-use Rattle.std.proofs.Common.{◌≡◌, ℕ, List, true, Ok, Err, refl, sym, ◌∙◌, ap₂, subst, None, Some}
+use Rattle.std.proofs.Common.{◌≡◌, ℕ, List, Option, true, Ok, Err, refl, sym, ◌∙◌, ap₂, subst, None, Some}
 use Rattle.cap_tools.specs.declared.step.JobEnd.TheVariants as end
 use Rattle.cap_inputs.specs.Inputs.{is_in_turn}
 use Rattle.cap_packets.specs.Output.{Reports, output_at}
-use Rattle.cap_packets.specs.Reports.{file_report}
-use Rattle.cap_packets.specs.Selector.{is_count, policy_state}
-use Rattle.cap_tools.proofs.Fetches.{closes-by, counted}
+use Rattle.cap_packets.specs.Reports.{Tally, file_report}
+use Rattle.cap_packets.specs.Selector.{TakesTally, is_count, policy_state}
+use Rattle.cap_tools.proofs.Fetches.{closes-by, counted, uncounted, unreported}
 use Rattle.cap_packets.proofs.Selectors.{closes-policy}
+use Rattle.cap_tools.proofs.Places.{get-input}
 use Rattle.cap_tools.proofs.step.close.Goals as goal
 
 pub returns-in-Ok-clause-exact : goal.returns-in-Ok-clause-exact
@@ -13,7 +14,7 @@ returns-in-Ok-clause-exact g c = λ to.
     let turn : is_in_turn c.args.inputs.now.order ≡ true = sym c.is_in_turn.ensures ∙ c.if-not-is_in_turn.false in
     record {
       cursor = c.cursor-cursor.result.now;
-      among = c.cursor-cursor.ensures;
+      among = get-input c.args.inputs.now.cursors c.args.input c.cursor-cursor.result.now c.cursor-cursor.ensures;
       by = closes-by c.args.inputs.now.order c.args.input c.cursor-cursor.result.now (policy_state c.args.selector.now) (policy_state c.close.new.self) (output_at c.args.messages.now.names c.args.output.now) (output_at c.args.messages.now.names c.report.new.self) None c.in-Some.tally
           _ (Ok tt) turn c.in-Some.ensures.closes (ap₂ (λ k n. record { input = c.args.input; kind = k; size = n; tally = c.in-Some.tally }) c.kind.ensures c.offset.ensures) (let F : List ℕ → Type 0 = λ n. Reports (file_report n c.kind.result c.offset.result c.in-Some.tally) c.args.output.now (Ok tt) c.report.new.self in subst F c.name.ensures (c.in-Ok.ensures.exact to)) refl refl;
     }
@@ -26,7 +27,7 @@ returns-in-Err-clause-exact g c = λ to.
     let turn : is_in_turn c.args.inputs.now.order ≡ true = sym c.is_in_turn.ensures ∙ c.if-not-is_in_turn.false in
     record {
       cursor = c.cursor-cursor.result.now;
-      among = c.cursor-cursor.ensures;
+      among = get-input c.args.inputs.now.cursors c.args.input c.cursor-cursor.result.now c.cursor-cursor.ensures;
       by = closes-by c.args.inputs.now.order c.args.input c.cursor-cursor.result.now (policy_state c.args.selector.now) (policy_state c.close.new.self) (output_at c.args.messages.now.names c.args.output.now) (output_at c.args.messages.now.names c.report.new.self) (Some end.OutputFailed) c.in-Some.tally
           _ (Err c.in-Err.field-0) turn c.in-Some.ensures.closes (ap₂ (λ k n. record { input = c.args.input; kind = k; size = n; tally = c.in-Some.tally }) c.kind.ensures c.offset.ensures) (let F : List ℕ → Type 0 = λ n. Reports (file_report n c.kind.result c.offset.result c.in-Some.tally) c.args.output.now (Err c.in-Err.field-0) c.report.new.self in subst F c.name.ensures (c.in-Err.ensures.exact to)) refl refl;
     }
@@ -43,3 +44,21 @@ pub returns-in-Err-clause-kept : goal.returns-in-Err-clause-kept
 returns-in-Err-clause-kept g c = λ none.
     let turn : is_in_turn c.args.inputs.now.order ≡ true = sym c.is_in_turn.ensures ∙ c.if-not-is_in_turn.false in
     absurd (counted c.args.inputs.now.order c.args.selector.now.policy (policy_state c.args.selector.now) (policy_state c.close.new.self) c.in-Some.tally turn c.in-Some.ensures.closes none)
+
+pub returns-then-not-is_in_turn-clause-exact : goal.returns-then-not-is_in_turn-clause-exact
+returns-then-not-is_in_turn-clause-exact g c = λ to.
+    record {
+      cursor = c.cursor-cursor.result.now;
+      among = get-input c.args.inputs.now.cursors c.args.input c.cursor-cursor.result.now c.cursor-cursor.ensures;
+      by = unreported c.args.inputs.now.order c.args.input c.cursor-cursor.result.now (policy_state c.args.selector.now) (output_at c.args.messages.now.names c.args.output.now) (sym c.is_in_turn.ensures ∙ c.if-not-is_in_turn.true);
+    }
+
+pub returns-in_default-clause-exact : goal.returns-in_default-clause-exact
+returns-in_default-clause-exact g c = λ to.
+    let turn : is_in_turn c.args.inputs.now.order ≡ true = sym c.is_in_turn.ensures ∙ c.if-not-is_in_turn.false in
+    let T : Option Tally → Type 0 = λ r. TakesTally (is_count c.args.selector.now.policy) (policy_state c.args.selector.now) r (policy_state c.close.new.self) in
+    record {
+      cursor = c.cursor-cursor.result.now;
+      among = get-input c.args.inputs.now.cursors c.args.input c.cursor-cursor.result.now c.cursor-cursor.ensures;
+      by = uncounted c.args.inputs.now.order c.args.input c.cursor-cursor.result.now (policy_state c.args.selector.now) (policy_state c.close.new.self) (output_at c.args.messages.now.names c.args.output.now) turn (subst T c.in_default.is c.close.ensures.closes);
+    }

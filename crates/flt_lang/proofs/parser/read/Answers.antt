@@ -1,7 +1,7 @@
 -- The machine's nodes are those of the tree.
 use Rattle.std.proofs.Common.{arith, sym, subst}
 use Rattle.std.proofs.lemmas.Grind.{common_steps}
-use Rattle.flt_reader.specs.Grammar.{IsReadAs, kinds_of}
+use Rattle.flt_lang.specs.Grammar.{IsReadAs, kinds_of}
 use Rattle.flt_lang.proofs.Parsing.{found_is_tree, found_reads, no_tree}
 use Rattle.flt_lang.proofs.parser.read.Goals as goal
 

@@ -3,7 +3,7 @@ use Rattle.std.specs.List.{slice_set}
 use Rattle.cap_inputs.specs.declared.inputs.Schedule.{Schedule}
 use Rattle.cap_inputs.specs.declared.inputs.Next.TheVariants as next
 use Rattle.cap_inputs.specs.Cursor.{HoldsQueue, IsNextAt, IsScheduled, ordering_of}
-use Rattle.cap_inputs.specs.Sequence.{PacketOrder}
+use Rattle.cap_io.specs.Sequence.{PacketOrder}
 use Rattle.cap_inputs.specs.Inputs.{InputsView, InputView, MarksDecided, IsNext, input_behind, with_cursor}
 use Rattle.cap_inputs.proofs.Cursors.{behind-order, get-among}
 use Rattle.cap_inputs.proofs.Leasts.{settled-in}

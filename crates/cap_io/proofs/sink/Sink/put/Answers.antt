@@ -1,9 +1,9 @@
-use Rattle.std.proofs.Common.{ℕ, List, Ok, Err, sym, ap, subst, ◌∙◌}
+use Rattle.std.proofs.Common.{ℕ, List, Ok, Err, refl, sym, ap, subst, ◌∙◌}
 use Rattle.cap_octet.specs.Packet.{captured}
 use Rattle.cap_io.specs.declared.sink.SinkState.TheVariants.{Broken}
 use Rattle.cap_io.specs.Text.{FitFile}
 use Rattle.cap_io.specs.Sink.{SinkView, WritesPacket, refusal_in, added_in}
-use Rattle.cap_io.proofs.Texts.{puts-ok, puts-err, puts-tell, put-writes-tell}
+use Rattle.cap_io.proofs.Texts.{adds-broken, puts-tell, put-writes-tell}
 use Rattle.cap_io.proofs.sink.Sink.put.Goals as goal
 
 pub returns-in-Err-clause-bytes : goal.returns-in-Err-clause-bytes
@@ -19,18 +19,19 @@ returns-in-Err-clause-answer g c =
     let old : SinkView = c.args.self.now in
     let p = captured c.args.packet.now in
     puts-tell old.state old p (Err c.in-Err.fault) _ (λ f e. c.in_default.not-Broken f (ap (λ (s : SinkView). s.state) c.self.view_is ∙ e))
-    (λ ps has. puts-err ps old p c.in-Err.fault _ _ has c.in-Err.ensures.answer
-    (ap (λ (s : SinkView). record { format = s.format; state = Broken c.in-Err.fault; interfaces = s.interfaces; written = s.written; failures = s.failures; room = s.room }) c.self-2.view_is)
-    c.self-2.invariant)
+    (record {
+      adds = adds-broken old p c.in-Err.fault _ _ c.in-Err.ensures.answer
+          (ap (λ (s : SinkView). record { format = s.format; state = Broken c.in-Err.fault; interfaces = s.interfaces; written = s.written; failures = s.failures; room = s.room }) c.self-2.view_is);
+      broken = refl;
+    })
 
 pub returns-in_default-result : goal.returns-in_default-result
 returns-in_default-result g c =
     let old : SinkView = c.args.self.now in
     let p = captured c.args.packet.now in
-    let upper_bound : FitFile c.add-result.new.self.interfaces = subst FitFile (ap (λ (s : SinkView). s.interfaces) c.self-2.view_is) c.self-2.invariant in
     rw c.in_default-result.is (record {
       bytes = λ tells. put-writes-tell old.state old p (Ok tt) c.add-result.new.self (λ f e. c.in_default.not-Broken f (ap (λ (s : SinkView). s.state) c.self.view_is ∙ e)) (c.in_default-result.ensures.bytes tells);
       answer = puts-tell old.state old p (Ok tt) c.add-result.new.self (λ f e. c.in_default.not-Broken f (ap (λ (s : SinkView). s.state) c.self.view_is ∙ e))
-          (λ ps has. puts-ok ps old p c.add-result.new.self has c.in_default-result.ensures.answer upper_bound);
-      interfaces = upper_bound;
+          (record { adds = c.in_default-result.ensures.answer; broken = tt });
+      interfaces = subst FitFile (ap (λ (s : SinkView). s.interfaces) c.self-2.view_is) c.self-2.invariant;
     })

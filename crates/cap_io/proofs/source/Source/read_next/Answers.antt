@@ -12,24 +12,22 @@ returns-in_err-unit-clause-packets g c =
     let declared = ap (λ (v : SourceView). v.declared) c.self.view_is in
     let unread = ap (λ (v : SourceView). v.unread) c.self.view_is in
     let room = ap (λ (v : SourceView). v.room) c.self.view_is in
-    let new = view_of c.self.inside.stage c.read_unit.new.spans c.read_unit.new.file c.read_unit.new.table c.read_unit.new.buffer.items c.self.inside.offset
-    (g.I.Input.unread c.read_unit.new.input) (g.I.Input.given c.read_unit.new.input) (g.I.Input.failures c.read_unit.new.input) (g.I.Input.sure c.read_unit.new.input) in
-    let between = stage_between c.self.inside.stage c.self.inside.spans c.self.inside.buffer.items (ap (λ (v : SourceView). v.phase) c.self.view_is ∙ c.requires.between.phase)
+    let new = view_of g.I.Input c.self.inside.stage c.next_unit.new.self c.self.inside.offset in
+    let between = stage_between c.self.inside.stage c.self.inside.reader.spans c.self.inside.reader.buffer.items (ap (λ (v : SourceView). v.phase) c.self.view_is ∙ c.requires.between.phase)
     (ap (λ (v : SourceView). v.block) c.self.view_is ∙ c.requires.between.block) c.self.invariant.lies in
     rw (p.1, p.2) (λ t. IsBroken-next c.args.self.now new c.in_err-unit.field-0.0 c.requires.between (rw (declared, unread) at (c.in_err-unit.ensures.err t))
     (ap₂ declared_by c.in_err-unit.ensures.kept.0 c.in_err-unit.ensures.kept.1 ∙ declared) (ap (λ (v : SourceView). v.offset) c.self.view_is)
     (omega (arith, c.in_err-unit.ensures.grown, room)) (λ e. rw (declared, unread) at (c.in_err-unit.ensures.memory (ap Err e) t)) (c.in_err-unit.ensures.moves.told t ∙ ap (λ (v : SourceView). v.given + length v.unread) c.self.view_is)
-    (ap (λ s. block_at s c.read_unit.new.spans c.read_unit.new.buffer.items) between)
-    (ap (λ s. packet_at s c.read_unit.new.spans (declared_by c.read_unit.new.file c.read_unit.new.table) c.read_unit.new.buffer.items) between))
+    (ap (λ s. block_at s c.next_unit.new.self.spans c.next_unit.new.self.buffer.items) between)
+    (ap (λ s. packet_at s c.next_unit.new.self.spans (declared_by c.next_unit.new.self.file c.next_unit.new.self.table) c.next_unit.new.self.buffer.items) between))
 
 pub returns-in-Packet-clause-packets : goal.returns-in-Packet-clause-packets
 returns-in-Packet-clause-packets g c = λ t.
     let declared = ap (λ (v : SourceView). v.declared) c.self.view_is in
     let unread = ap (λ (v : SourceView). v.unread) c.self.view_is in
     let room = ap (λ (v : SourceView). v.room) c.self.view_is in
-    let new = view_of stage.InHand c.read_unit.new.spans c.read_unit.new.file c.read_unit.new.table c.read_unit.new.buffer.items c.self.inside.offset
-    (g.I.Input.unread c.read_unit.new.input) (g.I.Input.given c.read_unit.new.input) (g.I.Input.failures c.read_unit.new.input) (g.I.Input.sure c.read_unit.new.input) in
-    rw c.in-Packet.is (FindsPacket-next c.args.self.now new c.read_unit.new.spans c.read_unit.new.buffer.items c.requires.between
+    let new = view_of g.I.Input stage.InHand c.next_unit.new.self c.self.inside.offset in
+    rw c.in-Packet.is (FindsPacket-next c.args.self.now new c.next_unit.new.self.spans c.next_unit.new.self.buffer.items c.requires.between
     (rw (declared, unread) at (rw c.in-Packet.is at (c.in_ok-unit.ensures.ok t))) refl refl (ap (λ (v : SourceView). v.offset) c.self.view_is) (omega (arith, c.in_ok-unit.ensures.grown, room)) refl refl)
 
 pub returns-in-Other-clause-packets : goal.returns-in-Other-clause-packets
@@ -37,8 +35,7 @@ returns-in-Other-clause-packets g c = λ t.
     let declared = ap (λ (v : SourceView). v.declared) c.self.view_is in
     let unread = ap (λ (v : SourceView). v.unread) c.self.view_is in
     let room = ap (λ (v : SourceView). v.room) c.self.view_is in
-    let new = view_of c.self.inside.stage c.read_unit.new.spans c.read_unit.new.file c.read_unit.new.table c.read_unit.new.buffer.items (c.self.inside.offset + c.in-Other.size)
-    (g.I.Input.unread c.read_unit.new.input) (g.I.Input.given c.read_unit.new.input) (g.I.Input.failures c.read_unit.new.input) (g.I.Input.sure c.read_unit.new.input) in
+    let new = view_of g.I.Input c.self.inside.stage c.next_unit.new.self (c.self.inside.offset + c.in-Other.size) in
     SkipsUnits-next c.args.self.now new c.in-Other.size c.requires.between
     (rw (declared, unread) at (rw c.in-Other.is at (c.in_ok-unit.ensures.ok t))) (ap (λ (v : SourceView). v.offset + c.in-Other.size) c.self.view_is) (omega (arith, c.in_ok-unit.ensures.grown, room))
     (rw (declared) at (rw c.in-Other.is at c.in_ok-unit.ensures.fits))
@@ -48,7 +45,6 @@ returns-in-End-clause-packets g c = λ t.
     let declared = ap (λ (v : SourceView). v.declared) c.self.view_is in
     let unread = ap (λ (v : SourceView). v.unread) c.self.view_is in
     let room = ap (λ (v : SourceView). v.room) c.self.view_is in
-    let new = view_of stage.Ended c.read_unit.new.spans c.read_unit.new.file c.read_unit.new.table c.read_unit.new.buffer.items c.self.inside.offset
-    (g.I.Input.unread c.read_unit.new.input) (g.I.Input.given c.read_unit.new.input) (g.I.Input.failures c.read_unit.new.input) (g.I.Input.sure c.read_unit.new.input) in
+    let new = view_of g.I.Input stage.Ended c.next_unit.new.self c.self.inside.offset in
     rw c.in-End.is (FindsEnd-next c.args.self.now new c.requires.between
     (rw (declared, unread) at (rw c.in-End.is at (c.in_ok-unit.ensures.ok t))) (ap (λ (v : SourceView). v.offset) c.self.view_is) (omega (arith, c.in_ok-unit.ensures.grown, room)) refl refl refl)

@@ -9,4 +9,4 @@ pub returns-in-InHand : goal.returns-in-InHand
 returns-in-InHand g c =
     let view = rw c.in-InHand.is at (ap (λ (v : SourceView). v.packet) c.self.view_is) in
     let known = rw c.in-InHand.is at c.self.invariant.known in
-    time-held (declared_by c.self.inside.file c.self.inside.table) c.self.inside.spans (take c.self.inside.spans.size c.self.inside.buffer.items) known ∙ ap (option_map (λ p. p.time)) view
+    time-held (declared_by c.self.inside.reader.file c.self.inside.reader.table) c.self.inside.reader.spans (take c.self.inside.reader.spans.size c.self.inside.reader.buffer.items) known ∙ ap (option_map (λ p. p.time)) view

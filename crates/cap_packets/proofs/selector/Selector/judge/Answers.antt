@@ -3,19 +3,19 @@ use Rattle.cap_octet.specs.Packet.{Captured, captured}
 use Rattle.cap_octet.specs.declared.fault.Fault.TheVariants.{TooManyPackets}
 use Rattle.cap_packets.specs.declared.selector.Verdict.TheVariants as code
 use Rattle.cap_filter.specs.Programs.{spent_in}
-use Rattle.cap_inputs.specs.Inputs.{most_steps}
+use Rattle.cap_packets.specs.Reports.{FitsTally}
 use Rattle.cap_packets.specs.Verdict.{Judgement, SelectorState, is_last, judge_by, refuses, judge}
-use Rattle.cap_packets.specs.Selector.{SelectorView, IsWithin, GrowsByOne, HasFewMarks, ReturnsVerdict, IsVerdict, most_spent, policy_of, programs_in, spent_by_verdict, window_of, count_limit, is_count, marks_in, verdict_if, state_of, verdict_of}
-use Rattle.cap_packets.proofs.Selectors.{counted-spends, judged-spends, refused-spends, upper_bound, too-many, tells-count, tells-none, tells-passed, window-few, within-room}
+use Rattle.cap_packets.specs.Selector.{SelectorView, GrowsByOne, HasFewMarks, ReturnsVerdict, IsVerdict, most_spent, policy_of, programs_in, spent_by_verdict, window_of, count_limit, is_count, marks_in, verdict_if, state_of, verdict_of}
+use Rattle.cap_packets.proofs.Selectors.{counted-spends, judged-spends, refused-spends, upper_bound, too-many, tells-count, tells-none, tells-passed, window-few}
 use Rattle.cap_packets.proofs.selector.Selector.judge.Goals as goal
 use Rattle.cap_packets.proofs.selector.Selector.judge.Goals.{then-passed-number, else-passed-number}
 
 pub returns-then-counts-clause-exact : goal.returns-then-counts-clause-exact
 returns-then-counts-clause-exact g c = λ within counted.
-    let P : SelectorView → Type 0 = λ v. IsWithin most_steps v.state.tally → IsVerdict (judge v.policy v.state c.args.number (captured c.args.packet.now)) (Ok code.Skip) (captured c.args.packet.now) (state_of c.self.inside.passed (marks_in c.self.inside.window) c.counted-self-inside.result) in
+    let P : SelectorView → Type 0 = λ v. FitsTally v.state.tally → IsVerdict (judge v.policy v.state c.args.number (captured c.args.packet.now)) (Ok code.Skip) (captured c.args.packet.now) (state_of c.self.inside.passed (marks_in c.self.inside.window) c.counted-self-inside.result) in
     subst P c.self.view_is
     (λ upper_bound. tells-count (policy_of c.self.inside.policy) c.self.inside.passed (marks_in c.self.inside.window) c.self.inside.tally c.counted-self-inside.result c.args.number (captured c.args.packet.now) code.Skip
-    (sym c.counts.ensures ∙ c.if-counts.true) refl (c.counted-self-inside.ensures.counted (within-room c.self.inside.tally upper_bound)))
+    (sym c.counts.ensures ∙ c.if-counts.true) refl (c.counted-self-inside.ensures.counted upper_bound))
     counted
 
 pub returns-then-number-ge-MOST_PACKETS-clause-exact : goal.returns-then-number-ge-MOST_PACKETS-clause-exact

@@ -1,5 +1,5 @@
 use Rattle.std.proofs.Common.{◌≡◌, ◌+◌, Ok, Err, IsTrue, List, ℕ, subst, sym, ◌∙◌, ap, arith, Bool, refl, Option, None, Some}
-use Rattle.cap_filter.specs.Outcome.{OutputView}
+use Rattle.cap_octet.specs.Views.{OutputView}
 use Rattle.cap_tools.specs.declared.step.JobEnd.{JobEnd}
 use Rattle.cap_packets.specs.Output.{output_at}
 use Rattle.cap_inputs.specs.declared.inputs.Next.TheVariants as next
@@ -8,10 +8,10 @@ use Rattle.cap_inputs.specs.Inputs.{InputsView, InputView, InputPast, input_behi
 use Rattle.cap_inputs.specs.Inputs as input_spec
 use Rattle.cap_packets.specs.Verdict.{Policy}
 use Rattle.cap_packets.specs.Selector.{SelectorView, policy_state}
-use Rattle.cap_tools.specs.Machine.{MachineState, PacketsDecided, EndLeaves, StepGives, end_of_failed_write}
+use Rattle.cap_tools.specs.Packets.{JobState, PacketsDecided, EndLeaves, StepGives, end_of_failed_write}
 use Rattle.cap_tools.specs.Start.{Preparing, preparing_of}
 use Rattle.std.specs.Option.{option_map}
-use Rattle.cap_tools.specs.Jobs.{machine_at, JobView}
+use Rattle.cap_tools.specs.Jobs.{state_at, JobView}
 use Rattle.cap_tools.specs.Bounds.{decides_one, leaves_one}
 use Rattle.cap_tools.specs.Step.{IsStep}
 use Rattle.cap_tools.proofs.Answers.{answer-leaves, AnswerLeaves}
@@ -22,17 +22,18 @@ use Rattle.cap_tools.proofs.Lefts.{mark_decided-less, mark_decided-paid, to-deci
 use Rattle.cap_tools.proofs.Preparing.{ready-none}
 use Rattle.cap_tools.proofs.Programs.{have-decided}
 use Rattle.cap_tools.proofs.Weights.{is-light, mark_decided-small}
+use Rattle.cap_tools.proofs.Places.{get-input}
 use Rattle.cap_tools.proofs.job.Job.decide_next.Goals as goal
 use Rattle.cap_tools.proofs.job.Job.decide_next.Goals.{then-last, else-last}
 
 pub decide-requires : goal.decide-requires
 decide-requires g c =
-    let N : JobView → Type 0 = λ v. input_spec.IsNext v.machine.inputs (next.Decide c.args.input) in
+    let N : JobView → Type 0 = λ v. input_spec.IsNext v.state.inputs (next.Decide c.args.input) in
     to-decide c.self.inside.inputs.order c.self.inside.inputs.cursors c.args.input c.cursor.result.now (subst N (sym c.self.view_is) c.requires.next) c.cursor.ensures
 
 pub invariant_of-self : goal.invariant_of-self
 invariant_of-self g c =
-    let N : JobView → Type 0 = λ v. input_spec.IsNext v.machine.inputs (next.Decide c.args.input) in
+    let N : JobView → Type 0 = λ v. input_spec.IsNext v.state.inputs (next.Decide c.args.input) in
     let tells = subst N (sym c.self.view_is) c.requires.next in
     let less = mark_decided-less c.self.inside.inputs c.mark_decided.new.self c.args.input tells c.mark_decided.ensures in
     let paid = mark_decided-paid c.self.inside.inputs c.mark_decided.new.self c.args.input tells c.mark_decided.ensures in
@@ -61,11 +62,11 @@ pub returns-in-Err : goal.returns-in-Err
 returns-in-Err g c =
     let preparing : Option Preparing = option_map preparing_of c.self.inside.preparation in
     let j : SelectorView = c.decide.new.selector in
-    let m : MachineState = machine_at c.self.inside.inputs c.self.inside.selector (output_at c.self.inside.messages.names c.self.inside.output) c.self.inside.decided in
+    let m : JobState = state_at c.self.inside.inputs c.self.inside.selector (output_at c.self.inside.messages.names c.self.inside.output) c.self.inside.decided in
     let err : OutputView = c.self.inside.messages.device in
-    let left : Policy → MachineState = λ k. record { inputs = c.self.inside.inputs; policy = k; state = j.state; output = output_at c.self.inside.messages.names c.decide.new.output; decided = c.self.inside.decided } in
-    let new : JobView = record { preparing = preparing; machine = left j.policy; programs = j.programs; err = err; turns = c.self.inside.turns; done = c.self.inside.done } in
-    let N : JobView → Type 0 = λ v. input_spec.IsNext v.machine.inputs (next.Decide c.args.input) in
+    let left : Policy → JobState = λ k. record { inputs = c.self.inside.inputs; policy = k; state = j.state; output = output_at c.self.inside.messages.names c.decide.new.output; decided = c.self.inside.decided } in
+    let new : JobView = record { preparing = preparing; state = left j.policy; programs = j.programs; err = err; turns = c.self.inside.turns; done = c.self.inside.done } in
+    let N : JobView → Type 0 = λ v. input_spec.IsNext v.state.inputs (next.Decide c.args.input) in
     let tells = subst N (sym c.self.view_is) c.requires.next in
     let h = held c.cursor.result.now.source.packet c.self.inside.selector (c.self.inside.decided + 1) c.decide.new.selector c.decide.ensures.spends in
     let P : JobView → Type 0 = λ v. IsStep g.I.Input.tells g.O.Output.tells v (Some (end_of_failed_write c.args.input c.in-Err.fault)) new in
@@ -77,7 +78,7 @@ returns-in-Err g c =
       reads = leaves_one c.args.input refl (record {
         next = tells;
         packet = h.packet;
-        holds = record { cursor = c.cursor.result.now; among = c.cursor.ensures; waits = to-decide m.inputs.order m.inputs.cursors c.args.input c.cursor.result.now tells c.cursor.ensures; held = h.is };
+        holds = record { cursor = c.cursor.result.now; among = get-input m.inputs.cursors c.args.input c.cursor.result.now c.cursor.ensures; waits = to-decide m.inputs.order m.inputs.cursors c.args.input c.cursor.result.now tells c.cursor.ensures; held = h.is };
         inputs = refl;
         decided = refl;
         programs = h.spends;
@@ -99,17 +100,17 @@ pub returns-after-last : goal.returns-after-last
 returns-after-last g c =
     let preparing : Option Preparing = option_map preparing_of c.self.inside.preparation in
     let j : SelectorView = c.decide.new.selector in
-    let m : MachineState = machine_at c.self.inside.inputs c.self.inside.selector (output_at c.self.inside.messages.names c.self.inside.output) c.self.inside.decided in
+    let m : JobState = state_at c.self.inside.inputs c.self.inside.selector (output_at c.self.inside.messages.names c.self.inside.output) c.self.inside.decided in
     let err : OutputView = c.self.inside.messages.device in
-    let left : InputsView → Policy → MachineState = λ f k. record { inputs = f; policy = k; state = j.state; output = output_at c.self.inside.messages.names c.decide.new.output; decided = c.self.inside.decided + 1 } in
-    let was : JobView = record { preparing = preparing; machine = m; programs = c.self.inside.selector.programs; err = err; turns = c.self.inside.turns; done = c.self.inside.done } in
-    let new : JobView = record { preparing = preparing; machine = left c.mark_decided.new.self j.policy; programs = j.programs; err = err; turns = c.self.inside.turns; done = c.self.inside.done } in
-    let N : JobView → Type 0 = λ v. input_spec.IsNext v.machine.inputs (next.Decide c.args.input) in
+    let left : InputsView → Policy → JobState = λ f k. record { inputs = f; policy = k; state = j.state; output = output_at c.self.inside.messages.names c.decide.new.output; decided = c.self.inside.decided + 1 } in
+    let was : JobView = record { preparing = preparing; state = m; programs = c.self.inside.selector.programs; err = err; turns = c.self.inside.turns; done = c.self.inside.done } in
+    let new : JobView = record { preparing = preparing; state = left c.mark_decided.new.self j.policy; programs = j.programs; err = err; turns = c.self.inside.turns; done = c.self.inside.done } in
+    let N : JobView → Type 0 = λ v. input_spec.IsNext v.state.inputs (next.Decide c.args.input) in
     let tells = subst N (sym c.self.view_is) c.requires.next in
     let behind : InputView → InputsView = λ v. with_cursor m.inputs c.args.input (input_behind v) in
     let same = among-same m.inputs.cursors c.args.input c.cursor.result.now c.mark_decided.ensures.cursor c.cursor.ensures c.mark_decided.ensures.among in
     let inputs : c.mark_decided.new.self ≡ behind c.cursor.result.now = c.mark_decided.ensures.is ∙ ap behind (sym same) in
-    let failed : MachineState = mk m.inputs.cursors m.inputs.order m.policy j.state (output_at c.self.inside.messages.names c.decide.new.output) m.decided in
+    let failed : JobState = mk m.inputs.cursors m.inputs.order m.policy j.state (output_at c.self.inside.messages.names c.decide.new.output) m.decided in
     let all : (ss : List InputPast) (before : List ℕ) (d : PacketsDecided ss before m) → IsTrue g.O.Output.tells → AnswerLeaves d c.args.input (Ok c.in-Ok.last) (left c.mark_decided.new.self j.policy) failed = λ ss before d to.
     let NF : InputsView → Type 0 = λ f. AnswerLeaves d c.args.input (Ok c.in-Ok.last) (left f m.policy) failed in
     let NK : Policy → Type 0 = λ k. AnswerLeaves d c.args.input (Ok c.in-Ok.last) (left c.mark_decided.new.self k) failed in
@@ -117,12 +118,12 @@ returns-after-last g c =
     (answer-leaves ss before m.inputs.cursors m.inputs.order m.policy m.state m.output m.decided c.args.input (Ok c.in-Ok.last) c.cursor.result.now (policy_state j) (output_at c.self.inside.messages.names c.decide.new.output) refl tells c.cursor.ensures c.in-Ok.ensures.policy c.in-Ok.ensures.passed c.in-Ok.ensures.counted (let i = c.self.invariant.0 in omega (arith, i)) (c.in-Ok.ensures.exact to) d)) in
     let h = held c.cursor.result.now.source.packet c.self.inside.selector (c.self.inside.decided + 1) c.decide.new.selector c.decide.ensures.spends in
     let S : Option JobEnd → JobView → Type 0 = λ r v. IsStep g.I.Input.tells g.O.Output.tells v r new in
-    let step : (r : Option JobEnd) → (IsTrue g.O.Output.tells → StepGives m r new.machine) → S r was = λ r exact. record {
+    let step : (r : Option JobEnd) → (IsTrue g.O.Output.tells → StepGives m r new.state) → S r was = λ r exact. record {
       exact = λ ti to. exact to;
       reads = decides_one c.args.input (record {
         next = tells;
         packet = h.packet;
-        holds = record { cursor = c.cursor.result.now; among = c.cursor.ensures; waits = to-decide m.inputs.order m.inputs.cursors c.args.input c.cursor.result.now tells c.cursor.ensures; held = h.is };
+        holds = record { cursor = c.cursor.result.now; among = get-input m.inputs.cursors c.args.input c.cursor.result.now c.cursor.ensures; waits = to-decide m.inputs.order m.inputs.cursors c.args.input c.cursor.result.now tells c.cursor.ensures; held = h.is };
         settles = c.mark_decided.ensures;
         decided = refl;
         programs = h.spends;
@@ -140,7 +141,7 @@ returns-after-last g c =
       done = λ more. refl;
     } in
     let goes : (r : Option JobEnd) → S r was → S r c.args.self.now = λ r s. (let Q : JobView → Type 0 = λ v. S r v in subst Q c.self.view_is s) in
-    let R : (ss : List InputPast) (before : List ℕ) → PacketsDecided ss before m → Bool → Type 0 = λ ss before d b. AnswerLeaves d c.args.input (Ok b) new.machine failed in
+    let R : (ss : List InputPast) (before : List ℕ) → PacketsDecided ss before m → Bool → Type 0 = λ ss before d b. AnswerLeaves d c.args.input (Ok b) new.state failed in
     elim c.if-last.branch [
       | then-last w ↦ rw w.result-is (goes (Some end.Complete) (step (Some end.Complete) (λ to ss before d. (let B : Bool → Type 0 = λ b. R ss before d b in subst B w.if-last.true (all ss before d to)))))
       | else-last w ↦ rw w.result-is (goes None (step None (λ to ss before d. (let B : Bool → Type 0 = λ b. R ss before d b in subst B w.if-last.false (all ss before d to)))))

@@ -1,16 +1,16 @@
 use Rattle.std.proofs.Common.{Result, Option, IsTrue, List, ℕ, refl, subst, sym, Some}
 use Rattle.cap_octet.specs.declared.fault.Fault.{Fault}
-use Rattle.cap_filter.specs.Outcome.{OutputView}
+use Rattle.cap_octet.specs.Views.{OutputView}
 use Rattle.cap_inputs.specs.declared.inputs.Next.TheVariants as next
 use Rattle.cap_tools.specs.declared.step.JobEnd.{JobEnd}
 use Rattle.cap_tools.specs.declared.step.JobEnd.TheVariants as end
 use Rattle.cap_packets.specs.Output.{output_at, EndsOutput}
 use Rattle.cap_inputs.specs.Inputs.{InputPast}
 use Rattle.cap_inputs.specs.Inputs as input_spec
-use Rattle.cap_tools.specs.Machine.{MachineState, PacketsDecided, EndLeaves}
+use Rattle.cap_tools.specs.Packets.{JobState, PacketsDecided, EndLeaves}
 use Rattle.cap_tools.specs.Start.{Preparing, preparing_of}
 use Rattle.std.specs.Option.{option_map}
-use Rattle.cap_tools.specs.Jobs.{machine_at, JobView}
+use Rattle.cap_tools.specs.Jobs.{state_at, JobView}
 use Rattle.cap_tools.specs.Bounds.{reads_nothing}
 use Rattle.cap_tools.specs.Step.{IsStep}
 use Rattle.cap_tools.proofs.Finishes.{finish-leaves, FinishLeaves}
@@ -21,11 +21,11 @@ use Rattle.cap_tools.proofs.job.Job.finish.Goals.{in-Ok, in-Err}
 pub returns : goal.returns
 returns g c =
     let preparing : Option Preparing = option_map preparing_of c.self.inside.preparation in
-    let m : MachineState = machine_at c.self.inside.inputs c.self.inside.selector (output_at c.self.inside.messages.names c.self.inside.output) c.self.inside.decided in
+    let m : JobState = state_at c.self.inside.inputs c.self.inside.selector (output_at c.self.inside.messages.names c.self.inside.output) c.self.inside.decided in
     let err : OutputView = c.self.inside.messages.device in
-    let left : MachineState = record { inputs = c.self.inside.inputs; policy = c.self.inside.selector.policy; state = c.self.inside.selector.state; output = output_at c.self.inside.messages.names c.finish.new.self; decided = c.self.inside.decided } in
-    let new : JobView = record { preparing = preparing; machine = left; programs = c.self.inside.selector.programs; err = err; turns = c.self.inside.turns; done = c.self.inside.done } in
-    let N : JobView → Type 0 = λ v. input_spec.IsNext v.machine.inputs next.Finish in
+    let left : JobState = record { inputs = c.self.inside.inputs; policy = c.self.inside.selector.policy; state = c.self.inside.selector.state; output = output_at c.self.inside.messages.names c.finish.new.self; decided = c.self.inside.decided } in
+    let new : JobView = record { preparing = preparing; state = left; programs = c.self.inside.selector.programs; err = err; turns = c.self.inside.turns; done = c.self.inside.done } in
+    let N : JobView → Type 0 = λ v. input_spec.IsNext v.state.inputs next.Finish in
     let tells = subst N (sym c.self.view_is) c.requires.next in
     let F : Option ℕ → Type 0 = λ o. EndsOutput o m.output.target c.finish.result left.output.target in
     let all : (ss : List InputPast) (before : List ℕ) (d : PacketsDecided ss before m) → IsTrue g.O.Output.tells → FinishLeaves d c.finish.result left = λ ss before d to.

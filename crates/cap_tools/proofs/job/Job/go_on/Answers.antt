@@ -3,10 +3,10 @@ use Rattle.std.proofs.Common.{◌≡◌, ◌+◌, ℕ, List, true, false, subst,
 use Rattle.std.proofs.lemmas.Grind.{common_steps}
 use Rattle.cap_packets.specs.Output.{output_at}
 use Rattle.cap_inputs.specs.Inputs.{InputPast}
-use Rattle.cap_tools.specs.Machine.{GoesOn}
+use Rattle.cap_tools.specs.Packets.{GoesOn}
 use Rattle.cap_packets.specs.Selector.{HavePrograms}
 use Rattle.cap_tools.specs.Bounds.{IsLight, StepReads}
-use Rattle.cap_tools.specs.Jobs.{machine_at, JobView, Decided, end_status}
+use Rattle.cap_tools.specs.Jobs.{state_at, JobView, Decided, end_status}
 use Rattle.cap_tools.proofs.Ends.{step-ends}
 use Rattle.cap_tools.proofs.Kept.{reads-kept}
 use Rattle.cap_tools.proofs.Weights.{is-light}
@@ -14,18 +14,18 @@ use Rattle.cap_tools.proofs.job.Job.go_on.Goals as goal
 
 pub returns-in-Some-clause-light : goal.returns-in-Some-clause-light
 returns-in-Some-clause-light g c =
-    let L : JobView → Type 0 = λ v. IsLight v.machine in
-    subst L c.self.view_is (is-light (machine_at c.self.inside.inputs c.self.inside.selector (output_at c.self.inside.messages.names c.self.inside.output) c.self.inside.decided) c.self.invariant.1 c.self.invariant.2)
+    let L : JobView → Type 0 = λ v. IsLight v.state in
+    subst L c.self.view_is (is-light (state_at c.self.inside.inputs c.self.inside.selector (output_at c.self.inside.messages.names c.self.inside.output) c.self.inside.decided) c.self.invariant.1 c.self.invariant.2)
 
 pub returns-in-None-clause-reads : goal.returns-in-None-clause-reads
 returns-in-None-clause-reads g c =
-    let P : JobView → Type 0 = λ v. StepReads g.I.Input.tells true c.args.self.now (record { preparing = v.preparing; machine = v.machine; programs = v.programs; err = v.err; turns = v.turns + 1; done = v.done }) in
+    let P : JobView → Type 0 = λ v. StepReads g.I.Input.tells true c.args.self.now (record { preparing = v.preparing; state = v.state; programs = v.programs; err = v.err; turns = v.turns + 1; done = v.done }) in
     let mid : JobView = c.do_next.new.self in
     subst P (sym c.self-in-None.view_is) (reads-kept g.I.Input.tells true c.args.self.now mid mid.preparing mid.err (mid.turns + 1) mid.done c.in-None.ensures.reads)
 
 pub returns-in-None-clause-exact : goal.returns-in-None-clause-exact
 returns-in-None-clause-exact g c = λ ti to none.
-    let P : JobView → Type 0 = λ v. (v.err ≡ c.args.self.now.err) × ((ss : List InputPast) (before : List ℕ) (d : Decided ss before c.args.self.now) → GoesOn d.packets v.machine × HavePrograms v.machine.policy v.programs) in
+    let P : JobView → Type 0 = λ v. (v.err ≡ c.args.self.now.err) × ((ss : List InputPast) (before : List ℕ) (d : Decided ss before c.args.self.now) → GoesOn d.packets v.state × HavePrograms v.state.policy v.programs) in
     let stays = subst P (sym c.self-in-None.view_is) (c.in-None.ensures.err, λ ss before d. (c.in-None.ensures.exact ti to ss before d.packets, c.in-None.ensures.sound)) in
     (stays.0, λ ss before d. record { goes = (stays.1 ss before d).0; programs = (stays.1 ss before d).1 })
 

@@ -8,11 +8,12 @@ use Rattle.cap_packets.specs.Output.{HasFewOutputInterfaces, Target}
 use Rattle.cap_packets.specs.Reports.{nothing_counted}
 use Rattle.cap_inputs.specs.Inputs.{InputsView, steps_left}
 use Rattle.cap_packets.specs.Selector.{HasFewMarks, HavePrograms, SelectorView, policy_of, state_with}
-use Rattle.cap_inputs.specs.Sequence.{PacketOrder, order_of}
+use Rattle.cap_io.specs.Sequence.{PacketOrder, order_of}
 use Rattle.cap_tools.specs.Start.{Assignment, preparing_of}
-use Rattle.cap_tools.specs.Call.{Call, call_of}
+use Rattle.cap_command.specs.Call.{Call, call_of}
 use Rattle.cap_tools.specs.Jobs.{JobView}
-use Rattle.cap_inputs.specs.Fresh.{fresh_input, fresh_inputs, nothing_done}
+use Rattle.cap_octet.specs.Views.{fresh_input, fresh_output}
+use Rattle.cap_inputs.specs.Fresh.{fresh_inputs, nothing_done}
 use Rattle.cap_tools.specs.Commands.{DecidedBy, IsReadyIf}
 use Rattle.cap_tools.proofs.CommandStarts.{few-inputs, first-decided, first-made, first-ready}
 use Rattle.cap_tools.proofs.Starts.{first-few, first-left, same-count}
@@ -21,7 +22,7 @@ use Rattle.cap_tools.proofs.job.Job.new.Goals as goal
 
 pub invariant_of-result : goal.invariant_of-result
 invariant_of-result g c =
-    let call : Call = call_of g.I.Input g.O.Output g.E.Output (map string_bytes c.args.names.items) c.args.inputs.items c.args.out c.args.err in
+    let call : Call = call_of (map string_bytes c.args.names.items) (map (fresh_input g.I.Input) c.args.inputs.items) (fresh_output g.O.Output c.args.out) (fresh_output g.E.Output c.args.err) in
     let order : PacketOrder = order_of c.assignment_of-preparation.result.merges in
     let count : length call.inputs ≡ length c.args.inputs.items = same-count (fresh_input g.I.Input) c.args.inputs.items in
     let proper = few-inputs c.args.command _ c.requires.proper in
@@ -44,7 +45,7 @@ invariant_of-result g c =
 
 pub returns-clause-decided : goal.returns-clause-decided
 returns-clause-decided g c =
-    let call : Call = call_of g.I.Input g.O.Output g.E.Output (map string_bytes c.args.names.items) c.args.inputs.items c.args.out c.args.err in
+    let call : Call = call_of (map string_bytes c.args.names.items) (map (fresh_input g.I.Input) c.args.inputs.items) (fresh_output g.O.Output c.args.out) (fresh_output g.E.Output c.args.err) in
     let order : PacketOrder = order_of c.assignment_of-preparation.result.merges in
     let a : Assignment = record { preparing = option_map preparing_of c.assignment_of-preparation.result.preparation; policy = policy_of c.assignment_of-preparation.result.policy; order = order; writing = c.assignment_of-preparation.result.writing } in
     let programs : List Content → SelectorView = λ l. record { policy = a.policy; state = state_with 0 nothing_counted; programs = l } in

@@ -1,6 +1,6 @@
 use Rattle.std.proofs.Common.{◌≡◌, ◌∙◌, ◌&&◌, Bool, true, false, Result, Ok, Some, refl, sym, ap, arith, subst, Option, None}
 use Rattle.cap_octet.specs.declared.fault.Fault.{Fault}
-use Rattle.cap_filter.specs.Outcome.{OutputView}
+use Rattle.cap_octet.specs.Views.{OutputView}
 use Rattle.cap_packets.specs.Output.{output_at}
 use Rattle.cap_inputs.specs.declared.inputs.Next.TheVariants as next
 use Rattle.cap_tools.specs.declared.step.JobEnd.TheVariants as end
@@ -8,10 +8,10 @@ use Rattle.cap_inputs.specs.Inputs.{InputsView, is_clean_end}
 use Rattle.cap_inputs.specs.Inputs as input_spec
 use Rattle.cap_packets.specs.Verdict.{Policy}
 use Rattle.cap_packets.specs.Selector.{SelectorView, policy_state}
-use Rattle.cap_tools.specs.Machine.{MachineState, StepLeaves, asks_report}
+use Rattle.cap_tools.specs.Packets.{JobState, StepLeaves, asks_report}
 use Rattle.cap_tools.specs.Start.{Preparing, preparing_of}
 use Rattle.std.specs.Option.{option_map}
-use Rattle.cap_tools.specs.Jobs.{machine_at, JobView}
+use Rattle.cap_tools.specs.Jobs.{state_at, JobView}
 use Rattle.cap_tools.specs.Bounds.{reads_on, is_fault}
 use Rattle.cap_tools.specs.Step.{IsStep}
 use Rattle.cap_tools.proofs.Preparing.{ready-none}
@@ -24,7 +24,7 @@ use Rattle.cap_tools.proofs.job.Job.read_input.Goals as goal
 
 pub invariant_of-self : goal.invariant_of-self
 invariant_of-self g c =
-    let N : JobView → Type 0 = λ v. input_spec.IsNext v.machine.inputs (next.Read c.args.input) in
+    let N : JobView → Type 0 = λ v. input_spec.IsNext v.state.inputs (next.Read c.args.input) in
     let tells = subst N (sym c.self.view_is) c.requires.next in
     let less = read_input-kept c.self.inside.inputs c.read_input.new.self c.args.input c.read_input.result tells c.read_input.ensures.steps in
     let paid = read_input-paid c.self.inside.inputs c.read_input.new.self c.args.input c.read_input.result tells c.read_input.ensures.steps (subst Goes (sym c.in-Ok-true.is) tt) in
@@ -40,7 +40,7 @@ invariant_of-self g c =
 
 pub invariant_of-self-in-Ok-false : goal.invariant_of-self-in-Ok-false
 invariant_of-self-in-Ok-false g c =
-    let N : JobView → Type 0 = λ v. input_spec.IsNext v.machine.inputs (next.Read c.args.input) in
+    let N : JobView → Type 0 = λ v. input_spec.IsNext v.state.inputs (next.Read c.args.input) in
     let tells = subst N (sym c.self.view_is) c.requires.next in
     let less = read_input-kept c.self.inside.inputs c.read_input.new.self c.args.input c.read_input.result tells c.read_input.ensures.steps in
     let paid = read_input-paid c.self.inside.inputs c.read_input.new.self c.args.input c.read_input.result tells c.read_input.ensures.steps (subst Goes (sym c.in-Ok-false.is) tt) in
@@ -56,7 +56,7 @@ invariant_of-self-in-Ok-false g c =
 
 pub invariant_of-self-in-Err : goal.invariant_of-self-in-Err
 invariant_of-self-in-Err g c =
-    let N : JobView → Type 0 = λ v. input_spec.IsNext v.machine.inputs (next.Read c.args.input) in
+    let N : JobView → Type 0 = λ v. input_spec.IsNext v.state.inputs (next.Read c.args.input) in
     let tells = subst N (sym c.self.view_is) c.requires.next in
     let less = read_input-kept c.self.inside.inputs c.read_input.new.self c.args.input c.read_input.result tells c.read_input.ensures.steps in
     let was = c.self.invariant.0 in (
@@ -73,11 +73,11 @@ pub returns-in-Ok-true : goal.returns-in-Ok-true
 returns-in-Ok-true g c =
     let preparing : Option Preparing = option_map preparing_of c.self.inside.preparation in
     let j : SelectorView = c.self.inside.selector in
-    let m : MachineState = machine_at c.self.inside.inputs c.self.inside.selector (output_at c.self.inside.messages.names c.self.inside.output) c.self.inside.decided in
+    let m : JobState = state_at c.self.inside.inputs c.self.inside.selector (output_at c.self.inside.messages.names c.self.inside.output) c.self.inside.decided in
     let err : OutputView = c.self.inside.messages.device in
-    let left : MachineState = record { inputs = c.read_input.new.self; policy = j.policy; state = j.state; output = output_at c.self.inside.messages.names c.self.inside.output; decided = c.self.inside.decided } in
-    let new : JobView = record { preparing = preparing; machine = left; programs = j.programs; err = err; turns = c.self.inside.turns; done = c.self.inside.done } in
-    let N : JobView → Type 0 = λ v. input_spec.IsNext v.machine.inputs (next.Read c.args.input) in
+    let left : JobState = record { inputs = c.read_input.new.self; policy = j.policy; state = j.state; output = output_at c.self.inside.messages.names c.self.inside.output; decided = c.self.inside.decided } in
+    let new : JobView = record { preparing = preparing; state = left; programs = j.programs; err = err; turns = c.self.inside.turns; done = c.self.inside.done } in
+    let N : JobView → Type 0 = λ v. input_spec.IsNext v.state.inputs (next.Read c.args.input) in
     let tells = subst N (sym c.self.view_is) c.requires.next in
     let found : c.read_input.result ≡ Ok true = c.in-Ok-true.is ∙ ap Ok c.in-Ok-true.field-0-test in
     let F : Result Bool Fault → Type 0 = λ a. Follows a c.read_input.new.self c.args.input (policy_state j) m.output None (policy_state j) m.output in
@@ -105,11 +105,11 @@ returns-in-Ok-false g c =
     let preparing : Option Preparing = option_map preparing_of c.self.inside.preparation in
     let j : SelectorView = c.self.inside.selector in
     let j' : SelectorView = c.close.new.selector in
-    let m : MachineState = machine_at c.self.inside.inputs c.self.inside.selector (output_at c.self.inside.messages.names c.self.inside.output) c.self.inside.decided in
+    let m : JobState = state_at c.self.inside.inputs c.self.inside.selector (output_at c.self.inside.messages.names c.self.inside.output) c.self.inside.decided in
     let err : OutputView = c.self.inside.messages.device in
-    let left : Policy → MachineState = λ k. record { inputs = c.read_input.new.self; policy = k; state = j'.state; output = output_at c.self.inside.messages.names c.close.new.output; decided = c.self.inside.decided } in
-    let new : JobView = record { preparing = preparing; machine = left j'.policy; programs = j'.programs; err = err; turns = c.self.inside.turns; done = c.self.inside.done } in
-    let N : JobView → Type 0 = λ v. input_spec.IsNext v.machine.inputs (next.Read c.args.input) in
+    let left : Policy → JobState = λ k. record { inputs = c.read_input.new.self; policy = k; state = j'.state; output = output_at c.self.inside.messages.names c.close.new.output; decided = c.self.inside.decided } in
+    let new : JobView = record { preparing = preparing; state = left j'.policy; programs = j'.programs; err = err; turns = c.self.inside.turns; done = c.self.inside.done } in
+    let N : JobView → Type 0 = λ v. input_spec.IsNext v.state.inputs (next.Read c.args.input) in
     let tells = subst N (sym c.self.view_is) c.requires.next in
     let found : c.read_input.result ≡ Ok false = c.in-Ok-false.is ∙ ap Ok c.in-Ok-false.field-0-test in
     let F : Result Bool Fault → Type 0 = λ a. Follows a c.read_input.new.self c.args.input (policy_state j) m.output c.close.result (policy_state j') (output_at c.self.inside.messages.names c.close.new.output) in
@@ -148,11 +148,11 @@ pub returns-in-Err : goal.returns-in-Err
 returns-in-Err g c =
     let preparing : Option Preparing = option_map preparing_of c.self.inside.preparation in
     let j : SelectorView = c.self.inside.selector in
-    let m : MachineState = machine_at c.self.inside.inputs c.self.inside.selector (output_at c.self.inside.messages.names c.self.inside.output) c.self.inside.decided in
+    let m : JobState = state_at c.self.inside.inputs c.self.inside.selector (output_at c.self.inside.messages.names c.self.inside.output) c.self.inside.decided in
     let err : OutputView = c.self.inside.messages.device in
-    let left : MachineState = record { inputs = c.read_input.new.self; policy = j.policy; state = j.state; output = output_at c.self.inside.messages.names c.self.inside.output; decided = c.self.inside.decided } in
-    let new : JobView = record { preparing = preparing; machine = left; programs = j.programs; err = err; turns = c.self.inside.turns; done = Some 1 } in
-    let N : JobView → Type 0 = λ v. input_spec.IsNext v.machine.inputs (next.Read c.args.input) in
+    let left : JobState = record { inputs = c.read_input.new.self; policy = j.policy; state = j.state; output = output_at c.self.inside.messages.names c.self.inside.output; decided = c.self.inside.decided } in
+    let new : JobView = record { preparing = preparing; state = left; programs = j.programs; err = err; turns = c.self.inside.turns; done = Some 1 } in
+    let N : JobView → Type 0 = λ v. input_spec.IsNext v.state.inputs (next.Read c.args.input) in
     let tells = subst N (sym c.self.view_is) c.requires.next in
     let F : Result Bool Fault → Type 0 = λ a. Follows a c.read_input.new.self c.args.input (policy_state j) m.output None (policy_state j) m.output in
     let P : JobView → Type 0 = λ v. IsStep g.I.Input.tells g.O.Output.tells v (Some (end.FaultIn c.args.input c.in-Err.fault)) new in

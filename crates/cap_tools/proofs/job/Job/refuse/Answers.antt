@@ -1,9 +1,9 @@
 use Rattle.std.proofs.Common.{◌≡◌, ◌∙◌, ℕ, ◌+◌, List, Option, None, Some, refl, ap, ap₂, subst}
 use Rattle.std.specs.Option.{option_map}
-use Rattle.cap_filter.specs.Messages.{refusal_status}
+use Rattle.cap_filter.specs.Refusals.{refusal_status}
 use Rattle.cap_packets.specs.Output.{output_at}
 use Rattle.cap_tools.specs.Start.{Preparing, preparing_of}
-use Rattle.cap_tools.specs.Jobs.{JobView, machine_at}
+use Rattle.cap_tools.specs.Jobs.{JobView, state_at}
 use Rattle.cap_tools.specs.FirstStep.{RefusesStart}
 use Rattle.cap_tools.proofs.Weights.{is-light}
 use Rattle.cap_tools.proofs.job.Job.refuse.Goals as goal
@@ -14,7 +14,7 @@ returns-clause-refused g c =
     let none : preparing ≡ None = ap (λ (v : JobView). v.preparing) c.self.view_is ∙ c.requires.taken in
     let with : Option Preparing → List (List ℕ) → ℕ → JobView = λ p names status. record {
       preparing = p;
-      machine = machine_at c.self.inside.inputs c.self.inside.selector (output_at names c.self.inside.output) c.self.inside.decided;
+      state = state_at c.self.inside.inputs c.self.inside.selector (output_at names c.self.inside.output) c.self.inside.decided;
       programs = c.self.inside.selector.programs;
       err = c.refuse.new.self.device;
       turns = c.self.inside.turns + 1;
@@ -26,5 +26,5 @@ returns-clause-refused g c =
 
 pub returns-clause-light : goal.returns-clause-light
 returns-clause-light g c =
-    is-light (machine_at c.self.inside.inputs c.self.inside.selector (output_at c.refuse.new.self.names c.self.inside.output) c.self.inside.decided)
+    is-light (state_at c.self.inside.inputs c.self.inside.selector (output_at c.refuse.new.self.names c.self.inside.output) c.self.inside.decided)
     c.self.invariant.1 c.self.invariant.2

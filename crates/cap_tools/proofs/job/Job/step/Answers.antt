@@ -2,8 +2,8 @@ use Rattle.std.proofs.Common.{◌≡◌, Option, None, Some, string_bytes, sym, 
 use Rattle.std.specs.Option.{option_map}
 use Rattle.cap_packets.specs.Output.{output_at}
 use Rattle.cap_tools.specs.Start.{Preparing, ReadsFilter, Compiles, asked_by, preparing_of}
-use Rattle.cap_tools.specs.Jobs.{JobView, machine_at, turn_goes_on}
-use Rattle.cap_tools.specs.Commands.{GivesBy, IsReadyIf, PreparesBy, StepKeeps, StepReadsBy, preparing_left}
+use Rattle.cap_tools.specs.Jobs.{JobView, state_at, turn_goes_on}
+use Rattle.cap_tools.specs.Commands.{IsReadyIf, PreparesBy, StepKeeps, StepReadsBy, preparing_left}
 use Rattle.cap_tools.proofs.CommandStarts.{compile-gives, filter-gives, first-keeps, first-reads}
 use Rattle.cap_tools.proofs.Preparing.{none-before, none-taken}
 use Rattle.cap_tools.proofs.job.Job.step.Goals as goal
@@ -34,10 +34,7 @@ returns-then-is_none-clause-prepares g c =
     subst Q (sym none) tt
 
 pub returns-then-is_none-clause-exact : goal.returns-then-is_none-clause-exact
-returns-then-is_none-clause-exact g c = λ ti to undone.
-    let none : c.args.self.now.preparing ≡ None = ap (λ (v : JobView). v.preparing) (sym c.self.view_is) ∙ none-before c.self.inside.preparation c.if-is_none.ensures in
-    let Q : Option Preparing → Type 0 = λ p. GivesBy p g.E.Output.tells c.args.self.now c.go_on.result c.go_on.new.self in
-    subst Q (sym none) (c.go_on.ensures.exact ti to undone)
+returns-then-is_none-clause-exact g c = λ ti to undone none. c.go_on.ensures.exact ti to undone
 
 pub returns-then-is_none-clause-reads : goal.returns-then-is_none-clause-reads
 returns-then-is_none-clause-reads g c =
@@ -64,24 +61,22 @@ returns-in-None-clause-exact g c =
 pub returns-in-Some-Filter-clause-keeps : goal.returns-in-Some-Filter-clause-keeps
 returns-in-Some-Filter-clause-keeps g c =
     let preparing : Option Preparing = option_map preparing_of c.self.inside.preparation in
-    let was : JobView = record { preparing = preparing; machine = machine_at c.self.inside.inputs c.self.inside.selector (output_at c.self.inside.messages.names c.self.inside.output) c.self.inside.decided; programs = c.self.inside.selector.programs; err = c.self.inside.messages.device; turns = c.self.inside.turns; done = c.self.inside.done } in
+    let was : JobView = record { preparing = preparing; state = state_at c.self.inside.inputs c.self.inside.selector (output_at c.self.inside.messages.names c.self.inside.output) c.self.inside.decided; programs = c.self.inside.selector.programs; err = c.self.inside.messages.device; turns = c.self.inside.turns; done = c.self.inside.done } in
     let some : preparing ≡ Some (ReadsFilter (asked_by c.in-Some-Filter.print)) = ap (option_map preparing_of) (sym c.take.ensures.value ∙ c.in-Some-Filter.is ∙ ap Some c.in-Some-Filter.field-0-is) in
     let P : JobView → Type 0 = λ v. StepKeeps v c.read_filter.result c.read_filter.new.self in
     subst P c.self.view_is (first-keeps (option_map preparing_of c.take.new.self) (ReadsFilter (asked_by c.in-Some-Filter.print)) was c.read_filter.result c.read_filter.new.self some c.read_filter.ensures.keeps)
 
 pub returns-in-Some-Filter-clause-exact : goal.returns-in-Some-Filter-clause-exact
-returns-in-Some-Filter-clause-exact g c = λ ti to undone.
+returns-in-Some-Filter-clause-exact g c = λ ti to undone none.
     let preparing : Option Preparing = option_map preparing_of c.self.inside.preparation in
-    let was : JobView = record { preparing = preparing; machine = machine_at c.self.inside.inputs c.self.inside.selector (output_at c.self.inside.messages.names c.self.inside.output) c.self.inside.decided; programs = c.self.inside.selector.programs; err = c.self.inside.messages.device; turns = c.self.inside.turns; done = c.self.inside.done } in
     let some : preparing ≡ Some (ReadsFilter (asked_by c.in-Some-Filter.print)) = ap (option_map preparing_of) (sym c.take.ensures.value ∙ c.in-Some-Filter.is ∙ ap Some c.in-Some-Filter.field-0-is) in
-    let P : JobView → Type 0 = λ v. GivesBy v.preparing g.E.Output.tells v c.read_filter.result c.read_filter.new.self in
-    let Q : Option Preparing → Type 0 = λ p. GivesBy p g.E.Output.tells was c.read_filter.result c.read_filter.new.self in
-    subst P c.self.view_is (subst Q (sym some) (filter-gives (asked_by c.in-Some-Filter.print) g.E.Output.tells (option_map preparing_of c.take.new.self) was c.read_filter.result c.read_filter.new.self c.read_filter.ensures.gives))
+    let both = sym some ∙ ap (λ (v : JobView). v.preparing) c.self.view_is ∙ none in
+    (cc)
 
 pub returns-in-Some-Filter-clause-prepares : goal.returns-in-Some-Filter-clause-prepares
 returns-in-Some-Filter-clause-prepares g c =
     let preparing : Option Preparing = option_map preparing_of c.self.inside.preparation in
-    let was : JobView = record { preparing = preparing; machine = machine_at c.self.inside.inputs c.self.inside.selector (output_at c.self.inside.messages.names c.self.inside.output) c.self.inside.decided; programs = c.self.inside.selector.programs; err = c.self.inside.messages.device; turns = c.self.inside.turns; done = c.self.inside.done } in
+    let was : JobView = record { preparing = preparing; state = state_at c.self.inside.inputs c.self.inside.selector (output_at c.self.inside.messages.names c.self.inside.output) c.self.inside.decided; programs = c.self.inside.selector.programs; err = c.self.inside.messages.device; turns = c.self.inside.turns; done = c.self.inside.done } in
     let some : preparing ≡ Some (ReadsFilter (asked_by c.in-Some-Filter.print)) = ap (option_map preparing_of) (sym c.take.ensures.value ∙ c.in-Some-Filter.is ∙ ap Some c.in-Some-Filter.field-0-is) in
     let P : JobView → Type 0 = λ v. PreparesBy v.preparing g.O.Output.tells g.E.Output.tells v c.read_filter.result c.read_filter.new.self in
     let Q : Option Preparing → Type 0 = λ p. PreparesBy p g.O.Output.tells g.E.Output.tells was c.read_filter.result c.read_filter.new.self in
@@ -90,7 +85,7 @@ returns-in-Some-Filter-clause-prepares g c =
 pub returns-in-Some-Filter-clause-reads : goal.returns-in-Some-Filter-clause-reads
 returns-in-Some-Filter-clause-reads g c =
     let preparing : Option Preparing = option_map preparing_of c.self.inside.preparation in
-    let was : JobView = record { preparing = preparing; machine = machine_at c.self.inside.inputs c.self.inside.selector (output_at c.self.inside.messages.names c.self.inside.output) c.self.inside.decided; programs = c.self.inside.selector.programs; err = c.self.inside.messages.device; turns = c.self.inside.turns; done = c.self.inside.done } in
+    let was : JobView = record { preparing = preparing; state = state_at c.self.inside.inputs c.self.inside.selector (output_at c.self.inside.messages.names c.self.inside.output) c.self.inside.decided; programs = c.self.inside.selector.programs; err = c.self.inside.messages.device; turns = c.self.inside.turns; done = c.self.inside.done } in
     let some : preparing ≡ Some (ReadsFilter (asked_by c.in-Some-Filter.print)) = ap (option_map preparing_of) (sym c.take.ensures.value ∙ c.in-Some-Filter.is ∙ ap Some c.in-Some-Filter.field-0-is) in
     let P : JobView → Type 0 = λ v. StepReadsBy v.preparing g.I.Input.tells (turn_goes_on c.read_filter.result) v c.read_filter.new.self in
     let Q : Option Preparing → Type 0 = λ p. StepReadsBy p g.I.Input.tells (turn_goes_on c.read_filter.result) was c.read_filter.new.self in
@@ -99,24 +94,22 @@ returns-in-Some-Filter-clause-reads g c =
 pub returns-in-Some-Listing-clause-keeps : goal.returns-in-Some-Listing-clause-keeps
 returns-in-Some-Listing-clause-keeps g c =
     let preparing : Option Preparing = option_map preparing_of c.self.inside.preparation in
-    let was : JobView = record { preparing = preparing; machine = machine_at c.self.inside.inputs c.self.inside.selector (output_at c.self.inside.messages.names c.self.inside.output) c.self.inside.decided; programs = c.self.inside.selector.programs; err = c.self.inside.messages.device; turns = c.self.inside.turns; done = c.self.inside.done } in
+    let was : JobView = record { preparing = preparing; state = state_at c.self.inside.inputs c.self.inside.selector (output_at c.self.inside.messages.names c.self.inside.output) c.self.inside.decided; programs = c.self.inside.selector.programs; err = c.self.inside.messages.device; turns = c.self.inside.turns; done = c.self.inside.done } in
     let some : preparing ≡ Some (Compiles (string_bytes c.in-Some-Listing.compile.expr) c.in-Some-Listing.compile.link) = ap (option_map preparing_of) (sym c.take.ensures.value ∙ c.in-Some-Listing.is ∙ ap Some c.in-Some-Listing.field-0-is) in
     let P : JobView → Type 0 = λ v. StepKeeps v c.compile.result c.compile.new.self in
     subst P c.self.view_is (first-keeps (option_map preparing_of c.take.new.self) (Compiles (string_bytes c.in-Some-Listing.compile.expr) c.in-Some-Listing.compile.link) was c.compile.result c.compile.new.self some c.compile.ensures.keeps)
 
 pub returns-in-Some-Listing-clause-exact : goal.returns-in-Some-Listing-clause-exact
-returns-in-Some-Listing-clause-exact g c = λ ti to undone.
+returns-in-Some-Listing-clause-exact g c = λ ti to undone none.
     let preparing : Option Preparing = option_map preparing_of c.self.inside.preparation in
-    let was : JobView = record { preparing = preparing; machine = machine_at c.self.inside.inputs c.self.inside.selector (output_at c.self.inside.messages.names c.self.inside.output) c.self.inside.decided; programs = c.self.inside.selector.programs; err = c.self.inside.messages.device; turns = c.self.inside.turns; done = c.self.inside.done } in
     let some : preparing ≡ Some (Compiles (string_bytes c.in-Some-Listing.compile.expr) c.in-Some-Listing.compile.link) = ap (option_map preparing_of) (sym c.take.ensures.value ∙ c.in-Some-Listing.is ∙ ap Some c.in-Some-Listing.field-0-is) in
-    let P : JobView → Type 0 = λ v. GivesBy v.preparing g.E.Output.tells v c.compile.result c.compile.new.self in
-    let Q : Option Preparing → Type 0 = λ p. GivesBy p g.E.Output.tells was c.compile.result c.compile.new.self in
-    subst P c.self.view_is (subst Q (sym some) (compile-gives (string_bytes c.in-Some-Listing.compile.expr) c.in-Some-Listing.compile.link g.E.Output.tells (option_map preparing_of c.take.new.self) was c.compile.result c.compile.new.self (c.compile.ensures.gives to)))
+    let both = sym some ∙ ap (λ (v : JobView). v.preparing) c.self.view_is ∙ none in
+    (cc)
 
 pub returns-in-Some-Listing-clause-prepares : goal.returns-in-Some-Listing-clause-prepares
 returns-in-Some-Listing-clause-prepares g c =
     let preparing : Option Preparing = option_map preparing_of c.self.inside.preparation in
-    let was : JobView = record { preparing = preparing; machine = machine_at c.self.inside.inputs c.self.inside.selector (output_at c.self.inside.messages.names c.self.inside.output) c.self.inside.decided; programs = c.self.inside.selector.programs; err = c.self.inside.messages.device; turns = c.self.inside.turns; done = c.self.inside.done } in
+    let was : JobView = record { preparing = preparing; state = state_at c.self.inside.inputs c.self.inside.selector (output_at c.self.inside.messages.names c.self.inside.output) c.self.inside.decided; programs = c.self.inside.selector.programs; err = c.self.inside.messages.device; turns = c.self.inside.turns; done = c.self.inside.done } in
     let some : preparing ≡ Some (Compiles (string_bytes c.in-Some-Listing.compile.expr) c.in-Some-Listing.compile.link) = ap (option_map preparing_of) (sym c.take.ensures.value ∙ c.in-Some-Listing.is ∙ ap Some c.in-Some-Listing.field-0-is) in
     let P : JobView → Type 0 = λ v. PreparesBy v.preparing g.O.Output.tells g.E.Output.tells v c.compile.result c.compile.new.self in
     let Q : Option Preparing → Type 0 = λ p. PreparesBy p g.O.Output.tells g.E.Output.tells was c.compile.result c.compile.new.self in
@@ -125,7 +118,7 @@ returns-in-Some-Listing-clause-prepares g c =
 pub returns-in-Some-Listing-clause-reads : goal.returns-in-Some-Listing-clause-reads
 returns-in-Some-Listing-clause-reads g c =
     let preparing : Option Preparing = option_map preparing_of c.self.inside.preparation in
-    let was : JobView = record { preparing = preparing; machine = machine_at c.self.inside.inputs c.self.inside.selector (output_at c.self.inside.messages.names c.self.inside.output) c.self.inside.decided; programs = c.self.inside.selector.programs; err = c.self.inside.messages.device; turns = c.self.inside.turns; done = c.self.inside.done } in
+    let was : JobView = record { preparing = preparing; state = state_at c.self.inside.inputs c.self.inside.selector (output_at c.self.inside.messages.names c.self.inside.output) c.self.inside.decided; programs = c.self.inside.selector.programs; err = c.self.inside.messages.device; turns = c.self.inside.turns; done = c.self.inside.done } in
     let some : preparing ≡ Some (Compiles (string_bytes c.in-Some-Listing.compile.expr) c.in-Some-Listing.compile.link) = ap (option_map preparing_of) (sym c.take.ensures.value ∙ c.in-Some-Listing.is ∙ ap Some c.in-Some-Listing.field-0-is) in
     let P : JobView → Type 0 = λ v. StepReadsBy v.preparing g.I.Input.tells (turn_goes_on c.compile.result) v c.compile.new.self in
     let Q : Option Preparing → Type 0 = λ p. StepReadsBy p g.I.Input.tells (turn_goes_on c.compile.result) was c.compile.new.self in
@@ -141,7 +134,7 @@ returns-in-None-clause-after g c =
 pub returns-in-Some-Filter-clause-after : goal.returns-in-Some-Filter-clause-after
 returns-in-Some-Filter-clause-after g c = λ status is.
     let preparing : Option Preparing = option_map preparing_of c.self.inside.preparation in
-    let was : JobView = record { preparing = preparing; machine = machine_at c.self.inside.inputs c.self.inside.selector (output_at c.self.inside.messages.names c.self.inside.output) c.self.inside.decided; programs = c.self.inside.selector.programs; err = c.self.inside.messages.device; turns = c.self.inside.turns; done = c.self.inside.done } in
+    let was : JobView = record { preparing = preparing; state = state_at c.self.inside.inputs c.self.inside.selector (output_at c.self.inside.messages.names c.self.inside.output) c.self.inside.decided; programs = c.self.inside.selector.programs; err = c.self.inside.messages.device; turns = c.self.inside.turns; done = c.self.inside.done } in
     let some : preparing ≡ Some (ReadsFilter (asked_by c.in-Some-Filter.print)) = ap (option_map preparing_of) (sym c.take.ensures.value ∙ c.in-Some-Filter.is ∙ ap Some c.in-Some-Filter.field-0-is) in
     let R : Option Preparing → Type 0 = λ p. IsReadyIf p was in
     let ready = subst R some c.self.invariant.6 in
@@ -151,7 +144,7 @@ returns-in-Some-Filter-clause-after g c = λ status is.
 pub read_filter-requires-clause-fresh : goal.read_filter-requires-clause-fresh
 read_filter-requires-clause-fresh g c =
     let preparing : Option Preparing = option_map preparing_of c.self.inside.preparation in
-    let was : JobView = record { preparing = preparing; machine = machine_at c.self.inside.inputs c.self.inside.selector (output_at c.self.inside.messages.names c.self.inside.output) c.self.inside.decided; programs = c.self.inside.selector.programs; err = c.self.inside.messages.device; turns = c.self.inside.turns; done = c.self.inside.done } in
+    let was : JobView = record { preparing = preparing; state = state_at c.self.inside.inputs c.self.inside.selector (output_at c.self.inside.messages.names c.self.inside.output) c.self.inside.decided; programs = c.self.inside.selector.programs; err = c.self.inside.messages.device; turns = c.self.inside.turns; done = c.self.inside.done } in
     let some : preparing ≡ Some (ReadsFilter (asked_by c.in-Some-Filter.print)) = ap (option_map preparing_of) (sym c.take.ensures.value ∙ c.in-Some-Filter.is ∙ ap Some c.in-Some-Filter.field-0-is) in
     let R : Option Preparing → Type 0 = λ p. IsReadyIf p was in
     let ready = subst R some c.self.invariant.6 in
@@ -161,7 +154,7 @@ read_filter-requires-clause-fresh g c =
 pub returns-in-Some-Listing-clause-after : goal.returns-in-Some-Listing-clause-after
 returns-in-Some-Listing-clause-after g c = λ status is.
     let preparing : Option Preparing = option_map preparing_of c.self.inside.preparation in
-    let was : JobView = record { preparing = preparing; machine = machine_at c.self.inside.inputs c.self.inside.selector (output_at c.self.inside.messages.names c.self.inside.output) c.self.inside.decided; programs = c.self.inside.selector.programs; err = c.self.inside.messages.device; turns = c.self.inside.turns; done = c.self.inside.done } in
+    let was : JobView = record { preparing = preparing; state = state_at c.self.inside.inputs c.self.inside.selector (output_at c.self.inside.messages.names c.self.inside.output) c.self.inside.decided; programs = c.self.inside.selector.programs; err = c.self.inside.messages.device; turns = c.self.inside.turns; done = c.self.inside.done } in
     let some : preparing ≡ Some (Compiles (string_bytes c.in-Some-Listing.compile.expr) c.in-Some-Listing.compile.link) = ap (option_map preparing_of) (sym c.take.ensures.value ∙ c.in-Some-Listing.is ∙ ap Some c.in-Some-Listing.field-0-is) in
     let R : Option Preparing → Type 0 = λ p. IsReadyIf p was in
     let ready = subst R some c.self.invariant.6 in
@@ -171,7 +164,7 @@ returns-in-Some-Listing-clause-after g c = λ status is.
 pub compile-requires-clause-fresh : goal.compile-requires-clause-fresh
 compile-requires-clause-fresh g c =
     let preparing : Option Preparing = option_map preparing_of c.self.inside.preparation in
-    let was : JobView = record { preparing = preparing; machine = machine_at c.self.inside.inputs c.self.inside.selector (output_at c.self.inside.messages.names c.self.inside.output) c.self.inside.decided; programs = c.self.inside.selector.programs; err = c.self.inside.messages.device; turns = c.self.inside.turns; done = c.self.inside.done } in
+    let was : JobView = record { preparing = preparing; state = state_at c.self.inside.inputs c.self.inside.selector (output_at c.self.inside.messages.names c.self.inside.output) c.self.inside.decided; programs = c.self.inside.selector.programs; err = c.self.inside.messages.device; turns = c.self.inside.turns; done = c.self.inside.done } in
     let some : preparing ≡ Some (Compiles (string_bytes c.in-Some-Listing.compile.expr) c.in-Some-Listing.compile.link) = ap (option_map preparing_of) (sym c.take.ensures.value ∙ c.in-Some-Listing.is ∙ ap Some c.in-Some-Listing.field-0-is) in
     let R : Option Preparing → Type 0 = λ p. IsReadyIf p was in
     let ready = subst R some c.self.invariant.6 in
@@ -181,7 +174,7 @@ compile-requires-clause-fresh g c =
 pub compile-requires-clause-text : goal.compile-requires-clause-text
 compile-requires-clause-text g c =
     let preparing : Option Preparing = option_map preparing_of c.self.inside.preparation in
-    let was : JobView = record { preparing = preparing; machine = machine_at c.self.inside.inputs c.self.inside.selector (output_at c.self.inside.messages.names c.self.inside.output) c.self.inside.decided; programs = c.self.inside.selector.programs; err = c.self.inside.messages.device; turns = c.self.inside.turns; done = c.self.inside.done } in
+    let was : JobView = record { preparing = preparing; state = state_at c.self.inside.inputs c.self.inside.selector (output_at c.self.inside.messages.names c.self.inside.output) c.self.inside.decided; programs = c.self.inside.selector.programs; err = c.self.inside.messages.device; turns = c.self.inside.turns; done = c.self.inside.done } in
     let some : preparing ≡ Some (Compiles (string_bytes c.in-Some-Listing.compile.expr) c.in-Some-Listing.compile.link) = ap (option_map preparing_of) (sym c.take.ensures.value ∙ c.in-Some-Listing.is ∙ ap Some c.in-Some-Listing.field-0-is) in
     let R : Option Preparing → Type 0 = λ p. IsReadyIf p was in
     let ready = subst R some c.self.invariant.6 in

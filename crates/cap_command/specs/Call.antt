@@ -1,0 +1,34 @@
+-- A call of a run, and what it hands back.
+use Rattle.std.specs.Prelude.{ℕ, Bool, List}
+use Rattle.cap_octet.specs.Views.{FreshInput, FreshOutput, OutputView}
+
+-- A call, beside its command: the names of the inputs, then of the output; the inputs; the output,
+-- with how many bytes it takes at least before it fails; and the messages' device, with whether it
+-- tells its bytes.
+pub record Call : Type 0 where
+  pub names : List (List ℕ)
+  pub inputs : List FreshInput
+  pub output : OutputView
+  pub room : ℕ
+  pub messages : OutputView
+  pub tells : Bool
+
+abbrev pub call_of : (names : List (List ℕ)) → List FreshInput → (output messages : FreshOutput)
+    → Call
+call_of names inputs output messages = record {
+  names = names;
+  inputs = inputs;
+  output = output.view;
+  room = output.room;
+  messages = messages.view;
+  tells = messages.tells;
+}
+
+-- what a run hands back
+pub record RunResult : Type 0 where
+  pub status : ℕ
+  pub output : OutputView
+  pub messages : OutputView
+
+abbrev pub run_result : ℕ → OutputView → OutputView → RunResult
+run_result status output messages = record { status = status; output = output; messages = messages }

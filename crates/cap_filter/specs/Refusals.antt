@@ -1,0 +1,12 @@
+-- The status that a refused filter ends a command with.
+use Rattle.std.specs.Prelude.{ℕ}
+use Rattle.flt_words.specs.declared.fault.ExprFault.TheVariants as expression
+use Rattle.flt_bpf.specs.declared.fault.ListingFault.TheVariants as listing
+use Rattle.cap_filter.specs.declared.refusal.Refusal.{Refusal}
+use Rattle.cap_filter.specs.declared.refusal.Refusal.TheVariants.{Expression, Listing}
+
+-- 1 if memory ran out, else 2
+abbrev pub refusal_status : Refusal → ℕ
+refusal_status (Expression expression.Memory) = 1
+refusal_status (Listing listing.Memory) = 1
+refusal_status _ = 2

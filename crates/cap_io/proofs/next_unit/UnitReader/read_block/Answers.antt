@@ -1,0 +1,199 @@
+use Rattle.std.proofs.Common.{rules, ◌≡◌, length, take, ap, arith, refl, sym, ◌∙◌}
+use Rattle.std.proofs.lemmas.List.{take_at}
+use Rattle.std.proofs.lemmas.Result.{err_from_is_err_and}
+use Rattle.cap_pcapng.specs.Frame.{frame_in}
+use Rattle.cap_pcapng.specs.Effect.{section_of}
+use Rattle.cap_io.specs.Capture.{PcapngFile, first_link_after}
+use Rattle.cap_io.specs.Reading.{declared_by, known_first_link, section_before}
+use Rattle.cap_io.proofs.BlocksCame.{adds-describes, block-exceeds, block_came, entry_refused, frame-has_memory, frame_refused, front_says, no_room_for_block, rest_of_block, whole_came}
+use Rattle.cap_io.proofs.Came.{error_is}
+use Rattle.cap_io.proofs.CapturesCame.{block-takes, first-again, has-section, interface-takes, interfaces-held, interfaces-kept, order-held, packet-block, passed-block, refused-block, section-fits, small-behind}
+use Rattle.cap_io.proofs.Fitting.{held_length-le}
+use Rattle.cap_io.proofs.OwnFaults.{entry-adds, entry-own}
+use Rattle.cap_io.proofs.next_unit.UnitReader.read_block.Goals as goal
+
+pub returns-in_err-found : goal.returns-in_err-found
+returns-in_err-found g c =
+    let p = err_from_is_err_and c.from_residual.result c.from_residual.ensures.1 in
+    rw (p.1, p.2) (record {
+      moves = search rules;
+      sized = tt;
+      consistent = tt;
+      known = tt;
+      ok = tt;
+      err = λ t. refused-block c.args.self.now.file c.args.self.now.table c.args.front.now _ _ _ (search rules) c.requires.begins
+          (frame_refused (section_before c.args.self.now.file c.args.self.now.table) c.order.result c.args.front.now _ _ _ (order-held c.args.self.now.file c.args.self.now.table ∙ sym c.order.ensures) (search rules) c.frame.ensures.answer c.in_err-found.was);
+      kept = (refl, refl);
+      grown = omega arith;
+      bounded = λ most. most;
+      fits = tt;
+      memory = λ e. absurd (frame-has_memory c.order.result c.args.front.now _ _ c.frame.ensures.answer c.in_err-found.was (error_is e));
+    })
+
+pub returns-in_err-make_room : goal.returns-in_err-make_room
+returns-in_err-make_room g c =
+    let p = err_from_is_err_and c.from_residual-in_err-make_room.result c.from_residual-in_err-make_room.ensures.1 in
+    rw (p.1, p.2, c.in_err-make_room.ensures.memory.0) (record {
+      moves = search rules;
+      sized = tt;
+      consistent = tt;
+      known = tt;
+      ok = tt;
+      err = λ t. refused-block c.args.self.now.file c.args.self.now.table c.args.front.now _ _ _ (search rules) c.requires.begins
+          (no_room_for_block (section_before c.args.self.now.file c.args.self.now.table) c.args.front.now _ (search rules));
+      kept = (refl, refl);
+      grown = c.make_room.ensures.grown;
+      bounded = λ most. c.make_room.ensures.bounded c.in_ok-found.ensures.longest most;
+      fits = tt;
+      memory = λ e t. block-takes c.args.self.now.file c.args.self.now.table c.args.front.now _ _ (search rules) c.requires.begins
+          (block-exceeds (section_before c.args.self.now.file c.args.self.now.table) c.order.result c.args.front.now _ c.in_ok-found.found _ (order-held c.args.self.now.file c.args.self.now.table ∙ sym c.order.ensures) (search rules)
+          (front_says c.order.result c.args.front.now _ c.in_ok-found.found c.frame.ensures.answer c.in_ok-found.was) (search rules));
+    })
+
+pub returns-in_err-read_rest : goal.returns-in_err-read_rest
+returns-in_err-read_rest g c =
+    let p = err_from_is_err_and c.from_residual-in_err-read_rest.result c.from_residual-in_err-read_rest.ensures.1 in
+    rw (p.1, p.2) (record {
+      moves = search rules;
+      sized = tt;
+      consistent = tt;
+      known = tt;
+      ok = tt;
+      err = λ t. refused-block c.args.self.now.file c.args.self.now.table c.args.front.now _ _ _ (search rules) c.requires.begins
+          (rest_of_block (section_before c.args.self.now.file c.args.self.now.table) c.order.result c.args.front.now _ _ c.in_ok-found.found _ (order-held c.args.self.now.file c.args.self.now.table ∙ sym c.order.ensures) (search rules)
+          (front_says c.order.result c.args.front.now _ c.in_ok-found.found c.frame.ensures.answer c.in_ok-found.was) c.in_ok-found.ensures.longest (c.in_err-read_rest.ensures.err t));
+      kept = (refl, refl);
+      grown = rw (take_at c.read_rest.new.buffer _ c.make_room.new.buffer.len (search rules)) (let size : length c.read_rest.new.buffer ≡ c.make_room.new.buffer.len = search rules in omega (arith, size, c.make_room.ensures.grown, c.make_room.new.buffer.ok.0));
+      bounded = λ most. rw (take_at c.read_rest.new.buffer _ c.make_room.new.buffer.len (search rules)) (let size : length c.read_rest.new.buffer ≡ c.make_room.new.buffer.len = search rules in omega (arith, size, c.make_room.ensures.bounded c.in_ok-found.ensures.longest most, c.make_room.new.buffer.ok.0));
+      fits = tt;
+      memory = λ e. absurd (c.in_err-read_rest.ensures.memory (error_is e));
+    })
+
+pub apply_block-requires-clause-section : goal.apply_block-requires-clause-section
+apply_block-requires-clause-section g c = section-fits c.args.self.now.file c.args.self.now.table c.args.front.now c.requires.begins c.requires.consistent
+
+pub returns-in-Err : goal.returns-in-Err
+returns-in-Err g c =
+    let moves = c.in_ok-read_rest.ensures.moves in
+    let own = entry-own _ _ _ c.in-Err.fault c.in-Err.ensures.err in
+    record {
+      moves = record {
+        counted = tt;
+        grown = moves.grown;
+        bounded = tt;
+        at_most = omega (arith, moves.counted, c.in_ok-found.ensures.longest);
+        failed = omega (arith, moves.failed, own);
+        sure = moves.sure;
+        enough = moves.enough;
+        told = moves.told;
+      };
+      sized = tt;
+      consistent = tt;
+      known = tt;
+      ok = tt;
+      err = λ t. refused-block c.args.self.now.file c.args.self.now.table c.args.front.now _ _ _ (search rules) c.requires.begins
+          (entry_refused (section_before c.args.self.now.file c.args.self.now.table) c.order.result c.args.self.now.table _ _ _ _ c.in_ok-found.found _ (order-held c.args.self.now.file c.args.self.now.table ∙ sym c.order.ensures)
+          (interfaces-held c.args.self.now.file c.args.self.now.table c.args.front.now c.requires.begins c.requires.consistent) c.in_ok-found.ensures.shortest c.in_ok-found.ensures.longest
+          (omega (arith, c.in_ok-make_room.ensures.room, c.deref.ensures.len, ap length c.deref.ensures.value))
+          (whole_came c.order.result c.args.front.now _ _ (take c.in_ok-found.found.length c.read_rest.new.buffer) _ c.in_ok-found.found (search rules)
+          (front_says c.order.result c.args.front.now _ c.in_ok-found.found c.frame.ensures.answer c.in_ok-found.was)
+          (rw (take_at c.read_rest.new.buffer _ c.make_room.new.buffer.len (search rules)) refl) c.in_ok-read_rest.ensures.same (c.in_ok-read_rest.ensures.ok t))
+          (ap (take c.in_ok-found.found.length) c.deref.ensures.value) c.in-Err.ensures.err);
+      kept = (refl, c.in-Err.ensures.kept);
+      grown = rw (take_at c.read_rest.new.buffer _ c.make_room.new.buffer.len (search rules)) (let size : length c.read_rest.new.buffer ≡ c.make_room.new.buffer.len = search rules in omega (arith, size, c.make_room.ensures.grown, c.make_room.new.buffer.ok.0));
+      bounded = λ most. rw (take_at c.read_rest.new.buffer _ c.make_room.new.buffer.len (search rules)) (let size : length c.read_rest.new.buffer ≡ c.make_room.new.buffer.len = search rules in omega (arith, size, c.make_room.ensures.bounded c.in_ok-found.ensures.longest most, c.make_room.new.buffer.ok.0));
+      fits = tt;
+      memory = λ e t. interface-takes c.args.self.now.file c.args.self.now.table c.args.front.now _ _ (search rules) c.requires.begins
+          (adds-describes (section_before c.args.self.now.file c.args.self.now.table) c.order.result c.args.self.now.table _ _ _ _ c.in_ok-found.found (order-held c.args.self.now.file c.args.self.now.table ∙ sym c.order.ensures)
+          (interfaces-held c.args.self.now.file c.args.self.now.table c.args.front.now c.requires.begins c.requires.consistent) c.in_ok-found.ensures.shortest
+          (omega (arith, c.in_ok-make_room.ensures.room, c.deref.ensures.len, ap length c.deref.ensures.value))
+          (whole_came c.order.result c.args.front.now _ _ (take c.in_ok-found.found.length c.read_rest.new.buffer) _ c.in_ok-found.found (search rules)
+          (front_says c.order.result c.args.front.now _ c.in_ok-found.found c.frame.ensures.answer c.in_ok-found.was)
+          (rw (take_at c.read_rest.new.buffer _ c.make_room.new.buffer.len (search rules)) refl) c.in_ok-read_rest.ensures.same (c.in_ok-read_rest.ensures.ok t))
+          (ap (take c.in_ok-found.found.length) c.deref.ensures.value) (entry-adds _ _ _ c.in-Err.fault c.in-Err.ensures.err (error_is e)));
+    }
+
+pub returns-in-Ok-Some : goal.returns-in-Ok-Some
+returns-in-Ok-Some g c =
+    let moves = c.in_ok-read_rest.ensures.moves in
+    let frame = c.in_ok-found.found in
+    let enters = rw c.in-Ok-Some.field-0-is at c.in-Ok-Some.ensures.ok in
+    let stays = interfaces-kept frame c.args.self.now.table c.apply_block.new.table _ c.in-Ok-Some.packet enters in
+    let says = front_says c.order.result c.args.front.now _ frame c.frame.ensures.answer c.in_ok-found.was in
+    let small = small-behind _ _ (length c.args.front.now) frame.length (search rules) moves.counted c.in_ok-found.ensures.shortest moves.bounded c.requires.bounded in
+    record {
+      moves = record {
+        counted = omega (arith, moves.counted, enters.fits.0);
+        grown = moves.grown;
+        bounded = λ some. small;
+        at_most = tt;
+        failed = moves.failed;
+        sure = moves.sure;
+        enough = moves.enough;
+        told = moves.told;
+      };
+      sized = (
+        record {
+          bytes = omega (arith, enters.fits.0, enters.fits.1);
+          options = omega (arith, enters.fits.0, enters.fits.3);
+          there = omega (arith, enters.fits.0, c.in_ok-make_room.ensures.room, c.deref.ensures.len, ap length c.deref.ensures.value);
+          some = omega (arith, enters.fits.0, c.in_ok-found.ensures.shortest);
+          small = omega (arith, enters.fits.0, c.in_ok-found.ensures.longest);
+          time = enters.fits.2;
+        },
+        small,
+      );
+      consistent = rw stays c.requires.consistent;
+      known = has-section c.args.self.now.file c.args.front.now _ frame c.args.self.now.table c.apply_block.new.table c.in-Ok-Some.packet c.requires.begins (ap (λ o. frame_in o c.args.front.now) (sym c.order.ensures) ∙ says.says) enters enters.known;
+      ok = λ t. packet-block c.args.self.now.file c.args.self.now.table c.apply_block.new.table c.args.front.now _ _ _ frame.order frame.length c.in-Ok-Some.packet c.requires.begins
+          (omega (arith, c.in_ok-make_room.ensures.room, c.deref.ensures.len, ap length c.deref.ensures.value)) c.requires.consistent enters.fits.0 stays
+          (block_came (section_before c.args.self.now.file c.args.self.now.table) c.order.result c.args.self.now.table c.apply_block.new.table _ _ _ _ frame _ (order-held c.args.self.now.file c.args.self.now.table ∙ sym c.order.ensures)
+          (interfaces-held c.args.self.now.file c.args.self.now.table c.args.front.now c.requires.begins c.requires.consistent) c.in_ok-found.ensures.shortest
+          (omega (arith, c.in_ok-make_room.ensures.room, c.deref.ensures.len, ap length c.deref.ensures.value))
+          (whole_came c.order.result c.args.front.now _ _ (take frame.length c.read_rest.new.buffer) _ frame (search rules) says
+          (rw (take_at c.read_rest.new.buffer _ c.make_room.new.buffer.len (search rules)) refl) c.in_ok-read_rest.ensures.same (c.in_ok-read_rest.ensures.ok t))
+          (ap (take frame.length) c.deref.ensures.value) enters);
+      err = tt;
+      kept = tt;
+      grown = rw (take_at c.read_rest.new.buffer _ c.make_room.new.buffer.len (search rules)) (let size : length c.read_rest.new.buffer ≡ c.make_room.new.buffer.len = search rules in omega (arith, size, c.make_room.ensures.grown, c.make_room.new.buffer.ok.0));
+      bounded = λ most. rw (take_at c.read_rest.new.buffer _ c.make_room.new.buffer.len (search rules)) (let size : length c.read_rest.new.buffer ≡ c.make_room.new.buffer.len = search rules in omega (arith, size, c.make_room.ensures.bounded c.in_ok-found.ensures.longest most, c.make_room.new.buffer.ok.0));
+      fits = omega (arith, enters.fits.0, held_length-le (declared_by c.args.self.now.file c.args.self.now.table) (declared_by c.args.self.now.file c.apply_block.new.table) c.in-Ok-Some.packet.size, c.in_ok-make_room.ensures.room, c.deref.ensures.len, ap length c.deref.ensures.value);
+      memory = λ e. (cc);
+    }
+
+pub returns-in-Ok-None : goal.returns-in-Ok-None
+returns-in-Ok-None g c =
+    let moves = c.in_ok-read_rest.ensures.moves in
+    let frame = c.in_ok-found.found in
+    let enters = rw c.in-Ok-None.field-0-is at c.in-Ok-None.ensures.ok in
+    let says = front_says c.order.result c.args.front.now _ frame c.frame.ensures.answer c.in_ok-found.was in
+    let small = small-behind _ _ (length c.args.front.now) frame.length (search rules) moves.counted c.in_ok-found.ensures.shortest moves.bounded c.requires.bounded in
+    rw (c.first_link_type-link.ensures frame.order, c.first_link.ensures) (record {
+      moves = record {
+        counted = moves.counted;
+        grown = moves.grown;
+        bounded = λ some. small;
+        at_most = tt;
+        failed = moves.failed;
+        sure = moves.sure;
+        enough = moves.enough;
+        told = moves.told;
+      };
+      sized = (omega (arith, c.in_ok-found.ensures.shortest), small);
+      consistent = (first-again (known_first_link c.args.self.now.file) (section_of frame.order c.apply_block.new.table), c.in-Ok-None.ensures.section);
+      known = tt;
+      ok = λ t. passed-block c.args.self.now.file c.args.self.now.table c.apply_block.new.table c.args.front.now _ _ _ frame.order frame.length c.requires.begins
+          (omega (arith, c.in_ok-make_room.ensures.room, c.deref.ensures.len, ap length c.deref.ensures.value))
+          (block_came (section_before c.args.self.now.file c.args.self.now.table) c.order.result c.args.self.now.table c.apply_block.new.table _ _ _ _ frame _ (order-held c.args.self.now.file c.args.self.now.table ∙ sym c.order.ensures)
+          (interfaces-held c.args.self.now.file c.args.self.now.table c.args.front.now c.requires.begins c.requires.consistent) c.in_ok-found.ensures.shortest
+          (omega (arith, c.in_ok-make_room.ensures.room, c.deref.ensures.len, ap length c.deref.ensures.value))
+          (whole_came c.order.result c.args.front.now _ _ (take frame.length c.read_rest.new.buffer) _ frame (search rules) says
+          (rw (take_at c.read_rest.new.buffer _ c.make_room.new.buffer.len (search rules)) refl) c.in_ok-read_rest.ensures.same (c.in_ok-read_rest.ensures.ok t))
+          (ap (take frame.length) c.deref.ensures.value) enters);
+      err = tt;
+      kept = tt;
+      grown = rw (take_at c.read_rest.new.buffer _ c.make_room.new.buffer.len (search rules)) (let size : length c.read_rest.new.buffer ≡ c.make_room.new.buffer.len = search rules in omega (arith, size, c.make_room.ensures.grown, c.make_room.new.buffer.ok.0));
+      bounded = λ most. rw (take_at c.read_rest.new.buffer _ c.make_room.new.buffer.len (search rules)) (let size : length c.read_rest.new.buffer ≡ c.make_room.new.buffer.len = search rules in omega (arith, size, c.make_room.ensures.bounded c.in_ok-found.ensures.longest most, c.make_room.new.buffer.ok.0));
+      fits = omega (arith, held_length-le (declared_by c.args.self.now.file c.args.self.now.table) (PcapngFile (first_link_after (known_first_link c.args.self.now.file) (section_of frame.order c.apply_block.new.table)) (section_of frame.order c.apply_block.new.table)) frame.length, c.in_ok-make_room.ensures.room, c.deref.ensures.len, ap length c.deref.ensures.value);
+      memory = λ e. (cc);
+    })

@@ -1,0 +1,19 @@
+-- The formats that captures are written in.
+use Rattle.std.specs.Prelude.{ℕ, List, [], ◌∷◌, Option, codes}
+use Rattle.std.specs.List.{find}
+use Rattle.std.specs.Str.{bytes_eq}
+use Rattle.cap_octet.specs.declared.format.Format.{Format}
+use Rattle.cap_octet.specs.declared.format.Format.TheVariants.{Pcap, NsecPcap, Pcapng}
+
+unfoldable pub all_formats : List Format
+all_formats = Pcap ∷ NsecPcap ∷ Pcapng ∷ []
+
+-- what command lines and reports call it
+abbrev pub format_name : Format → List ℕ
+format_name Pcap = codes "pcap"
+format_name NsecPcap = codes "nsecpcap"
+format_name Pcapng = codes "pcapng"
+
+-- the format of a name
+abbrev pub format_named : List ℕ → Option Format
+format_named name = find (λ format. bytes_eq (format_name format) name) all_formats

@@ -1,0 +1,47 @@
+-- The links that lines and expressions know: how packets begin that were captured on them.
+use Rattle.std.specs.Prelude.{ℕ, ◌==◌, List, [], ◌∷◌, Option, None, Some, codes}
+use Rattle.std.specs.List.{find}
+use Rattle.std.specs.Str.{bytes_eq}
+use Rattle.cap_octet.specs.Assigned.{LINKTYPE_ETHERNET, LINKTYPE_RAW, LINKTYPE_LINUX_SLL}
+use Rattle.cap_octet.specs.Assigned.{ETHERNET_TYPE_OFFSET, ETHERNET_HEADER_LENGTH, LINUX_SLL_TYPE_OFFSET, LINUX_SLL_HEADER_LENGTH}
+use Rattle.cap_octet.specs.declared.link.Link.{Link}
+use Rattle.cap_octet.specs.declared.link.Link.TheVariants.{Ether, Raw, Cooked}
+
+unfoldable pub all_links : List Link
+all_links = Ether ∷ Raw ∷ Cooked ∷ []
+
+-- its number in captures
+abbrev pub link_type : Link → ℕ
+link_type Ether = LINKTYPE_ETHERNET
+link_type Raw = LINKTYPE_RAW
+link_type Cooked = LINKTYPE_LINUX_SLL
+
+-- how many bytes its header has, after which the network header begins
+abbrev pub network_offset : Link → ℕ
+network_offset Ether = ETHERNET_HEADER_LENGTH
+network_offset Raw = 0
+network_offset Cooked = LINUX_SLL_HEADER_LENGTH
+
+-- how many bytes a link header has at most
+abbrev pub longest_header : ℕ
+longest_header = 16
+
+-- where its header has the EtherType of the network header
+abbrev pub type_offset : Link → Option ℕ
+type_offset Ether = Some ETHERNET_TYPE_OFFSET
+type_offset Raw = None
+type_offset Cooked = Some LINUX_SLL_TYPE_OFFSET
+
+-- what command lines call it
+abbrev pub link_name : Link → List ℕ
+link_name Ether = codes "ether"
+link_name Raw = codes "raw"
+link_name Cooked = codes "cooked"
+
+-- the link of a link type
+abbrev pub link_of : ℕ → Option Link
+link_of n = find (λ link. link_type link == n) all_links
+
+-- the link of a name
+abbrev pub link_named : List ℕ → Option Link
+link_named name = find (λ link. bytes_eq (link_name link) name) all_links

@@ -1,0 +1,42 @@
+-- What a contract sees of devices that a call is made over, and that it hands back.
+use Rattle.std.specs.Prelude.{ℕ, Bool, List, Option}
+use Rattle.cap_octet.specs.declared.device.Input as input
+use Rattle.cap_octet.specs.declared.device.Output as output
+
+-- an input of which nothing is read
+pub record FreshInput : Type 0 where
+  pub text : List ℕ
+  pub given : ℕ
+  pub failures : ℕ
+  pub sure : Option ℕ
+
+abbrev pub fresh_input : {I : Type 0} → input.Ghosts I → I → FreshInput
+fresh_input device i =
+    record {
+      text = device.unread i;
+      given = device.given i;
+      failures = device.failures i;
+      sure = device.sure i;
+    }
+
+-- an output's bytes, where it tells them, and how often it failed
+pub record OutputView : Type 0 where
+  pub written : List ℕ
+  pub failures : ℕ
+
+abbrev pub output_view : List ℕ → ℕ → OutputView
+output_view written failures = record { written = written; failures = failures }
+
+abbrev pub device_view : {O : Type 0} → output.Ghosts O → O → OutputView
+device_view device o = output_view (device.written o) (device.failures o)
+
+-- an output that a call is to write to, with how many bytes it takes at least before it fails, and
+-- whether it tells its bytes
+pub record FreshOutput : Type 0 where
+  pub view : OutputView
+  pub room : ℕ
+  pub tells : Bool
+
+abbrev pub fresh_output : {O : Type 0} → output.Ghosts O → O → FreshOutput
+fresh_output device o =
+    record { view = device_view device o; room = device.room o; tells = device.tells }

@@ -1,0 +1,53 @@
+-- What is reported of how a command ended.
+use Rattle.std.specs.Prelude.{◌≡◌, ℕ, ◌+◌, Bool, IsTrue, List, [], ◌∷◌, ◌++◌, Result, codes}
+use Rattle.std.specs.Fmt.{decimal}
+use Rattle.cap_octet.specs.declared.fault.Fault.{Fault}
+use Rattle.cap_octet.specs.Device.{AppendsOrStops, failures_of}
+use Rattle.cap_octet.specs.Fault.{fault_text}
+use Rattle.cap_octet.specs.Views.{OutputView}
+use Rattle.cap_octet.specs.declared.device.DeviceFault.{DeviceFault}
+use Rattle.flt_words.specs.declared.fault.ExprFault.TheVariants as expression
+use Rattle.flt_words.specs.Messages.{message_of}
+use Rattle.flt_bpf.specs.declared.fault.ListingFault.TheVariants as listing
+use Rattle.flt_bpf.specs.Message.{check_message, listing_message}
+use Rattle.cap_filter.specs.declared.refusal.Refusal.{Refusal}
+use Rattle.cap_filter.specs.declared.refusal.Refusal.TheVariants.{Expression, Listing, Program}
+
+abbrev pub line_feed : List ℕ
+line_feed = 10 ∷ []
+
+-- a fault at an offset of an input
+abbrev pub fault_message : List ℕ → ℕ → Fault → List ℕ
+fault_message name offset fault =
+    codes "capkit: " ++ name ++ codes ": offset " ++ decimal offset ++ codes ": "
+    ++ fault_text fault ++ line_feed
+
+-- the output's device failed
+abbrev pub write_failed_message : List ℕ → List ℕ
+write_failed_message name = codes "capkit: " ++ name ++ codes ": write failed" ++ line_feed
+
+-- out of memory, with no current packet or block
+abbrev pub no_memory_message : List ℕ
+no_memory_message = codes "capkit: no memory" ++ line_feed
+
+-- what is wrong with an expression or a listing
+abbrev pub expression_message : List ℕ → List ℕ
+expression_message text = codes "capkit: expression: " ++ text ++ line_feed
+
+abbrev pub code_message : List ℕ → List ℕ
+code_message text = codes "capkit: code: " ++ text ++ line_feed
+
+-- a refused filter, or out of memory for it
+abbrev pub refusal_message : Refusal → List ℕ
+refusal_message (Expression expression.Memory) = no_memory_message
+refusal_message (Expression fault) = expression_message (message_of fault)
+refusal_message (Listing listing.Memory) = no_memory_message
+refusal_message (Listing fault) = code_message (listing_message fault)
+refusal_message (Program fault at) = code_message (check_message fault at)
+
+-- A message is written whole; or it is lost, in whole or past a beginning, where its device failed.
+pub record IsTold (tells : Bool) (old : OutputView) (message : List ℕ)
+    (new : OutputView) : Type 0 where
+  pub answer : Result (Unit {0}) DeviceFault
+  pub exact : IsTrue tells → AppendsOrStops answer old.written message new.written
+  pub counted : new.failures ≡ old.failures + failures_of answer

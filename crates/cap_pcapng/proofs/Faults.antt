@@ -1,0 +1,81 @@
+-- What holds of the faults of all checks holds of the first that fails; and which faults options have.
+use Rattle.std.proofs.Common.{◌≡◌, ℕ, zero, suc, Bool, true, false, List, [], ◌∷◌, ◌++◌, length, drop, Some, Result, Ok, Err, cond, subst}
+use Rattle.std.specs.Prelude.{◌==◌, is_some, if◌then◌else◌}
+use Rattle.std.specs.List.{AllByRecursion}
+use Rattle.cap_octet.specs.Checks.{first_failing}
+use Rattle.cap_octet.specs.declared.fault.Fault.{Fault}
+use Rattle.cap_octet.specs.declared.fault.Fault.TheVariants.{BadOption, BadTimeResolution}
+use Rattle.cap_octet.specs.declared.number.Order.{Order}
+use Rattle.cap_pcapng.specs.Block.{Parts, SectionParts, InterfaceParts, EnhancedParts, SimpleParts, SkippedParts, option_checks}
+use Rattle.cap_pcapng.specs.InterfaceOptions.{checks_behind, first_checks, first_value, list_checks, name_checks, name_code, offset_checks, offset_code, resolution_checks, resolution_code}
+use Rattle.cap_pcapng.specs.OptionList.{CodedValue, ends_at, fits_at, option_at, option_size, options_in, options_within}
+use Rattle.cap_pcapng.specs.Padding.{padded_length}
+
+-- ---- the faults of some rows
+
+-- what holds of the faults of all rows holds of the first that fails
+abbrev pub AreAll : (Fault → Type 0) → List (Bool × Fault) → Type 0
+AreAll P rows = AllByRecursion (λ row. P row.1) rows
+
+pub all_failing : (P : Fault → Type 0) (rows : List (Bool × Fault)) (fault : Fault) → AllByRecursion (λ row. P row.1) rows → first_failing rows ≡ Some fault → P fault
+all_failing P [] fault all fails = (cc)
+all_failing P ((true, other) ∷ rows) fault all fails = all_failing P rows fault all.1 fails
+all_failing P ((false, other) ∷ rows) fault all fails = let same : other ≡ fault = cc in subst P same all.0
+
+all_append : (P : Fault → Type 0) (rows more : List (Bool × Fault)) → AreAll P rows → AreAll P more → AreAll P (rows ++ more)
+all_append P [] more all others = others
+all_append P (row ∷ rows) more all others = (all.0, all_append P rows more all.1 others)
+
+all_cond : (P : Fault → Type 0) (b : Bool) (xs ys : List (Bool × Fault)) → AreAll P xs → AreAll P ys → AreAll P (cond b xs ys)
+all_cond P true xs ys x y = x
+all_cond P false xs ys x y = y
+
+-- ---- the options of an interface
+
+abbrev IsItemOf : (Fault → Type 0) → Result CodedValue Fault → Type 0
+IsItemOf P (Ok option) = Unit {0}
+IsItemOf P (Err fault) = P fault
+
+all_of_option : (P : Fault → Type 0) → P BadOption → P BadTimeResolution → (before : List CodedValue) (option : CodedValue) → AreAll P (checks_behind before option)
+all_of_option P bad worse before option =
+    let offset : AreAll P (if option.code == offset_code then offset_checks option.value else []) =
+    all_cond P (option.code == offset_code) (offset_checks option.value) [] (bad, tt) tt in
+    let resolution : AreAll P (if option.code == resolution_code then resolution_checks option.value else (if option.code == offset_code then offset_checks option.value else [])) =
+    all_cond P (option.code == resolution_code) (resolution_checks option.value) (if option.code == offset_code then offset_checks option.value else []) (bad, (worse, tt)) offset in
+    all_cond P (is_some (first_value option.code before)) [] (first_checks option) tt
+    (all_cond P (option.code == name_code) (name_checks option.value)
+    (if option.code == resolution_code then resolution_checks option.value else (if option.code == offset_code then offset_checks option.value else []))
+    (bad, tt) resolution)
+
+all_of_list : (P : Fault → Type 0) → P BadOption → P BadTimeResolution → (before : List CodedValue) (items : List (Result CodedValue Fault)) → AllByRecursion (IsItemOf P) items
+    → AreAll P (list_checks before items)
+all_of_list P bad worse before [] all = tt
+all_of_list P bad worse before (Err fault ∷ items) all = (all.0, all_of_list P bad worse before items all.1)
+all_of_list P bad worse before (Ok option ∷ items) all =
+    all_append P (checks_behind before option) (list_checks (before ++ option ∷ []) items) (all_of_option P bad worse before option)
+    (all_of_list P bad worse (before ++ option ∷ []) items all.1)
+
+items_cond : (P : Fault → Type 0) (b : Bool) (xs ys : List (Result CodedValue Fault)) → AllByRecursion (IsItemOf P) xs → AllByRecursion (IsItemOf P) ys
+    → AllByRecursion (IsItemOf P) (cond b xs ys)
+items_cond P true xs ys x y = x
+items_cond P false xs ys x y = y
+
+items_within : (P : Fault → Type 0) → P BadOption → (most : ℕ) (order : Order) (text : List ℕ) → AllByRecursion (IsItemOf P) (options_within most order text)
+unfolding options_within
+items_within P bad zero order text = tt
+items_within P bad (suc most) order text =
+    items_cond P (ends_at order text) [] _ tt
+    (items_cond P (fits_at order text) (Ok (option_at order text) ∷ options_within most order (drop (padded_length (option_size order text)) text)) _
+    (tt, items_within P bad most order (drop (padded_length (option_size order text)) text)) (bad, tt))
+
+items_in : (P : Fault → Type 0) → P BadOption → (order : Order) (text : List ℕ) → AllByRecursion (IsItemOf P) (options_in order text)
+unfolding options_in
+items_in P bad order text = items_within P bad (length text) order text
+
+-- a refusal of options is of one of two kinds
+pub all_of_options : (P : Fault → Type 0) → P BadOption → P BadTimeResolution → (parts : Parts) → AllByRecursion (λ row. P row.1) (option_checks parts)
+all_of_options P bad worse SectionParts = tt
+all_of_options P bad worse (InterfaceParts link snap order options) = all_of_list P bad worse [] (options_in order options) (items_in P bad order options)
+all_of_options P bad worse (EnhancedParts number ticks captured orig own rest) = tt
+all_of_options P bad worse (SimpleParts orig rest) = tt
+all_of_options P bad worse SkippedParts = tt

@@ -1,0 +1,29 @@
+use Rattle.std.proofs.Common.{◌∙◌, sym, ap, subst}
+use Rattle.cap_octet.specs.declared.fault.Fault.{Fault}
+use Rattle.cap_pcapng.specs.Block.{parts_of}
+use Rattle.cap_pcapng.specs.Effect.{IsBlockFault}
+use Rattle.cap_pcapng.proofs.Entered.{enhanced_enters, enhanced_room, refused_by_itself, simple_enters}
+use Rattle.cap_pcapng.proofs.effect.block_effect.Goals as goal
+
+pub enhanced_packet-requires : goal.enhanced_packet-requires
+enhanced_packet-requires g c =
+    let e = c.in-Ok-Enhanced.ensures in
+    enhanced_room c.args.frame.now c.args.bytes.now c.in-Ok-Enhanced.found c.requires.whole c.requires.shortest (sym (ap parts_of c.in-Ok-Enhanced.field-0-is) ∙ e.parts) e.passes
+
+pub returns-in-Ok-clause-ok : goal.returns-in-Ok-clause-ok
+returns-in-Ok-clause-ok g c =
+    let e = c.in-Ok-Enhanced.ensures in
+    enhanced_enters c.args.frame.now (g.T.Interfaces.list c.args.table.now) c.args.bytes.now c.in-Ok-Enhanced.found c.in-Ok.spans
+    c.requires.whole c.requires.shortest (sym (ap parts_of c.in-Ok-Enhanced.field-0-is) ∙ e.parts) e.passes c.in-Ok.ensures
+
+pub returns-in-Ok-simple_packet-clause-ok : goal.returns-in-Ok-simple_packet-clause-ok
+returns-in-Ok-simple_packet-clause-ok g c =
+    let e = c.in-Ok-Simple.ensures in
+    simple_enters c.args.frame.now (g.T.Interfaces.list c.args.table.now) c.args.bytes.now c.in-Ok-Simple.found c.in-Ok-simple_packet.spans
+    c.requires.whole c.requires.shortest (sym (ap parts_of c.in-Ok-Simple.field-0-is) ∙ e.parts) e.passes c.in-Ok-simple_packet.ensures
+
+pub returns-in-Err-clause-err : goal.returns-in-Err-clause-err
+returns-in-Err-clause-err g c =
+    let P : Fault → Type 0 = λ fault. IsBlockFault c.args.frame.now (g.T.Interfaces.list c.args.table.now) c.args.bytes.now fault in
+    subst P (sym c.fault_in_full_table.ensures)
+    (refused_by_itself c.args.frame.now (g.T.Interfaces.list c.args.table.now) c.args.bytes.now c.in-Err.fault c.requires.whole c.requires.shortest c.in-Err.ensures.refused)

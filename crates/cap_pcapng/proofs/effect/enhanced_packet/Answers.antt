@@ -1,0 +1,26 @@
+use Rattle.std.proofs.Common.{◌∙◌, ℕ, length, refl, sym, ap, arith, length-drop}
+use Rattle.cap_pcapng.specs.Interface.{description_of}
+use Rattle.cap_pcapng.proofs.Entered.{enhanced_found, known_interface}
+use Rattle.cap_pcapng.proofs.effect.enhanced_packet.Goals as goal
+
+pub returns : goal.returns
+returns g c =
+    rw (c.new.ensures, c.new-2.ensures) (enhanced_found c.args.block.now.order (g.T.Interfaces.list c.args.table.now) (description_of c.in-Some.interface) c.args.block.now.interface c.args.block.now.ticks c.args.block.now.captured c.args.block.now.orig
+    c.in_ok-time.time c.args.size _ c.args.block.now.rest.now _
+    (known_interface c.get.result description_of c.in-Some.interface _ c.in-Some.is c.get.ensures) c.in_ok-data.ensures.0
+    (sym c.in_ok-time.was ∙ c.time.ensures.answer) c.in_ok-time.ensures.in_range c.options.ensures.rest refl)
+
+pub returns-in_default : goal.returns-in_default
+returns-in_default g c = grind arith
+
+pub returns-in_err-data : goal.returns-in_err-data
+returns-in_err-data g c = grind arith
+
+pub returns-in_err-time : goal.returns-in_err-time
+returns-in_err-time g c = grind arith
+
+pub overflow_cast-options : goal.overflow_cast-options
+overflow_cast-options g c = omega (arith, ap length c.options.ensures.rest, length-drop {A = ℕ})
+
+pub overflow_sub-behind : goal.overflow_sub-behind
+overflow_sub-behind g c = omega (arith, ap length c.options.ensures.rest, length-drop {A = ℕ})

@@ -1,0 +1,140 @@
+-- What a block does among the interfaces of its section: what it brings there, and its packet.
+use Rattle.std.specs.Prelude.{◌≡◌, ℕ, ◌+◌, ◌-◌, ◌^◌, ◌<◌, ◌≤◌, ◌⊎◌, Bool, false, List, [], ◌∷◌, ◌++◌, length, take, drop, Option, None, Some, true, is_some, if◌then◌else◌, nat_lt}
+use Rattle.std.specs.List.{slice_get}
+use Rattle.std.specs.Option.{option_map}
+use Rattle.cap_octet.specs.Checks.{first_failing}
+use Rattle.cap_octet.specs.Packet.{Captured}
+use Rattle.cap_octet.specs.declared.fault.Fault.{Fault}
+use Rattle.cap_octet.specs.declared.fault.Fault.TheVariants.{BadOption, BadTimeResolution, NoMemory, TooManyInterfaces}
+use Rattle.cap_octet.specs.declared.number.Order.{Order}
+use Rattle.cap_pcapng.specs.Block.{Parts, SectionParts, InterfaceParts, EnhancedParts, SimpleParts, SkippedParts, block_checks, parts_in}
+use Rattle.cap_pcapng.specs.Comment.{comment_in}
+use Rattle.cap_pcapng.specs.Interface.{Described, description_of}
+use Rattle.cap_pcapng.specs.Unit.{Section, checks_among, most_interfaces, packet_by, packet_of, section_by}
+use Rattle.cap_pcapng.specs.declared.frames.Frame.{Frame}
+use Rattle.cap_pcapng.specs.declared.effect.BlockEffect.{BlockEffect}
+use Rattle.cap_pcapng.specs.declared.effect.BlockEffect.TheVariants as effect
+use Rattle.cap_pcapng.specs.declared.effect.PacketSpans.{PacketSpans}
+use Rattle.cap_pcapng.specs.declared.effect.Span.{Span}
+
+-- these bytes of a text
+abbrev pub span_bytes : Span → List ℕ → List ℕ
+span_bytes span text = take span.length (drop span.start text)
+
+abbrev pub is_interface : Parts → Bool
+is_interface SectionParts = false
+is_interface (InterfaceParts link snap order options) = true
+is_interface (EnhancedParts number ticks captured orig order rest) = false
+is_interface (SimpleParts orig rest) = false
+is_interface SkippedParts = false
+
+-- the same section with these interfaces
+abbrev pub section_of : Order → List Described → Section
+section_of order interfaces = record { order = order; interfaces = interfaces }
+
+-- what is held of a packet with these data and options, in this byte order
+abbrev pub held_packet : Order → List Described → PacketSpans → (bytes options : List ℕ)
+    → Option Captured
+held_packet order interfaces spans bytes options =
+    option_map
+    (λ (i : Described). packet_of i spans.time spans.orig bytes (comment_in order options))
+    (slice_get interfaces spans.interface)
+
+-- the packet of a block of so many bytes, whose data are at the start of what is left of its body,
+-- and its options behind them
+pub record PacketFound (order : Order) (interfaces : List Described) (parts : Parts)
+    (start size : ℕ) (rest : List ℕ) (spans : PacketSpans) : Type 0 where
+  pub whole : spans.size ≡ size
+  pub known : is_some (slice_get interfaces spans.interface) ≡ true
+  pub from : spans.bytes.start ≡ start
+  pub packet : Captured
+  pub stands : packet_by interfaces parts ≡ Some packet
+  pub is_lent : held_packet order interfaces spans (take spans.bytes.length rest)
+      (take spans.options.length (drop (spans.options.start - spans.bytes.start) rest))
+      ≡ Some packet
+  pub there : spans.bytes.length ≤ length rest
+  pub behind : spans.bytes.start ≤ spans.options.start
+  pub options : spans.options.start - spans.bytes.start + spans.options.length ≤ length rest
+  pub time : spans.time < 2 ^ 63
+
+-- the packet of a block
+pub record PacketStands (order : Order) (interfaces : List Described) (parts : Parts)
+    (block : List ℕ) (spans : PacketSpans) : Type 0 where
+  pub packet : Captured
+  pub stands : packet_by interfaces parts ≡ Some packet
+  pub is_lent : held_packet order interfaces spans (span_bytes spans.bytes block)
+      (span_bytes spans.options block) ≡ Some packet
+
+abbrev pub PacketIfAny : Order → List Described → Parts → List ℕ → Option PacketSpans → Type 0
+PacketIfAny order interfaces parts block None = packet_by interfaces parts ≡ None
+PacketIfAny order interfaces parts block (Some spans) =
+    PacketStands order interfaces parts block spans
+
+-- what is held of it is in the block
+abbrev pub FitsIfAny : Option PacketSpans → ℕ → Type 0
+FitsIfAny None size = Unit {0}
+FitsIfAny (Some spans) size =
+    (spans.size ≡ size) × (spans.bytes.start + spans.bytes.length ≤ size) × (spans.time < 2 ^ 63)
+    × (spans.options.start + spans.options.length ≤ size)
+
+-- and the interface of its packet is known
+abbrev pub KnowsIfAny : List Described → Option PacketSpans → Type 0
+KnowsIfAny interfaces None = Unit {0}
+KnowsIfAny interfaces (Some spans) = is_some (slice_get interfaces spans.interface) ≡ true
+
+-- a block passed all of its checks, and the table of interfaces is that behind it
+pub record Enters (frame : Frame) (interfaces : List Described) (block : List ℕ)
+    (spans : Option PacketSpans) (interfaces' : List Described) : Type 0 where
+  pub passes : first_failing (block_checks frame block) ≡ None
+  pub among : first_failing (checks_among interfaces (parts_in frame block)) ≡ None
+  pub section : section_by (Some (section_of frame.order interfaces)) frame.order
+      (parts_in frame block) ≡ section_of frame.order interfaces'
+  pub packet : PacketIfAny frame.order interfaces (parts_in frame block) block spans
+  pub fits : FitsIfAny spans frame.length
+  pub known : KnowsIfAny interfaces' spans
+
+-- what a block does that passed all of its checks: its packet, and the interfaces behind it
+abbrev pub packet_in_effect : BlockEffect → Option PacketSpans
+packet_in_effect effect.Section = None
+packet_in_effect (effect.Interface i) = None
+packet_in_effect (effect.Packet spans) = Some spans
+packet_in_effect effect.Nothing = None
+
+abbrev pub interfaces_after : BlockEffect → List Described → List Described
+interfaces_after effect.Section interfaces = []
+interfaces_after (effect.Interface i) interfaces = interfaces ++ description_of i ∷ []
+interfaces_after (effect.Packet spans) interfaces = interfaces
+interfaces_after effect.Nothing interfaces = interfaces
+
+abbrev pub HasEffect : Frame → List Described → List ℕ → BlockEffect → Type 0
+HasEffect frame interfaces block does =
+    Enters frame interfaces block (packet_in_effect does) (interfaces_after does interfaces)
+
+-- the first check that a block fails
+abbrev pub IsBlockFault : Frame → List Described → List ℕ → Fault → Type 0
+IsBlockFault frame interfaces block fault =
+    (first_failing (block_checks frame block) ≡ Some fault)
+    ⊎ ((first_failing (block_checks frame block) ≡ None)
+    × (first_failing (checks_among interfaces (parts_in frame block)) ≡ Some fault))
+
+-- a block that fails no check describes an interface
+pub record AddsInterface (frame : Frame) (interfaces : List Described)
+    (block : List ℕ) : Type 0 where
+  pub passes : first_failing (block_checks frame block) ≡ None
+  pub among : first_failing (checks_among interfaces (parts_in frame block)) ≡ None
+  pub describes : is_interface (parts_in frame block) ≡ true
+
+-- the first check that a block fails, or out of memory for an interface
+abbrev pub IsEntryFault : Frame → List Described → List ℕ → Fault → Type 0
+IsEntryFault frame interfaces block fault =
+    IsBlockFault frame interfaces block fault
+    ⊎ ((fault ≡ NoMemory) × AddsInterface frame interfaces block)
+
+-- What a block's refusal by itself tells behind these interfaces: that there are as many as may be
+-- comes before what its options tell.
+abbrev pub fault_among : List Described → Fault → Fault
+fault_among interfaces BadOption =
+    if nat_lt (length interfaces) most_interfaces then BadOption else TooManyInterfaces
+fault_among interfaces BadTimeResolution =
+    if nat_lt (length interfaces) most_interfaces then BadTimeResolution else TooManyInterfaces
+fault_among interfaces fault = fault

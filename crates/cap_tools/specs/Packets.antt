@@ -1,0 +1,375 @@
+-- What a contract sees of a job under way, and what holds of it at each step.
+use Rattle.std.specs.Prelude.{◌≡◌, ◌⊎◌, ℕ, zero, suc, ◌+◌, ◌≤◌, Bool, true, false, List, [], ◌∷◌, ◌++◌, length, map, Option, None, Some, Result, Ok, Err}
+use Rattle.std.specs.List.{slice_get}
+use Rattle.cap_octet.specs.Device.{Stops}
+use Rattle.cap_octet.specs.Packet.{Captured}
+use Rattle.cap_octet.specs.declared.fault.Fault.{Fault}
+use Rattle.cap_octet.specs.declared.fault.Fault.TheVariants.{ReadFailed, NoMemory, WriteFailed}
+use Rattle.cap_octet.specs.declared.device.DeviceFault.{DeviceFault}
+use Rattle.cap_io.specs.Capture.{Placed, Items, kind_of}
+use Rattle.cap_io.specs.Source.{SourceView, Advances}
+use Rattle.cap_io.specs.Position.{IsCutShort, MemoryEndsAt, ReadFailsAt}
+use Rattle.cap_filter.specs.Programs.{spent_in}
+use Rattle.cap_inputs.specs.declared.inputs.Next.TheVariants as next
+use Rattle.cap_packets.specs.declared.selector.Verdict as code
+use Rattle.cap_packets.specs.declared.selector.Verdict.TheVariants as code_verdict
+use Rattle.cap_tools.specs.declared.step.JobEnd.{JobEnd}
+use Rattle.cap_tools.specs.declared.step.JobEnd.TheVariants as end
+use Rattle.cap_packets.specs.Reports.{Report, Tally, report_text}
+use Rattle.cap_packets.specs.Output.{JobOutputView, Target, HasWritten, PutsIntoOutput, Reports, form_at, written_to, failures_to}
+use Rattle.cap_io.specs.Sequence.{Event, Packet, InputEnd, SequenceEnd, Complete, FaultIn, InputItems, PacketOrder, InTurn, ByTime, sequence_of, whole_input}
+use Rattle.cap_packets.specs.Verdict.{Policy, SelectorState, PassesAs, judge}
+use Rattle.cap_packets.specs.Selector.{PolicyState, SelectorView, IsWithin, with_empty_tally, is_count, most_spent, spent_by_verdict}
+use Rattle.cap_packets.specs.Selector as selecting
+use Rattle.cap_packets.specs.Outcome.{Form, JobProgress, Work, ComeFirst, IsNextEvent, AreAllEvents, cut_at, no_progress, apply_events, final_progress, final_text, output_text, closing_text, first_link, packet_bytes, report_bytes, form_refuses, form_takes_memory}
+use Rattle.cap_inputs.specs.Inputs.{InputsView, InputView, InputPast, AreInputsBehind, KnowGreatest, AreSettled, ReadsInput, IsNext, input_after, device_limits}
+
+-- ---- the view
+
+-- the state of a job, whatever its programs cost so far
+pub record JobState : Type 0 where
+  pub inputs : InputsView
+  pub policy : Policy
+  pub state : SelectorState
+  pub output : JobOutputView
+  -- how many packets are decided
+  pub decided : ℕ
+
+abbrev pub output_form : JobState → Form
+output_form m = form_at m.output
+
+-- in which order its packets come, how they are judged, and in which form they are written
+abbrev pub work_of : JobState → Work
+work_of m = record { order = m.inputs.order; policy = m.policy; form = output_form m }
+
+abbrev pub written_by : JobState → List ℕ
+written_by m = written_to m.output.target
+
+abbrev pub failures_by : JobState → ℕ
+failures_by m = failures_to m.output.target
+
+-- ---- what holds between steps
+
+abbrev pub texts : List InputPast → List (List ℕ)
+texts ss = map (λ s. s.text) ss
+
+abbrev pub wholes_of : List InputPast → List InputItems
+wholes_of ss = map whole_input (texts ss)
+
+-- how far the job is, with these packets and reports
+abbrev pub progress_at : JobState → List Captured → List Report → JobProgress
+progress_at m packets reports =
+    record {
+      decided = m.decided;
+      state = m.state;
+      packets = packets;
+      reports = reports;
+      end = None;
+    }
+
+-- Of each input some bytes are done: their packets are decided, in the job's order, with their
+-- greatest time known, and the output is what is written of those that passed, or of the inputs
+-- that were read to their ends. By which programs they are judged is said of the whole job
+-- (`Decided`).
+pub record PacketsDecided (ss : List InputPast) (before : List ℕ) (m : JobState) : Type 0 where
+  pub behind : AreInputsBehind ss m.inputs.cursors
+  pub greatest : KnowGreatest ss m.inputs.cursors
+  pub events : List Event
+  -- the events are the first of the order of the whole inputs, and they stay the first whatever
+  -- follows what was read
+  pub first : ComeFirst (sequence_of m.inputs.order (wholes_of ss)) events
+  pub come : AreSettled ss m.inputs events
+  pub packets : List Captured
+  pub reports : List Report
+  pub progress : apply_events m.policy (output_form m) no_progress events
+      ≡ progress_at m packets reports
+  pub output : HasWritten before m.output packets reports
+  pub passed : m.state.passed ≤ m.decided
+  pub counted : IsWithin m.decided m.state.tally
+
+-- ---- the parts of a step
+
+-- what a call returns that says whether the packet is the last
+abbrev pub PutsAs : Bool → Captured → Target → Result Bool Fault → Target → Type 0
+PutsAs last p old (Ok b) new = (b ≡ last) × PutsIntoOutput p old (Ok tt) new
+PutsAs last p old (Err fault) new = PutsIntoOutput p old (Err fault) new
+
+abbrev pub Offers : code.Verdict → Captured → Target → Result Bool Fault → Target → Type 0
+Offers code_verdict.Pass p old r new = PutsAs false p old r new
+Offers code_verdict.PassLast p old r new = PutsAs true p old r new
+Offers code_verdict.Skip p old r new = (r ≡ Ok false) × (new ≡ old)
+
+-- what judges, and where what passes goes
+pub record Sieve (T : Type 0) : Type 0 where
+  pub selector : PolicyState
+  pub output : T
+
+abbrev pub sieve : {T : Type 0} → PolicyState → T → Sieve T
+sieve selector output = record { selector = selector; output = output }
+
+-- a packet is judged, and put where it passes
+pub record Judges (p : Captured) (number : ℕ) (old : Sieve Target) (r : Result Bool Fault)
+    (new : Sieve Target) : Type 0 where
+  pub answer : code.Verdict
+  -- as it passes
+  pub packet : Captured
+  pub exact : selecting.IsVerdict (judge old.selector.policy old.selector.state number p)
+      (Ok answer) packet new.selector.state
+  pub offers : Offers answer packet old.output r new.output
+
+-- it is refused, and nothing is written
+pub record Rejects (p : Captured) (number : ℕ) (old : Sieve Target) (r : Result Bool Fault)
+    (new : Sieve Target) : Type 0 where
+  pub fault : Fault
+  pub exact : selecting.IsVerdict (judge old.selector.policy old.selector.state number p)
+      (Err fault) p new.selector.state
+  pub answer : r ≡ Err fault
+  pub same : new.output ≡ old.output
+
+abbrev pub DecidesPacket : Option Captured → ℕ → Sieve Target → Result Bool Fault → Sieve Target
+    → Type 0
+DecidesPacket None number old r new = ⊥
+DecidesPacket (Some p) number old r new = Judges p number old r new ⊎ Rejects p number old r new
+
+-- what deciding the current packet cost
+abbrev pub Spends : Option Captured → SelectorView → ℕ → SelectorView → Type 0
+Spends None old number new = ⊥
+Spends (Some p) old number new =
+    (new.programs ≡ spent_by_verdict old.policy number p old.programs)
+    × (spent_in new.programs ≤ spent_in old.programs + most_spent old.policy)
+
+-- whether an input that was read to its end is reported: where files are counted, one behind
+-- another
+abbrev pub asks_report : PacketOrder → Policy → Bool
+asks_report InTurn policy = is_count policy
+asks_report ByTime policy = false
+
+abbrev pub report_at : ℕ → InputView → Tally → Report
+report_at input h tally =
+    record {
+      input = input;
+      kind = kind_of h.source.declared;
+      size = h.source.offset;
+      tally = tally;
+    }
+
+abbrev pub unless_failed : Result (Unit {0}) DeviceFault → Option JobEnd
+unless_failed (Ok done) = None
+unless_failed (Err fault) = Some end.OutputFailed
+
+-- an input is reported, and the count begins anew
+pub record ReportsOn (input : ℕ) (cursor : InputView) (old : Sieve JobOutputView)
+    (r : Option JobEnd) (new : Sieve JobOutputView) : Type 0 where
+  pub answer : Result (Unit {0}) DeviceFault
+  pub reports : Reports
+      (report_text old.output.names
+      (report_at input cursor old.selector.state.tally)) old.output.target answer new.output.target
+  pub names : new.output.names ≡ old.output.names
+  pub is : r ≡ unless_failed answer
+  pub selector_is : new.selector
+      ≡ record { policy = old.selector.policy; state = with_empty_tally old.selector.state }
+
+abbrev pub ClosesBy : Bool → ℕ → InputView → Sieve JobOutputView → Option JobEnd
+    → Sieve JobOutputView → Type 0
+ClosesBy false input cursor old r new =
+    (r ≡ None) × (new.selector ≡ old.selector) × (new.output ≡ old.output)
+ClosesBy true input cursor old r new = ReportsOn input cursor old r new
+
+-- an input was read to its end
+pub record Closes (inputs : InputsView) (input : ℕ) (old : Sieve JobOutputView) (r : Option JobEnd)
+    (new : Sieve JobOutputView) : Type 0 where
+  pub cursor : InputView
+  pub among : slice_get inputs.cursors input ≡ Some cursor
+  pub by : ClosesBy (asks_report inputs.order old.selector.policy) input cursor old r new
+
+abbrev pub end_of_failed_write : ℕ → Fault → JobEnd
+end_of_failed_write input WriteFailed = end.OutputFailed
+end_of_failed_write input fault = end.FaultIn input fault
+
+-- ---- what a step leaves
+
+-- some bytes more of an input are done, with their packets
+abbrev pub finish_at : List InputPast → ℕ → List ℕ → List Placed → List InputPast
+finish_at [] i bytes packets = []
+finish_at (s ∷ ss) zero bytes packets =
+    record { text = s.text; done = s.done ++ bytes; packets = s.packets ++ packets } ∷ ss
+finish_at (s ∷ ss) (suc i) bytes packets = s ∷ finish_at ss i bytes packets
+
+-- What a step adds to the output, where the job is at `far` before the step and at `next` behind
+-- it: nothing, a packet that passes, the report of an input, or what a clean end adds.
+pub data OneAnswer (form : Form) (link : Option ℕ) (far next : JobProgress)
+    (bytes : List ℕ) : Type 0 where
+  nothing : next.packets ≡ far.packets → next.reports ≡ far.reports → bytes ≡ []
+      → OneAnswer form link far next bytes
+  packet : (p : Captured) → next.packets ≡ far.packets ++ p ∷ [] → next.reports ≡ far.reports
+      → bytes ≡ packet_bytes form far.packets p → OneAnswer form link far next bytes
+  report : (r : Report) → next.packets ≡ far.packets → next.reports ≡ far.reports ++ r ∷ []
+      → bytes ≡ report_bytes form r → OneAnswer form link far next bytes
+  closes : next.packets ≡ far.packets → next.reports ≡ far.reports → next.end ≡ Some Complete
+      → bytes ≡ closing_text form link far.packets → OneAnswer form link far next bytes
+
+-- What a step appends to the output is one answer, or nothing.
+pub record AppendsOnce (link : Option ℕ) (far next : JobProgress)
+    (old new : JobOutputView) : Type 0 where
+  pub bytes : List ℕ
+  pub appended : written_to new.target ≡ written_to old.target ++ bytes
+  pub one : OneAnswer (form_at old) link far next bytes
+
+-- how far the job is
+abbrev pub progress_of : {ss : List InputPast} {before : List ℕ} {m : JobState}
+    → PacketsDecided ss before m → JobProgress
+progress_of {ss} {before} {m} d = progress_at m d.packets d.reports
+
+-- it goes on, and finished some bytes of one input
+pub record GoesOn {ss : List InputPast} {before : List ℕ} {old : JobState}
+    (d : PacketsDecided ss before old) (new : JobState) : Type 0 where
+  pub input : ℕ
+  pub finished : List ℕ
+  pub packets : List Placed
+  pub past : List InputPast
+  pub past_is : past ≡ finish_at ss input finished packets
+  pub decided : PacketsDecided past before new
+  pub at_most_one : new.decided ≤ old.decided + 1
+  pub form : output_form new ≡ output_form old
+  pub once : AppendsOnce (first_link (wholes_of ss)) (progress_of d)
+      (progress_of decided) old.output new.output
+  -- the output's device didn't fail
+  pub output : failures_by new ≡ failures_by old
+  pub names : new.output.names ≡ old.output.names
+  pub order : new.inputs.order ≡ old.inputs.order
+  pub limits : device_limits new.inputs.cursors ≡ device_limits old.inputs.cursors
+
+-- how far a job comes over inputs with these items
+abbrev pub progress_over : JobState → List InputItems → JobProgress
+progress_over m rs = final_progress m.policy (output_form m) (sequence_of m.inputs.order rs)
+
+-- the output is all that the job writes of inputs with these items, and they end so
+pub record CompletesOutput {ss : List InputPast} {before : List ℕ} {old : JobState}
+    (rs : List InputItems) (d : PacketsDecided ss before old) (new : JobState)
+    (close : SequenceEnd) : Type 0 where
+  pub ends : (progress_over old rs).end ≡ Some close
+  pub written : written_by new ≡ before
+      ++ final_text (output_form old) (first_link rs) (progress_over old rs)
+  pub once : AppendsOnce (first_link rs) (progress_of d)
+      (progress_over old rs) old.output new.output
+  -- the output's device didn't fail
+  pub device : failures_by new ≡ failures_by old
+
+-- This input was read on in this step, and its device failed or there was no memory for its next
+-- unit: it is cut short there, where `after` stands.
+pub record EndsByCut {ss : List InputPast} {before : List ℕ} {old : JobState}
+    (d : PacketsDecided ss before old) (new : JobState) (input : ℕ) (fault : Fault)
+    (after : SourceView) : Type 0 where
+  pub past : InputPast
+  pub among : slice_get ss input ≡ Some past
+  pub held : Items
+  pub cut : IsCutShort past.text fault held
+  pub cursor : InputView
+  pub cursor_is : slice_get old.inputs.cursors input ≡ Some cursor
+  pub next : IsNext old.inputs (next.Read input)
+  pub advances : Advances cursor.source.phase cursor.source (Err fault) after
+  pub why :
+      ((fault ≡ ReadFailed)
+      × ReadFailsAt cursor.source after past.text cut.done cut.rest held.declared)
+      ⊎ ((fault ≡ NoMemory) × MemoryEndsAt cut.done cut.rest held.declared)
+  pub comes : CompletesOutput (cut_at (wholes_of ss) input held) d new
+      (FaultIn input fault after.offset)
+
+-- There was no memory to write the current packet of this input, which is the next of the order,
+-- begins where `after` stands and is kept: the output stays.
+pub record WantsMemory {ss : List InputPast} {before : List ℕ} {old : JobState}
+    (d : PacketsDecided ss before old) (new : JobState) (input : ℕ) (fault : Fault)
+    (after : SourceView) : Type 0 where
+  pub next : IsNext old.inputs (next.Decide input)
+  pub packet : Placed
+  pub comes : IsNextEvent (work_of old) (wholes_of ss) d.events (Packet input packet)
+  pub place : after.offset ≡ packet.offset
+  pub kept : Captured
+  pub passes : PassesAs (judge old.policy old.state (old.decided + 1) packet.packet).verdict kept
+  pub taken : form_refuses (output_form old) d.packets kept ≡ None
+  pub takes : form_takes_memory (output_form old) d.packets kept ≡ true
+  pub inputs : new.inputs ≡ old.inputs
+  pub why : fault ≡ NoMemory
+  pub written : written_by new ≡ written_by old
+  pub device : failures_by new ≡ failures_by old
+
+-- next is the current packet of an input, which passes; this is what it adds
+pub record NextPacket {ss : List InputPast} {before : List ℕ} {old : JobState}
+    (d : PacketsDecided ss before old) (new : JobState) (bytes : List ℕ) : Type 0 where
+  pub input : ℕ
+  pub next : IsNext old.inputs (next.Decide input)
+  pub cursor : InputView
+  pub among : slice_get old.inputs.cursors input ≡ Some cursor
+  pub packet : Captured
+  pub held : cursor.source.packet ≡ Some packet
+  pub comes : IsNextEvent (work_of old) (wholes_of ss) d.events
+      (Packet input (record { offset = cursor.source.offset; packet = packet }))
+  pub passed : Captured
+  pub passes : PassesAs (judge old.policy old.state (old.decided + 1) packet).verdict passed
+  pub taken : form_refuses (output_form old) d.packets passed ≡ None
+  pub bytes_are : bytes ≡ packet_bytes (output_form old) d.packets passed
+  pub inputs : new.inputs ≡ old.inputs
+
+-- next is an input that is read to its end in this step, and reported; this is its report
+pub record NextReport {ss : List InputPast} {before : List ℕ} {old : JobState}
+    (d : PacketsDecided ss before old) (new : JobState) (bytes : List ℕ) : Type 0 where
+  pub input : ℕ
+  pub next : IsNext old.inputs (next.Read input)
+  pub fetches : ReadsInput old.inputs input (Ok false) new.inputs
+  pub comes : IsNextEvent (work_of old) (wholes_of ss) d.events
+      (InputEnd input (kind_of fetches.source.declared) fetches.source.offset)
+  pub policy : asks_report old.inputs.order old.policy ≡ true
+  pub bytes_are : bytes
+      ≡ report_bytes (output_form old)
+      (report_at input (input_after fetches.cursor (Ok false) fetches.source) old.state.tally)
+
+-- all inputs were read; this is what a clean end adds
+pub record NextClosing {ss : List InputPast} {before : List ℕ} {old : JobState}
+    (d : PacketsDecided ss before old) (new : JobState) (bytes : List ℕ) : Type 0 where
+  pub next : IsNext old.inputs next.Finish
+  pub comes : AreAllEvents (work_of old) (wholes_of ss) d.events
+  pub bytes_are : bytes ≡ closing_text (output_form old) (first_link (wholes_of ss)) d.packets
+  pub inputs : new.inputs ≡ old.inputs
+
+-- The output's device failed in this step, after a prefix of what comes next in the whole output.
+pub record StopsWriting {ss : List InputPast} {before : List ℕ} {old : JobState}
+    (d : PacketsDecided ss before old) (new : JobState) : Type 0 where
+  pub failures : failures_by new ≡ failures_by old + 1
+  pub bytes : List ℕ
+  pub answer : NextPacket d new bytes ⊎ NextReport d new bytes ⊎ NextClosing d new bytes
+  pub back : List ℕ
+  pub whole : final_text (output_form old) (first_link (wholes_of ss))
+      (progress_over old (wholes_of ss)) ≡ output_text (output_form old) d.packets d.reports
+      ++ (bytes ++ back)
+  pub so_far : written_by old ≡ before ++ output_text (output_form old) d.packets d.reports
+  pub stops : Stops (written_by old) bytes (written_by new)
+
+-- the inputs end so, or the current packet is refused; or the input is cut short; or there was no
+-- memory
+abbrev pub WhyBroken : {ss : List InputPast} {before : List ℕ} {old : JobState}
+    → PacketsDecided ss before old → JobState → ℕ → Fault → SourceView → Type 0
+WhyBroken {ss} {before} {old} d new input fault after =
+    CompletesOutput (wholes_of ss) d new (FaultIn input fault after.offset)
+    ⊎ EndsByCut d new input fault after ⊎ WantsMemory d new input fault after
+
+pub record BreaksAt {ss : List InputPast} {before : List ℕ} {old : JobState}
+    (d : PacketsDecided ss before old) (new : JobState) (input : ℕ)
+    (fault : Fault) : Type 0 where
+  pub cursor : InputView
+  pub among : slice_get new.inputs.cursors input ≡ Some cursor
+  pub why : WhyBroken d new input fault cursor.source
+
+abbrev pub EndLeaves : {ss : List InputPast} {before : List ℕ} {old : JobState}
+    → PacketsDecided ss before old → JobEnd → JobState → Type 0
+EndLeaves {ss} {before} {old} d end.Complete new = CompletesOutput (wholes_of ss) d new Complete
+EndLeaves {ss} {before} {old} d (end.FaultIn input fault) new = BreaksAt d new input fault
+EndLeaves {ss} {before} {old} d end.OutputFailed new = StopsWriting d new
+
+abbrev pub StepLeaves : {ss : List InputPast} {before : List ℕ} {old : JobState}
+    → PacketsDecided ss before old → Option JobEnd → JobState → Type 0
+StepLeaves {ss} {before} {old} d None new = GoesOn d new
+StepLeaves {ss} {before} {old} d (Some e) new = EndLeaves d e new
+
+abbrev pub StepGives : JobState → Option JobEnd → JobState → Type 0
+StepGives old r new =
+    (ss : List InputPast) (before : List ℕ) (d : PacketsDecided ss before old) → StepLeaves d r new

@@ -1,0 +1,6 @@
+//! What the program's commands are run by.
+#![tactic(auto)]
+
+mod jobs;
+
+pub use jobs::Jobs;

@@ -1,0 +1,29 @@
+-- What the loop of the reader needs of the machine.
+use Rattle.std.proofs.Common.{◌≡◌, ℕ, ◌+◌, ◌-◌, ◌<◌, List, [], ◌∷◌, length, take, drop, get_or, sym, ap, ◌∙◌, arith, Option, Some, None, one-add}
+use Rattle.std.proofs.lemmas.List.{drop-map, drop-drop, take_rest}
+use Rattle.flt_words.specs.declared.token.Token.{Token}
+use Rattle.flt_tree.specs.declared.node.Node.{Node}
+use Rattle.flt_lang.specs.declared.frame.Frame.{Frame}
+use Rattle.flt_lang.specs.declared.frame.Operand.{Operand}
+use Rattle.flt_lang.specs.Grammar.{kinds_of}
+use Rattle.flt_lang.specs.Parser.{State, run, after_operand, begin_at}
+use Rattle.flt_lang.proofs.Fronts.{first_and_rest}
+use Rattle.flt_lang.proofs.Valued.{run_begins, run_skip}
+
+-- what comes behind an operand
+pub run_goes_on : (ts : List Token) (t : Token) (fs : List Frame) (x : Operand) (d : List Node) (k : ℕ) (s : State) → 0 < length ts → after_operand ((get_or ts 0 t).kind ∷ kinds_of (take (length ts - 1) (drop 1 ts))) fs x d ≡ Some (k, s) → run (kinds_of ts) 0 fs (Some x) d ≡ run (kinds_of (drop (1 + k) ts)) 0 s.0 s.1 s.2
+run_goes_on [] t fs x d k s h e = absurd (omega arith)
+run_goes_on (u ∷ ts) t fs x d k s h e =
+    let goes : after_operand (kinds_of (u ∷ ts)) fs x d ≡ Some (k, s) = ap (λ us. after_operand us fs x d) (sym (first_and_rest (u ∷ ts) t h)) ∙ e in
+    rw (goes, one-add, ← drop-map) (run_skip (kinds_of ts) k s.0 s.1 s.2)
+
+-- where an operand begins
+pub run_begins_on : (ts : List Token) (t : Token) (fs : List Frame) (d : List Node) (k : ℕ) (s : State) → 0 < length ts → begin_at (get_or ts 0 t).kind (kinds_of ts) fs d ≡ Some (k, s) → run (kinds_of ts) 0 fs None d ≡ run (kinds_of (drop (1 + k) ts)) 0 s.0 s.1 s.2
+run_begins_on [] t fs d k s h e = absurd (omega arith)
+run_begins_on (u ∷ ts) t fs d k s h e = rw (one-add, ← drop-map) (run_begins (kinds_of (u ∷ ts)) fs d k s (omega arith) e)
+
+-- a step reads what is left as it reads what the step leaves
+pub runs_on : (ts : List Token) (at used : ℕ) (fs gs : List Frame) (x y : Option Operand) (d e : List Node) (all : Option (List Node)) → run (kinds_of (take (length ts - at) (drop at ts))) 0 fs x d ≡ run (kinds_of (drop used (take (length ts - at) (drop at ts)))) 0 gs y e → run (kinds_of (drop at ts)) 0 fs x d ≡ all → run (kinds_of (drop (at + used) ts)) 0 gs y e ≡ all
+runs_on ts at used fs gs x y d e all step before =
+    let left : drop used (take (length ts - at) (drop at ts)) ≡ drop (at + used) ts = ap (drop used) (take_rest ts at) ∙ drop-drop used at ts in
+    ap (λ us. run (kinds_of us) 0 gs y e) (sym left) ∙ sym step ∙ ap (λ us. run (kinds_of us) 0 fs x d) (take_rest ts at) ∙ before

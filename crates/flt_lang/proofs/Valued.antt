@@ -1,0 +1,185 @@
+-- A value with what stands before it, as tokens and as the machine reads it.
+use Rattle.std.proofs.Common.{◌≡◌, ℕ, suc, zero, ◌+◌, ◌-◌, ◌<◌, ◌≤◌, List, [], ◌∷◌, length, drop, refl, sym, ap, ◌∙◌, subst, arith, is_some, ◌||◌, Option, Some, None, Bool, true, false}
+use Rattle.std.proofs.lemmas.List.{drop-drop}
+use Rattle.flt_words.specs.declared.token.Protocol.{Protocol}
+use Rattle.flt_words.specs.declared.token.Operator.TheVariants.{Divide}
+use Rattle.flt_words.specs.declared.token.Side.{Side}
+use Rattle.flt_words.specs.declared.token.Side.TheVariants.{Source, Destination}
+use Rattle.flt_words.specs.declared.token.ValueType.{ValueType}
+use Rattle.flt_words.specs.declared.token.TokenKind.{TokenKind}
+use Rattle.flt_words.specs.declared.token.TokenKind.TheVariants as token
+use Rattle.flt_tree.specs.declared.qualifiers.Direction.{Direction}
+use Rattle.flt_tree.specs.declared.qualifiers.Qualifiers.{Qualifiers}
+use Rattle.flt_tree.specs.declared.value.NetMask.{NetMask}
+use Rattle.flt_tree.specs.declared.value.Value.{Value}
+use Rattle.flt_tree.specs.declared.value.Value.TheVariants as value
+use Rattle.flt_tree.specs.declared.node.Node.{Node}
+use Rattle.flt_tree.specs.declared.node.Node.TheVariants as node
+use Rattle.flt_lang.specs.declared.frame.Frame.{Frame}
+use Rattle.flt_lang.specs.declared.frame.Operand.{Operand}
+use Rattle.flt_lang.specs.declared.frame.Operand.TheVariants as operand
+use Rattle.flt_lang.specs.Values.{ReadsProtocol, no_protocol, protocol, ReadsDirection, no_direction, one_side, source_first, destination_first, ReadsType, no_type, of_type, ReadsQualifiers, qualifiers, is_written, ReadsMask, no_mask, prefix, dotted_mask, ReadsValue, number, dotted, ip6, ip6_prefix, mac, range, starts_value, protocol_of, direction_of, type_of, qualifiers_of, mask_of, value_of}
+use Rattle.flt_lang.specs.Parser.{◌>>=◌, next_precedence, State, begin, run, valued_of, valued_or, primitive, with_frames}
+use Rattle.flt_lang.proofs.ValuesBack.{type_back, direction_back, qualifiers_back, ends_protocol, value_back}
+
+-- rest is what is left of ts
+pub record IsSuffix (ts rest : List TokenKind) : Type 0 where
+  pub used : ℕ
+  pub drops : drop used ts ≡ rest
+  pub long : length ts ≡ used + length rest
+
+joined_suffix : (ts mid rest : List TokenKind) → IsSuffix ts mid → IsSuffix mid rest → IsSuffix ts rest
+joined_suffix ts mid rest a b = record {
+  used = a.used + b.used;
+  drops = sym (drop-drop b.used a.used ts) ∙ ap (drop b.used) a.drops ∙ b.drops;
+  long = omega (arith, a.long, b.long);
+}
+
+protocol_suffix : {ts rest : List TokenKind} {p : Option Protocol} → ReadsProtocol ts p rest → IsSuffix ts rest
+protocol_suffix no_protocol = record { used = 0; drops = refl; long = omega arith }
+protocol_suffix protocol = record { used = 1; drops = refl; long = omega arith }
+
+direction_suffix : {ts rest : List TokenKind} {d : Option Direction} → ReadsDirection ts d rest → IsSuffix ts rest
+direction_suffix no_direction = record { used = 0; drops = refl; long = omega arith }
+direction_suffix one_side = record { used = 1; drops = refl; long = omega arith }
+direction_suffix source_first = record { used = 3; drops = refl; long = omega arith }
+direction_suffix destination_first = record { used = 3; drops = refl; long = omega arith }
+
+type_suffix : {ts rest : List TokenKind} {k : Option ValueType} → ReadsType ts k rest → IsSuffix ts rest
+type_suffix no_type = record { used = 0; drops = refl; long = omega arith }
+type_suffix of_type = record { used = 1; drops = refl; long = omega arith }
+
+mask_suffix : {ts rest : List TokenKind} {m : NetMask} → ReadsMask ts m rest → IsSuffix ts rest
+mask_suffix no_mask = record { used = 0; drops = refl; long = omega arith }
+mask_suffix prefix = record { used = 2; drops = refl; long = omega arith }
+mask_suffix dotted_mask = record { used = 2; drops = refl; long = omega arith }
+
+one_more : {t : TokenKind} {ts rest : List TokenKind} → IsSuffix ts rest → IsSuffix (t ∷ ts) rest
+one_more s = record { used = suc s.used; drops = s.drops; long = omega (arith, s.long) }
+
+pub value_suffix : {ts rest : List TokenKind} {v : Value} → ReadsValue ts v rest → IsSuffix ts rest
+value_suffix (number m) = one_more (mask_suffix m)
+value_suffix (dotted m) = one_more (mask_suffix m)
+value_suffix ip6 = record { used = 1; drops = refl; long = omega arith }
+value_suffix ip6_prefix = record { used = 3; drops = refl; long = omega arith }
+value_suffix mac = record { used = 1; drops = refl; long = omega arith }
+value_suffix range = record { used = 1; drops = refl; long = omega arith }
+
+qualifiers_suffix : {ts mid : List TokenKind} {q : Qualifiers} → ReadsQualifiers ts q mid → IsSuffix ts mid
+qualifiers_suffix (qualifiers p d k) = joined_suffix _ _ _ (joined_suffix _ _ _ (protocol_suffix p) (direction_suffix d)) (type_suffix k)
+
+pub whole_suffix : {ts mid rest : List TokenKind} {q : Qualifiers} {v : Value} → ReadsQualifiers ts q mid → ReadsValue mid v rest → IsSuffix ts rest
+whole_suffix qs v = joined_suffix _ _ _ (qualifiers_suffix qs) (value_suffix v)
+
+-- a type, a direction or a protocol stands first, the last with neither a bracket nor a cast behind it
+abbrev is_front : List TokenKind → Bool
+is_front (token.Protocol p ∷ ts) = ends_protocol ts
+is_front (token.Side s ∷ ts) = true
+is_front (token.ValueType k ∷ ts) = true
+is_front _ = false
+
+front : {ts mid : List TokenKind} {q : Qualifiers} → ReadsQualifiers ts q mid → is_written q ≡ true → starts_value mid ≡ true → is_front ts ≡ true
+front (qualifiers protocol d k) w h = (direction_back d (type_back k h).1).1
+front (qualifiers no_protocol no_direction no_type) w h = cc
+front (qualifiers no_protocol no_direction of_type) w h = refl
+front (qualifiers no_protocol one_side k) w h = refl
+front (qualifiers no_protocol source_first k) w h = refl
+front (qualifiers no_protocol destination_first k) w h = refl
+
+begin_protocol : (p : Protocol) (ts : List TokenKind) (fs : List Frame) (d : List Node) → ends_protocol ts ≡ true → begin (token.Protocol p ∷ ts) fs d ≡ with_frames fs (primitive (token.Protocol p ∷ ts) d)
+begin_protocol p (token.OpenBracket ∷ ts) fs d h = cc
+begin_protocol p (token.Cast c ∷ ts) fs d h = cc
+begin_protocol p _ fs d h = refl
+
+begin_front : (ts : List TokenKind) (fs : List Frame) (d : List Node) → is_front ts ≡ true → begin ts fs d ≡ with_frames fs (primitive ts d)
+begin_front (token.Protocol p ∷ ts) fs d h = begin_protocol p ts fs d h
+begin_front (token.Side s ∷ ts) fs d h = refl
+begin_front (token.ValueType k ∷ ts) fs d h = refl
+begin_front _ fs d h = cc
+
+pub run_skip : (ts : List TokenKind) (k : ℕ) (fs : List Frame) (x : Option Operand) (d : List Node) → run ts k fs x d ≡ run (drop k ts) 0 fs x d
+run_skip [] zero fs x d = refl
+run_skip [] (suc k) fs x d = refl
+run_skip (t ∷ ts) zero fs x d = refl
+run_skip (t ∷ ts) (suc k) fs x d = run_skip ts k fs x d
+
+pub run_begins : (ts : List TokenKind) (fs : List Frame) (d : List Node) (k : ℕ) (s : State) → 0 < length ts → begin ts fs d ≡ Some (k, s) → run ts 0 fs None d ≡ run (drop (suc k) ts) 0 s.0 s.1 s.2
+run_begins [] fs d k s h e = absurd (omega arith)
+run_begins (t ∷ ts) fs d k s h e = rw e (run_skip ts k s.0 s.1 s.2)
+
+pub value_some : {ts rest : List TokenKind} {v : Value} → ReadsValue ts v rest → length rest < length ts
+value_some (number m) = omega (arith, (mask_suffix m).long)
+value_some (dotted m) = omega (arith, (mask_suffix m).long)
+value_some ip6 = omega arith
+value_some ip6_prefix = omega arith
+value_some mac = omega arith
+value_some range = omega arith
+
+pub valued_runs : {ts mid rest : List TokenKind} {q : Qualifiers} {v : Value} → ReadsQualifiers ts q mid → is_written q ≡ true → ReadsValue mid v rest → (fs : List Frame) (d : List Node) → 6 ≤ next_precedence rest → run ts 0 fs None d ≡ run rest 0 fs (Some operand.Truth) (node.Valued q v ∷ d)
+valued_runs {ts = ts} {mid = mid} {rest = rest} {q = q} {v = v} qs w vs fs d h =
+    let value_is = value_back vs h in
+    let qualifiers_are = qualifiers_back qs value_is.1 in
+    let found : valued_of ts ≡ Some (q, v, length ts - length rest - 1) = ap (λ r. value_of r.1 >>= λ x. Some (r.0, x.0, length ts - length x.1 - 1)) qualifiers_are ∙ ap (λ o. o >>= λ x. Some (q, x.0, length ts - length x.1 - 1)) value_is.0 in
+    let begun : begin ts fs d ≡ Some (length ts - length rest - 1, (fs, Some operand.Truth, node.Valued q v ∷ d)) = begin_front ts fs d (front qs w value_is.1) ∙ ap (λ o. with_frames fs (valued_or o ts d)) found in
+    let suffix = whole_suffix qs vs in
+    let front_suffix = qualifiers_suffix qs in
+    let shorter = value_some vs in
+    let some : 0 < length ts = omega (arith, front_suffix.long, shorter) in
+    let index : suc (length ts - length rest - 1) ≡ suffix.used = omega (arith, suffix.long, front_suffix.long, shorter) in
+    run_begins ts fs d _ _ some begun ∙ rw (index, suffix.drops) refl
+
+protocol_sound : (ts : List TokenKind) → ReadsProtocol ts (protocol_of ts).0 (protocol_of ts).1
+protocol_sound (token.Protocol p ∷ ts) = protocol
+protocol_sound _ = no_protocol
+
+direction_sound : (ts : List TokenKind) → ReadsDirection ts (direction_of ts).0 (direction_of ts).1
+direction_sound (token.Side Source ∷ token.Join j ∷ token.Side Destination ∷ ts) = source_first
+direction_sound (token.Side Destination ∷ token.Join j ∷ token.Side Source ∷ ts) = destination_first
+direction_sound (token.Side Source ∷ _) = one_side
+direction_sound (token.Side Destination ∷ _) = one_side
+direction_sound _ = no_direction
+
+type_sound : (ts : List TokenKind) → ReadsType ts (type_of ts).0 (type_of ts).1
+type_sound (token.ValueType k ∷ ts) = of_type
+type_sound _ = no_type
+
+pub qualifiers_sound : (ts : List TokenKind) → ReadsQualifiers ts (qualifiers_of ts).0 (qualifiers_of ts).1
+qualifiers_sound ts = qualifiers (protocol_sound ts) (direction_sound (protocol_of ts).1) (type_sound (direction_of (protocol_of ts).1).1)
+
+value_moved : (ts : List TokenKind) (r s : Value × List TokenKind) → ReadsValue ts r.0 r.1 → ◌≡◌ {A = Option (Value × List TokenKind)} (Some r) (Some s) → ReadsValue ts s.0 s.1
+value_moved ts r s v same =
+    let P : Value × List TokenKind → Type 0 = λ r. ReadsValue ts r.0 r.1 in
+    let one : r ≡ s = cc in
+    subst P one v
+
+mask_sound : (ts : List TokenKind) → ReadsMask ts (mask_of ts).0 (mask_of ts).1
+mask_sound (token.Operator Divide ∷ token.Number m ∷ ts) = prefix
+mask_sound (token.Mask ∷ token.Dotted a p ∷ ts) = dotted_mask
+mask_sound _ = no_mask
+
+pub value_sound : (ts : List TokenKind) (r : Value × List TokenKind) → value_of ts ≡ Some r → ReadsValue ts r.0 r.1
+value_sound (token.Number n ∷ ts) r h = value_moved _ (value.Number n (mask_of ts).0, (mask_of ts).1) r (number (mask_sound ts)) h
+value_sound (token.Dotted a p ∷ ts) r h = value_moved _ (value.Dotted (record { address = a; parts = p }) (mask_of ts).0, (mask_of ts).1) r (dotted (mask_sound ts)) h
+value_sound (token.Ip6 a ∷ token.Operator Divide ∷ token.Number m ∷ ts) r h = value_moved _ (value.Ip6 a (Some m), ts) r ip6_prefix h
+value_sound (token.Ip6 a ∷ ts) r h = value_moved _ (value.Ip6 a None, ts) r ip6 h
+value_sound (token.Mac a ∷ ts) r h = value_moved _ (value.Mac a, ts) r mac h
+value_sound (token.Range a b ∷ ts) r h = value_moved _ (value.Range a b, ts) r range h
+value_sound _ r h = cc
+
+side_some : (s : Side) (ts : List TokenKind) → is_some (direction_of (token.Side s ∷ ts)).0 ≡ true
+side_some Source (token.Join j ∷ token.Side Destination ∷ ts) = refl
+side_some Source _ = refl
+side_some Destination (token.Join j ∷ token.Side Source ∷ ts) = refl
+side_some Destination _ = refl
+
+pub side_written : (s : Side) (ts : List TokenKind) → is_written (qualifiers_of (token.Side s ∷ ts)).0 ≡ true
+side_written s ts = ap (λ b. b || is_some (type_of (direction_of (token.Side s ∷ ts)).1).0) (side_some s ts)
+
+-- what is left of a qualified value
+pub left_behind : (t : TokenKind) (ts mid rest : List TokenKind) (q : Qualifiers) (v : Value) → ReadsQualifiers (t ∷ ts) q mid → ReadsValue mid v rest → drop (length (t ∷ ts) - length rest - 1) ts ≡ rest
+left_behind t ts mid rest q v qs vs =
+    let suffix = whole_suffix qs vs in
+    let front_suffix = qualifiers_suffix qs in
+    let shorter = value_some vs in
+    let index : suc (length (t ∷ ts) - length rest - 1) ≡ suffix.used = omega (arith, suffix.long, front_suffix.long, shorter) in
+    ap (λ k. drop k (t ∷ ts)) index ∙ suffix.drops

@@ -1,0 +1,103 @@
+-- What stands before a value, and the value, are read from the left as far as they go.
+use Rattle.std.proofs.Common.{◌≡◌, ◌≤◌, List, ◌∷◌, refl, arith, lit≤, Option, Some, None, Bool, true}
+use Rattle.flt_words.specs.declared.token.Protocol.{Protocol}
+use Rattle.flt_words.specs.declared.token.Operator.{Operator}
+use Rattle.flt_words.specs.declared.token.Operator.TheVariants as operator
+use Rattle.flt_words.specs.declared.token.Side.{Side}
+use Rattle.flt_words.specs.declared.token.Side.TheVariants.{Source, Destination}
+use Rattle.flt_words.specs.declared.token.ValueType.{ValueType}
+use Rattle.flt_words.specs.declared.token.TokenKind.{TokenKind}
+use Rattle.flt_words.specs.declared.token.TokenKind.TheVariants as token
+use Rattle.flt_tree.specs.declared.qualifiers.Direction.{Direction}
+use Rattle.flt_tree.specs.declared.qualifiers.Direction.TheVariants as direction
+use Rattle.flt_tree.specs.declared.qualifiers.Qualifiers.{Qualifiers}
+use Rattle.flt_tree.specs.declared.value.NetMask.{NetMask}
+use Rattle.flt_tree.specs.declared.value.Value.{Value}
+use Rattle.flt_lang.specs.Values.{ReadsProtocol, no_protocol, protocol, ReadsDirection, no_direction, one_side, source_first, destination_first, ReadsType, no_type, of_type, ReadsQualifiers, qualifiers, ReadsMask, no_mask, prefix, dotted_mask, ReadsValue, number, dotted, ip6, ip6_prefix, mac, range, starts_value, protocol_of, direction_of, type_of, qualifiers_of, mask_of, value_of}
+use Rattle.flt_lang.specs.Grammar.{level}
+use Rattle.flt_lang.specs.Parser.{next_precedence}
+
+pub level_small : (o : Operator) → level o ≤ 3
+level_small operator.Multiply = lit≤ tt
+level_small operator.Divide = lit≤ tt
+level_small operator.Remainder = lit≤ tt
+level_small operator.ExclusiveOr = lit≤ tt
+level_small operator.Add = lit≤ tt
+level_small operator.Subtract = lit≤ tt
+level_small operator.ShiftLeft = lit≤ tt
+level_small operator.ShiftRight = lit≤ tt
+level_small operator.Or = lit≤ tt
+level_small operator.And = lit≤ tt
+
+-- a value begins here, or first a type, or first a direction
+abbrev pub ends_direction : List TokenKind → Bool
+ends_direction (token.ValueType k ∷ ts) = true
+ends_direction ts = starts_value ts
+
+abbrev pub ends_protocol : List TokenKind → Bool
+ends_protocol (token.Side s ∷ ts) = true
+ends_protocol ts = ends_direction ts
+
+-- where a value begins stands none of what may come before it
+type_none : (ts : List TokenKind) → starts_value ts ≡ true → type_of ts ≡ (None, ts)
+type_none (token.ValueType k ∷ ts) h = cc
+type_none _ h = refl
+
+value_ends_direction : (ts : List TokenKind) → starts_value ts ≡ true → ends_direction ts ≡ true
+value_ends_direction (token.ValueType k ∷ ts) h = refl
+value_ends_direction _ h = h
+
+direction_none : (ts : List TokenKind) → ends_direction ts ≡ true → direction_of ts ≡ (None, ts)
+direction_none (token.Side s ∷ ts) h = cc
+direction_none _ h = refl
+
+direction_ends_protocol : (ts : List TokenKind) → ends_direction ts ≡ true → ends_protocol ts ≡ true
+direction_ends_protocol (token.Side s ∷ ts) h = refl
+direction_ends_protocol _ h = h
+
+side_alone : (s : Side) (ts : List TokenKind) → ends_direction ts ≡ true → direction_of (token.Side s ∷ ts) ≡ (Some (direction.One s), ts)
+side_alone Source (token.Join j ∷ ts) h = cc
+side_alone Source _ h = refl
+side_alone Destination (token.Join j ∷ ts) h = cc
+side_alone Destination _ h = refl
+
+protocol_none : (ts : List TokenKind) → ends_protocol ts ≡ true → protocol_of ts ≡ (None, ts)
+protocol_none (token.Protocol p ∷ ts) h = cc
+protocol_none _ h = refl
+
+pub type_back : {ts rest : List TokenKind} {k : Option ValueType} → ReadsType ts k rest → starts_value rest ≡ true → (type_of ts ≡ (k, rest)) × (ends_direction ts ≡ true)
+type_back (no_type {ts = ts}) h = (type_none ts h, value_ends_direction ts h)
+type_back of_type h = (refl, refl)
+
+pub direction_back : {ts rest : List TokenKind} {d : Option Direction} → ReadsDirection ts d rest → ends_direction rest ≡ true → (direction_of ts ≡ (d, rest)) × (ends_protocol ts ≡ true)
+direction_back (no_direction {ts = ts}) h = (direction_none ts h, direction_ends_protocol ts h)
+direction_back (one_side {s = s} {ts = ts}) h = (side_alone s ts h, refl)
+direction_back source_first h = (refl, refl)
+direction_back destination_first h = (refl, refl)
+
+protocol_back : {ts rest : List TokenKind} {p : Option Protocol} → ReadsProtocol ts p rest → ends_protocol rest ≡ true → protocol_of ts ≡ (p, rest)
+protocol_back (no_protocol {ts = ts}) h = protocol_none ts h
+protocol_back protocol h = refl
+
+pub qualifiers_back : {ts rest : List TokenKind} {q : Qualifiers} → ReadsQualifiers ts q rest → starts_value rest ≡ true → qualifiers_of ts ≡ (q, rest)
+qualifiers_back (qualifiers p d k) h =
+    let t = type_back k h in
+    let e = direction_back d t.1 in
+    let f = protocol_back p e.1 in
+    rw (f, e.0, t.0) refl
+
+mask_back : {ts rest : List TokenKind} {m : NetMask} → ReadsMask ts m rest → 6 ≤ next_precedence rest → mask_of ts ≡ (m, rest)
+mask_back (no_mask {ts = token.Operator o ∷ ts}) h = absurd (omega (arith, level_small o))
+mask_back (no_mask {ts = token.Mask ∷ ts}) h = absurd (omega arith)
+mask_back (no_mask {ts = _}) h = refl
+mask_back prefix h = refl
+mask_back dotted_mask h = refl
+
+pub value_back : {ts rest : List TokenKind} {v : Value} → ReadsValue ts v rest → 6 ≤ next_precedence rest → (value_of ts ≡ Some (v, rest)) × (starts_value ts ≡ true)
+value_back (number m) h = (rw (mask_back m h) refl, refl)
+value_back (dotted m) h = (rw (mask_back m h) refl, refl)
+value_back (ip6 {rest = token.Operator o ∷ ts}) h = absurd (omega (arith, level_small o))
+value_back (ip6 {rest = _}) h = (refl, refl)
+value_back ip6_prefix h = (refl, refl)
+value_back mac h = (refl, refl)
+value_back range h = (refl, refl)

@@ -1,0 +1,133 @@
+//! What the parser keeps: frames that wait for an operand, and the operand that was just read.
+//! Three precedences rule it, of which the greater binds more loosely: that of a frame, that of the
+//! next token, and that of the loosest operand which the latest frame takes.
+
+ghost use Rattle.std.specs.Prelude.{◌≡◌, reverse};
+ghost use Rattle.flt_lang.specs.Grammar.{level};
+ghost use Rattle.flt_lang.specs.Parser.{precedence, operand_precedence, token_precedence};
+ghost use Rattle.flt_lang.specs.Parser.{enclosed_operand};
+ghost use Rattle.flt_lang.specs.Parser.{sort_of, node_of};
+
+use flt_tree::Node;
+use flt_words::{Comparison, Join, Operator, Protocol, TokenKind};
+
+/// What waits for an operand on its right, or for its closing token.
+#[derive(Clone, Copy)]
+pub enum Frame {
+    Negate,
+    Apply(Operator),
+    Compare(Comparison),
+    Not,
+    Join(Join),
+    Open,
+    Load(Protocol),
+}
+
+/// An operand that was just read. The nodes of a truth and of a number are written. The others may
+/// still become either: a plain number, which may also begin a longer value, and a number
+/// in parentheses or with the length of a prefix behind it.
+#[derive(Clone, Copy)]
+pub enum Operand {
+    Truth,
+    Number,
+    Plain(u32),
+    Either(u32, Option<u32>),
+}
+
+/// The two sorts of operands.
+#[derive(Clone, Copy)]
+pub enum Sort {
+    Truth,
+    Number,
+}
+
+impl Operand {
+    /// The operand in parentheses.
+    pub fn enclosed(self) -> Operand
+        ensures { result ≡ enclosed_operand self }
+    {
+        match self {
+            Operand::Plain(number) => Operand::Either(number, None),
+            _ => self,
+        }
+    }
+}
+
+impl Frame {
+    /// How loosely it binds its operand: 0 is the tightest.
+    pub fn precedence(self) -> u8
+        ensures { result ≡ precedence self }
+    {
+        match self {
+            Frame::Negate => 0,
+            Frame::Apply(operator) => level(operator) + 1,
+            Frame::Compare(_) => 5,
+            Frame::Not => 6,
+            Frame::Join(_) => 7,
+            Frame::Open | Frame::Load(_) => 9,
+        }
+    }
+
+    /// The sort of its operands.
+    pub fn sort(self) -> Sort
+        ensures { result ≡ sort_of self }
+    {
+        match self {
+            Frame::Negate | Frame::Apply(_) | Frame::Compare(_) | Frame::Load(_) => Sort::Number,
+            Frame::Not | Frame::Join(_) | Frame::Open => Sort::Truth,
+        }
+    }
+
+    /// Its node, and what that makes of its operands. A parenthesis and an accessor have none here:
+    /// a token closes them.
+    pub fn node(self) -> Option<(Node, Operand)>
+        ensures { result ≡ node_of self }
+    {
+        match self {
+            Frame::Negate => Some((Node::Negate, Operand::Number)),
+            Frame::Apply(operator) => Some((Node::Apply(operator), Operand::Number)),
+            Frame::Compare(comparison) => Some((Node::Compare(comparison), Operand::Truth)),
+            Frame::Not => Some((Node::Not, Operand::Truth)),
+            Frame::Join(join) => Some((Node::Join(join), Operand::Truth)),
+            Frame::Open | Frame::Load(_) => None,
+        }
+    }
+}
+
+/// The level of an operator: its chains are of operands of this level.
+pub fn level(operator: Operator) -> u8
+    ensures { result ≡ level operator }
+{
+    match operator {
+        Operator::Multiply | Operator::Divide | Operator::Remainder => 0,
+        Operator::Add | Operator::Subtract => 1,
+        Operator::ShiftLeft | Operator::ShiftRight => 2,
+        Operator::Or | Operator::And | Operator::ExclusiveOr => 3,
+    }
+}
+
+/// How loosely a token binds the operand before it.
+pub fn token_precedence(token: TokenKind) -> u8
+    ensures { result ≡ token_precedence token }
+{
+    match token {
+        TokenKind::Operator(operator) => level(operator) + 1,
+        TokenKind::Comparison(_) => 5,
+        TokenKind::Join(_) => 7,
+        TokenKind::Close | TokenKind::CloseBracket | TokenKind::Colon => 8,
+        _ => 1,
+    }
+}
+
+/// The loosest operand that the latest frame takes.
+pub fn operand_precedence(frames: &[Frame]) -> u8
+    ensures { result ≡ operand_precedence (reverse frames.now) }
+{
+    match frames.last() {
+        None | Some(Frame::Open) => 7,
+        Some(Frame::Negate) => 0,
+        Some(Frame::Apply(operator)) => level(*operator),
+        Some(Frame::Compare(_)) | Some(Frame::Load(_)) => 4,
+        Some(Frame::Not) | Some(Frame::Join(_)) => 6,
+    }
+}

@@ -1,0 +1,71 @@
+//! How deep tokens nest.
+
+ghost use Rattle.std.specs.Prelude.{◌≡◌, ◌↔◌, IsTrue};
+ghost use Rattle.flt_lang.specs.Nesting.{is_opening, is_closing, is_prefix, HasDeepFront};
+ghost use Rattle.flt_lang.specs.Nesting.{HasLongPrefix, IsTooDeep};
+
+use flt_words::{Operator, Token, TokenKind};
+
+/// Whether some prefix of the tokens has over 100 more `(` and `[` than `)` and `]`, or over 100
+/// tokens `not` and `-` follow one another.
+pub fn is_nested_too_deep(tokens: &[Token]) -> bool
+    ensures { IsTrue result ↔ IsTooDeep tokens.now }
+{
+    has_deep_front(tokens) || has_long_prefix(tokens)
+}
+
+#[tactic(auto, unfolding(crate::specs::Nesting::is_opening))]
+fn opens(token: &Token) -> bool
+    ensures { result ≡ is_opening token.now }
+{
+    matches!(token.kind, TokenKind::Open | TokenKind::OpenBracket)
+}
+
+#[tactic(auto, unfolding(crate::specs::Nesting::is_closing))]
+fn closes(token: &Token) -> bool
+    ensures { result ≡ is_closing token.now }
+{
+    matches!(token.kind, TokenKind::Close | TokenKind::CloseBracket)
+}
+
+#[tactic(auto, unfolding(crate::specs::Nesting::is_prefix))]
+fn is_prefix(token: &Token) -> bool
+    ensures { result ≡ is_prefix token.now }
+{
+    matches!(
+        token.kind,
+        TokenKind::Not | TokenKind::Operator(Operator::Subtract)
+    )
+}
+
+fn has_deep_front(tokens: &[Token]) -> bool
+    ensures { IsTrue result ↔ HasDeepFront tokens.now }
+{
+    let mut opened: usize = 0;
+    let mut closed: usize = 0;
+    for token in tokens {
+        if opens(token) {
+            opened += 1;
+        }
+        if closes(token) {
+            closed += 1;
+        }
+        if opened > closed.saturating_add(100) {
+            return true;
+        }
+    }
+    false
+}
+
+fn has_long_prefix(tokens: &[Token]) -> bool
+    ensures { IsTrue result ↔ HasLongPrefix tokens.now }
+{
+    let mut run: usize = 0;
+    for token in tokens {
+        run = if is_prefix(token) { run + 1 } else { 0 };
+        if run > 100 {
+            return true;
+        }
+    }
+    false
+}

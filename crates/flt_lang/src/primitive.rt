@@ -1,0 +1,176 @@
+//! Values and what stands before them. Each reader takes as many tokens as it can, and says how
+//! many.
+
+ghost use Rattle.std.specs.Prelude.{◌≡◌, ◌∷◌, List, IsTrue, IfSome, IfNone};
+ghost use Rattle.std.specs.Prelude.{Some, None, length, slice_get, drop, ◌<◌, ◌≤◌};
+ghost use Rattle.flt_words.specs.declared.token.TokenKind.{TokenKind};
+ghost use Rattle.flt_tree.specs.declared.qualifiers.Qualifiers.{Qualifiers};
+ghost use Rattle.flt_lang.specs.Grammar.{kinds_of};
+ghost use Rattle.flt_lang.specs.Values.{qualifiers_of, protocol_of, direction_of, type_of};
+ghost use Rattle.flt_lang.specs.Values.{is_opposite, both_of};
+ghost use Rattle.flt_lang.specs.Values.{mask_of, prefix_of, value_of};
+ghost use Rattle.flt_lang.specs.Parser.{valued_of};
+
+use flt_tree::{Direction, Dotted, NetMask, Qualifiers, Value};
+use flt_words::{Join, Operator, Protocol, Side, Token, TokenKind, ValueType};
+
+/// The kind of the token at an index, if there is one.
+pub fn kind_at(tokens: &[Token], index: usize) -> Option<TokenKind>
+    ensures { result ≡ slice_get (kinds_of tokens.now) index }
+{
+    Some(tokens.get(index)?.kind)
+}
+
+fn read_protocol(tokens: &[Token]) -> (Option<Protocol>, usize)
+    ensures value { result.0 ≡ (protocol_of (kinds_of tokens.now)).0 }
+    ensures rest { kinds_of (drop result.1 tokens.now) ≡ (protocol_of (kinds_of tokens.now)).1 }
+    ensures within { result.1 ≤ length tokens.now }
+{
+    match kind_at(tokens, 0) {
+        Some(TokenKind::Protocol(protocol)) => (Some(protocol), 1),
+        _ => (None, 0),
+    }
+}
+
+fn is_opposite(first: Side, second: Side) -> bool
+    ensures { result ≡ is_opposite first second }
+{
+    matches!(
+        (first, second),
+        (Side::Source, Side::Destination) | (Side::Destination, Side::Source)
+    )
+}
+
+/// The join of both sides.
+fn read_both(tokens: &[Token]) -> Option<Join>
+    ensures value { result ≡ both_of (kinds_of tokens.now) }
+    ensures within { IfSome result (λ _. 2 < length tokens.now) }
+{
+    match (kind_at(tokens, 0), kind_at(tokens, 1), kind_at(tokens, 2)) {
+        (Some(TokenKind::Side(first)), Some(TokenKind::Join(join)), Some(TokenKind::Side(second)))
+            if is_opposite(first, second) => Some(join),
+        _ => None,
+    }
+}
+
+fn read_direction(tokens: &[Token]) -> (Option<Direction>, usize)
+    ensures value { result.0 ≡ (direction_of (kinds_of tokens.now)).0 }
+    ensures rest { kinds_of (drop result.1 tokens.now) ≡ (direction_of (kinds_of tokens.now)).1 }
+    ensures within { result.1 ≤ length tokens.now }
+{
+    if let Some(join) = read_both(tokens) {
+        return (Some(Direction::Both(join)), 3);
+    }
+    match kind_at(tokens, 0) {
+        Some(TokenKind::Side(side)) => (Some(Direction::One(side)), 1),
+        _ => (None, 0),
+    }
+}
+
+fn read_type(tokens: &[Token]) -> (Option<ValueType>, usize)
+    ensures value { result.0 ≡ (type_of (kinds_of tokens.now)).0 }
+    ensures rest { kinds_of (drop result.1 tokens.now) ≡ (type_of (kinds_of tokens.now)).1 }
+    ensures within { result.1 ≤ length tokens.now }
+{
+    match kind_at(tokens, 0) {
+        Some(TokenKind::ValueType(value_type)) => (Some(value_type), 1),
+        _ => (None, 0),
+    }
+}
+
+fn read_qualifiers(tokens: &[Token]) -> (Qualifiers, usize)
+    ensures qualifiers { result.0 ≡ (qualifiers_of (kinds_of tokens.now)).0 }
+    ensures rest { kinds_of (drop result.1 tokens.now) ≡ (qualifiers_of (kinds_of tokens.now)).1 }
+    ensures within { result.1 ≤ length tokens.now }
+{
+    let (protocol, a) = read_protocol(tokens);
+    let (direction, b) = read_direction(&tokens[a..]);
+    let (value_type, c) = read_type(&tokens[a + b..]);
+    let qualifiers = Qualifiers {
+        protocol,
+        direction,
+        value_type,
+    };
+    (qualifiers, a + b + c)
+}
+
+fn read_mask(tokens: &[Token]) -> (NetMask, usize)
+    ensures value { result.0 ≡ (mask_of (kinds_of tokens.now)).0 }
+    ensures rest { kinds_of (drop result.1 tokens.now) ≡ (mask_of (kinds_of tokens.now)).1 }
+    ensures within { result.1 ≤ length tokens.now }
+{
+    match (kind_at(tokens, 0), kind_at(tokens, 1)) {
+        (Some(TokenKind::Operator(Operator::Divide)), Some(TokenKind::Number(len))) => {
+            (NetMask::Prefix(len), 2)
+        }
+        (Some(TokenKind::Mask), Some(TokenKind::Dotted { address, parts })) => {
+            (NetMask::Mask(Dotted { address, parts }), 2)
+        }
+        _ => (NetMask::Unwritten, 0),
+    }
+}
+
+fn read_prefix(tokens: &[Token]) -> (Option<u32>, usize)
+    ensures value { result.0 ≡ (prefix_of (kinds_of tokens.now)).0 }
+    ensures rest { kinds_of (drop result.1 tokens.now) ≡ (prefix_of (kinds_of tokens.now)).1 }
+    ensures within { result.1 ≤ length tokens.now }
+{
+    match (kind_at(tokens, 0), kind_at(tokens, 1)) {
+        (Some(TokenKind::Operator(Operator::Divide)), Some(TokenKind::Number(len))) => {
+            (Some(len), 2)
+        }
+        _ => (None, 0),
+    }
+}
+
+/// The value that begins with a token, with the mask behind it, and how many more tokens it takes.
+fn value_at(first: TokenKind, rest: &[Token]) -> Option<(Value, usize)>
+    ensures some { IfSome result (λ r.
+        value_of (first ∷ kinds_of rest.now) ≡ Some (r.0, kinds_of (drop r.1 rest.now))) }
+    ensures within { IfSome result (λ r. r.1 ≤ length rest.now) }
+    ensures none { IfNone result (value_of (first ∷ kinds_of rest.now) ≡ None) }
+{
+    match first {
+        TokenKind::Ip6(address) => {
+            let (prefix, used) = read_prefix(rest);
+            Some((Value::Ip6(address, prefix), used))
+        }
+        TokenKind::Number(number) => {
+            let (mask, used) = read_mask(rest);
+            Some((Value::Number(number, mask), used))
+        }
+        TokenKind::Dotted { address, parts } => {
+            let (mask, used) = read_mask(rest);
+            Some((Value::Dotted(Dotted { address, parts }, mask), used))
+        }
+        TokenKind::Mac(address) => Some((Value::Mac(address), 0)),
+        TokenKind::Range { first, last } => Some((Value::Range { first, last }, 0)),
+        _ => None,
+    }
+}
+
+/// A value, with the mask behind it, and how many tokens it takes.
+#[tactic(auto, using(crate::proofs::Fronts::value_found, crate::proofs::Fronts::no_value_found))]
+pub fn read_value(tokens: &[Token]) -> Option<(Value, usize)>
+    ensures some { IfSome result (λ r.
+        value_of (kinds_of tokens.now) ≡ Some (r.0, kinds_of (drop r.1 tokens.now))) }
+    ensures used { IfSome result (λ r. 0 < r.1) }
+    ensures within { IfSome result (λ r. r.1 ≤ length tokens.now) }
+    ensures none { IfNone result (value_of (kinds_of tokens.now) ≡ None) }
+{
+    let [first, rest @ ..] = tokens else {
+        return None;
+    };
+    let (value, more) = value_at(first.kind, rest)?;
+    Some((value, 1 + more))
+}
+
+/// A value with what stands before it, and how many tokens more than one they are.
+pub fn read_valued(tokens: &[Token]) -> Option<(Qualifiers, Value, usize)>
+    ensures value { result ≡ valued_of (kinds_of tokens.now) }
+    ensures within { IfSome result (λ r. r.2 < length tokens.now) }
+{
+    let (qualifiers, used) = read_qualifiers(tokens);
+    let (value, more) = read_value(&tokens[used..])?;
+    Some((qualifiers, value, used + more - 1))
+}

@@ -1,0 +1,49 @@
+//! Where a protocol may stand.
+
+ghost use Rattle.std.specs.Prelude.{◌≡◌, ◌⊎◌, ◌<◌, length};
+ghost use Rattle.flt_lang.specs.Grammar.{is_check, is_accessor, has_casts, kinds_of};
+ghost use Rattle.flt_lang.specs.Parser.{opening_of};
+
+use crate::primitive::kind_at;
+use flt_words::{Cast, Protocol, Token, TokenKind};
+
+/// What the token behind a protocol makes of it.
+#[derive(Clone, Copy)]
+pub enum Opening {
+    Bracket,
+    Cast(Cast),
+    Other,
+}
+
+/// Looks at the second of the tokens.
+pub fn read_opening(tokens: &[Token]) -> Opening
+    ensures value { result ≡ opening_of (kinds_of tokens.now) }
+    ensures within { (result ≡ Opening.Other) ⊎ (1 < length tokens.now) }
+{
+    match kind_at(tokens, 1) {
+        Some(TokenKind::OpenBracket) => Opening::Bracket,
+        Some(TokenKind::Cast(cast)) => Opening::Cast(cast),
+        _ => Opening::Other,
+    }
+}
+
+/// Alone.
+pub fn is_check(protocol: Protocol) -> bool
+    ensures { result ≡ is_check protocol }
+{
+    !matches!(protocol, Protocol::Ether)
+}
+
+/// Before a bracket.
+pub fn is_accessor(protocol: Protocol) -> bool
+    ensures { result ≡ is_accessor protocol }
+{
+    !matches!(protocol, Protocol::Icmp6)
+}
+
+/// Before `broadcast` or `multicast`.
+pub fn has_casts(protocol: Protocol) -> bool
+    ensures { result ≡ has_casts protocol }
+{
+    matches!(protocol, Protocol::Ether | Protocol::Ip | Protocol::Ip6)
+}

@@ -1,0 +1,607 @@
+//! The parser's state and its steps. It reads the tokens once, by operator precedence with one
+//! stack of frames, and decides late which sort an operand is of.
+
+ghost use Rattle.std.specs.Prelude.{◌≡◌, ◌≤◌, ◌<◌, ◌∷◌, [], IfErr, IfNone, IfOk, IfSome};
+ghost use Rattle.std.specs.Prelude.{MatchOption, OnOk, length, reverse, List, Some, None, Err};
+ghost use Rattle.std.specs.Prelude.{drop};
+ghost use Rattle.flt_lang.specs.Parser.{IsLoose, precedence, operand_precedence, begin_at};
+ghost use Rattle.flt_lang.specs.Parser.{protocol_begins, opening_of, number_primitive, sized_of};
+ghost use Rattle.flt_lang.specs.Parser.{primitive, bare_of, one_node, with_frames, IsReadFault};
+ghost use Rattle.flt_lang.specs.Parser.{as_number, as_truth, as_sort, prefix_mask, fill, reduce};
+ghost use Rattle.flt_lang.specs.Parser.{after_operator, after_load, accessor_size, after_close};
+ghost use Rattle.flt_lang.specs.Parser.{after_token_at, prefix_len, after_operand, run, finish};
+ghost use Rattle.flt_lang.specs.Parser.{all_run};
+ghost use Rattle.flt_tree.specs.Nodes.{IsTree, tree_of};
+ghost use Rattle.flt_words.specs.declared.token.TokenKind.{TokenKind};
+ghost use Rattle.flt_tree.specs.declared.node.Node.{Node};
+ghost use Rattle.flt_lang.specs.Grammar.{kinds_of};
+
+use crate::frame::{Frame, Operand, Sort, operand_precedence, token_precedence};
+use crate::primitive::{kind_at, read_value, read_valued};
+use crate::protocols::{Opening, has_casts, is_accessor, is_check, read_opening};
+use flt_tree::{Expr, NetMask, Node, Value};
+use flt_words::{ExprFault, Operator, Protocol, Token, TokenKind};
+use std::alloc::{AllocError, Allocator};
+use std::marker::Model;
+
+/// What waits, and the nodes of what is read so far.
+#[derive(Drop)]
+pub struct Reader<A: Allocator> {
+    /// What waits for an operand or for its closing token.
+    frames: Vec<Frame, A>,
+    /// The nodes, operands first.
+    nodes: Vec<Node, A>,
+}
+
+/// Both lists are seen latest first.
+impl<A: Allocator> Model for Reader<A> {
+    ghost use Rattle.std.specs.Prelude.{reverse};
+    ghost use Rattle.flt_lang.specs.Parser.{ReaderState};
+
+    ghost Value = { ReaderState };
+
+    ghost view = { λ r. record {
+      frames = reverse r.frames.items;
+      nodes = reverse r.nodes.items;
+    } };
+}
+
+impl<A: Allocator> Reader<A> {
+    /// Nothing is read yet.
+    pub fn new(alloc: A) -> Result<Self, AllocError>
+    where
+        A: Clone,
+        ensures frames { IfOk result (λ reader. reader.frames ≡ []) }
+        ensures nodes { IfOk result (λ reader. reader.nodes ≡ []) }
+    {
+        Ok(Reader {
+            frames: Vec::new(alloc.clone()?),
+            nodes: Vec::new(alloc),
+        })
+    }
+
+    /// Adds a node.
+    fn write(&mut self, node: Node) -> Result<(), ExprFault>
+        ensures nodes { OnOk result (self.new.nodes ≡ node ∷ self.old.nodes) }
+        ensures frames { OnOk result (self.new.frames ≡ self.old.frames) }
+        ensures err { IfErr result (λ fault. fault ≡ ExprFault.Memory) }
+    {
+        self.nodes.push(node)?;
+        Ok(())
+    }
+
+    /// Adds a frame, which waits from now on.
+    fn wait(&mut self, frame: Frame) -> Result<(), ExprFault>
+        ensures frames { OnOk result (self.new.frames ≡ frame ∷ self.old.frames) }
+        ensures nodes { OnOk result (self.new.nodes ≡ self.old.nodes) }
+        ensures err { IfErr result (λ fault. fault ≡ ExprFault.Memory) }
+    {
+        self.frames.push(frame)?;
+        Ok(())
+    }
+
+    /// The loosest operand that the latest frame takes.
+    fn operand_precedence(&self) -> u8
+        ensures { result ≡ operand_precedence self.now.frames }
+    {
+        operand_precedence(&self.frames)
+    }
+
+    /// Takes the latest frame off.
+    fn pop(&mut self) -> Option<Frame>
+        ensures frames { MatchOption result (self.old.frames ≡ [])
+            (λ f. self.old.frames ≡ f ∷ self.new.frames) }
+        ensures nodes { self.new.nodes ≡ self.old.nodes }
+    {
+        self.frames.pop()
+    }
+
+    /// Takes the latest frame off if it binds at least as tightly as `limit`.
+    fn pop_tight(&mut self, limit: u8) -> Option<Frame>
+        ensures some { IfSome result (λ f. self.old.frames ≡ f ∷ self.new.frames) }
+        ensures tight { IfSome result (λ f. precedence f ≤ limit) }
+        ensures kept { IfNone result (self.new.frames ≡ self.old.frames) }
+        ensures stays { IfNone result (IsLoose limit self.old.frames) }
+        ensures nodes { self.new.nodes ≡ self.old.nodes }
+    {
+        match self.frames.last() {
+            Some(frame) if frame.precedence() <= limit => self.frames.pop(),
+            _ => None,
+        }
+    }
+
+    /// The expression of the nodes.
+    pub fn into_expr(self) -> Expr<A>
+        requires { IsTree (reverse self.nodes) }
+        ensures { result ≡ tree_of (reverse self.nodes) }
+    {
+        let Reader { nodes, .. } = self;
+        Expr { nodes }
+    }
+
+    // ---- where an operand begins
+
+    /// Reads the tokens where an operand begins, `first` among them: how many more than one are
+    /// used up, and the operand, if that is all of it.
+    fn begin(
+        &mut self,
+        first: TokenKind,
+        tokens: &[Token],
+    ) -> Result<(usize, Option<Operand>), ExprFault>
+        requires { 0 < length tokens.now }
+        ensures ok { IfOk result (λ r.
+            begin_at first (kinds_of tokens.now) self.old.frames self.old.nodes
+            ≡ Some (r.0, (self.new.frames, r.1, self.new.nodes))) }
+        ensures within { IfOk result (λ r. r.0 < length tokens.now) }
+        ensures none { result ≡ Err ExprFault.NotAnExpression
+            → begin_at first (kinds_of tokens.now) self.old.frames self.old.nodes ≡ None }
+        ensures err { IfErr result IsReadFault }
+    {
+        match first {
+            TokenKind::Protocol(protocol) => self.begin_protocol(protocol, tokens),
+            TokenKind::Side(_) | TokenKind::ValueType(_) => self.put_truth(read_primitive(tokens)),
+            TokenKind::Cast(cast) => self.put_truth(Some((Node::Cast(None, cast), 0))),
+            TokenKind::Size(_) => self.put_truth(read_sized(tokens)),
+            TokenKind::Number(_) => self.begin_number(tokens),
+            TokenKind::Dotted { .. }
+            | TokenKind::Ip6(_)
+            | TokenKind::Mac(_)
+            | TokenKind::Range { .. } => self.put_truth(read_bare(tokens)),
+            TokenKind::Len => self.put_number(Node::Len),
+            TokenKind::Name(number) => self.put_number(Node::Named(number)),
+            TokenKind::Not if self.operand_precedence() >= 6 => self.shift_prefix(Frame::Not),
+            TokenKind::Operator(Operator::Subtract) => self.shift_prefix(Frame::Negate),
+            TokenKind::Open => self.shift_prefix(Frame::Open),
+            _ => Err(ExprFault::NotAnExpression),
+        }
+    }
+
+    /// A frame waits for an operand.
+    fn shift_prefix(&mut self, frame: Frame) -> Result<(usize, Option<Operand>), ExprFault>
+        ensures ok { IfOk result (λ r. r ≡ (0, None)) }
+        ensures frames { IfOk result (λ _. self.new.frames ≡ frame ∷ self.old.frames) }
+        ensures nodes { IfOk result (λ _. self.new.nodes ≡ self.old.nodes) }
+        ensures err { IfErr result (λ fault. fault ≡ ExprFault.Memory) }
+    {
+        self.wait(frame)?;
+        Ok((0, None))
+    }
+
+    /// A number is one node.
+    fn put_number(&mut self, node: Node) -> Result<(usize, Option<Operand>), ExprFault>
+        ensures ok { IfOk result (λ r. r ≡ (0, Some Operand.Number)) }
+        ensures frames { IfOk result (λ _. self.new.frames ≡ self.old.frames) }
+        ensures nodes { IfOk result (λ _. self.new.nodes ≡ node ∷ self.old.nodes) }
+        ensures err { IfErr result (λ fault. fault ≡ ExprFault.Memory) }
+    {
+        self.write(node)?;
+        Ok((0, Some(Operand::Number)))
+    }
+
+    /// A truth is one node, if there is one.
+    fn put_truth(
+        &mut self,
+        read: Option<(Node, usize)>,
+    ) -> Result<(usize, Option<Operand>), ExprFault>
+        ensures ok { IfOk result (λ r. with_frames self.old.frames (one_node self.old.nodes read)
+            ≡ Some (r.0, (self.new.frames, r.1, self.new.nodes))) }
+        ensures used { IfOk result (λ r. IfSome read (λ node. r.0 ≡ node.1)) }
+        ensures none { result ≡ Err ExprFault.NotAnExpression
+            → with_frames self.old.frames (one_node self.old.nodes read) ≡ None }
+        ensures err { IfErr result IsReadFault }
+    {
+        let Some((node, more)) = read else {
+            return Err(ExprFault::NotAnExpression);
+        };
+        self.write(node)?;
+        Ok((more, Some(Operand::Truth)))
+    }
+
+    /// Reads an accessor up to its bracket, a cast, or another primitive that has a protocol first.
+    fn begin_protocol(
+        &mut self,
+        protocol: Protocol,
+        tokens: &[Token],
+    ) -> Result<(usize, Option<Operand>), ExprFault>
+        ensures ok { IfOk result (λ r. protocol_begins protocol
+            (opening_of (kinds_of tokens.now)) (kinds_of tokens.now)
+            self.old.frames self.old.nodes
+            ≡ Some (r.0, (self.new.frames, r.1, self.new.nodes))) }
+        ensures within { IfOk result (λ r. r.0 < length tokens.now) }
+        ensures none { result ≡ Err ExprFault.NotAnExpression
+            → protocol_begins protocol (opening_of (kinds_of tokens.now)) (kinds_of tokens.now)
+            self.old.frames self.old.nodes ≡ None }
+        ensures err { IfErr result IsReadFault }
+    {
+        match read_opening(tokens) {
+            Opening::Bracket if is_accessor(protocol) => {
+                self.wait(Frame::Load(protocol))?;
+                Ok((1, None))
+            }
+            Opening::Cast(cast) if has_casts(protocol) => {
+                self.put_truth(Some((Node::Cast(Some(protocol), cast), 1)))
+            }
+            Opening::Other => self.put_truth(read_primitive(tokens)),
+            _ => Err(ExprFault::NotAnExpression),
+        }
+    }
+
+    /// Reads a number, or a network's number with its mask.
+    fn begin_number(&mut self, tokens: &[Token]) -> Result<(usize, Option<Operand>), ExprFault>
+        ensures ok { IfOk result (λ r.
+            with_frames self.old.frames (number_primitive (kinds_of tokens.now) self.old.nodes)
+            ≡ Some (r.0, (self.new.frames, r.1, self.new.nodes))) }
+        ensures within { IfOk result (λ r. r.0 < length tokens.now) }
+        ensures none { result ≡ Err ExprFault.NotAnExpression
+            → with_frames self.old.frames (number_primitive (kinds_of tokens.now) self.old.nodes)
+            ≡ None }
+        ensures err { IfErr result IsReadFault }
+    {
+        match (kind_at(tokens, 0), kind_at(tokens, 1), kind_at(tokens, 2)) {
+            (Some(TokenKind::Number(_)), Some(TokenKind::Mask), Some(TokenKind::Dotted { .. })) =>
+                self.put_truth(read_bare(tokens)),
+            (Some(TokenKind::Number(number)), _, _) => Ok((0, Some(Operand::Plain(number)))),
+            _ => Err(ExprFault::NotAnExpression),
+        }
+    }
+
+    // ---- behind an operand
+
+    /// Takes the operand for a number.
+    fn write_number(&mut self, operand: Operand) -> Result<(), ExprFault>
+        ensures ok { OnOk result (as_number operand self.old.nodes ≡ Some self.new.nodes) }
+        ensures frames { OnOk result (self.new.frames ≡ self.old.frames) }
+        ensures none { result ≡ Err ExprFault.NotAnExpression
+            → as_number operand self.old.nodes ≡ None }
+        ensures err { IfErr result IsReadFault }
+    {
+        match operand {
+            Operand::Number => Ok(()),
+            Operand::Plain(number) | Operand::Either(number, None) => {
+                self.write(Node::Literal(number))
+            }
+            Operand::Either(number, Some(len)) => {
+                self.write(Node::Literal(number))?;
+                self.write(Node::Literal(len))?;
+                self.write(Node::Apply(Operator::Divide))
+            }
+            Operand::Truth => Err(ExprFault::NotAnExpression),
+        }
+    }
+
+    /// Takes the operand for a truth.
+    fn write_truth(&mut self, operand: Operand) -> Result<(), ExprFault>
+        ensures ok { OnOk result (as_truth operand self.old.nodes ≡ Some self.new.nodes) }
+        ensures frames { OnOk result (self.new.frames ≡ self.old.frames) }
+        ensures none { result ≡ Err ExprFault.NotAnExpression
+            → as_truth operand self.old.nodes ≡ None }
+        ensures err { IfErr result IsReadFault }
+    {
+        match operand {
+            Operand::Truth => Ok(()),
+            Operand::Plain(number) => {
+                self.write(Node::Bare(Value::Number(number, NetMask::Unwritten)))
+            }
+            Operand::Either(number, len) => {
+                self.write(Node::Bare(Value::Number(number, prefix_mask(len))))
+            }
+            Operand::Number => Err(ExprFault::NotAnExpression),
+        }
+    }
+
+    /// Takes the operand for one of a sort.
+    fn write_operand(&mut self, sort: Sort, operand: Operand) -> Result<(), ExprFault>
+        ensures ok { OnOk result (as_sort sort operand self.old.nodes ≡ Some self.new.nodes) }
+        ensures frames { OnOk result (self.new.frames ≡ self.old.frames) }
+        ensures none { result ≡ Err ExprFault.NotAnExpression
+            → as_sort sort operand self.old.nodes ≡ None }
+        ensures err { IfErr result IsReadFault }
+    {
+        match sort {
+            Sort::Truth => self.write_truth(operand),
+            Sort::Number => self.write_number(operand),
+        }
+    }
+
+    /// Writes a frame behind its operand. What the two are is returned.
+    fn fill(&mut self, frame: Frame, operand: Operand) -> Result<Operand, ExprFault>
+        ensures ok { IfOk result (λ x.
+            fill frame operand self.old.nodes ≡ Some (x, self.new.nodes)) }
+        ensures frames { IfOk result (λ _. self.new.frames ≡ self.old.frames) }
+        ensures none { result ≡ Err ExprFault.NotAnExpression
+            → fill frame operand self.old.nodes ≡ None }
+        ensures err { IfErr result IsReadFault }
+    {
+        let Some((node, whole)) = frame.node() else {
+            return Err(ExprFault::NotAnExpression);
+        };
+        self.write_operand(frame.sort(), operand)?;
+        self.write(node)?;
+        Ok(whole)
+    }
+
+    /// The frames that bind at least as tightly as `limit` take the operand.
+    #[tactic(auto, using(crate::proofs::Reducing::reducing))]
+    fn reduce(&mut self, operand: Operand, limit: u8) -> Result<Operand, ExprFault>
+        ensures ok { IfOk result (λ x. reduce limit self.old.frames operand self.old.nodes
+            ≡ Some (self.new.frames, x, self.new.nodes)) }
+        ensures none { result ≡ Err ExprFault.NotAnExpression
+            → reduce limit self.old.frames operand self.old.nodes ≡ None }
+        ensures err { IfErr result IsReadFault }
+    {
+        let mut operand = operand;
+        while let Some(frame) = self.pop_tight(limit) {
+            operand = self.fill(frame, operand)?;
+        }
+        Ok(operand)
+    }
+
+    /// A frame waits for its right operand, behind its left one.
+    fn shift_operator(
+        &mut self,
+        frame: Frame,
+        operand: Operand,
+    ) -> Result<(usize, Option<Operand>), ExprFault>
+        ensures ok { IfOk result (λ r. after_operator frame self.old.frames operand self.old.nodes
+            ≡ Some (r.0, (self.new.frames, r.1, self.new.nodes))) }
+        ensures used { IfOk result (λ r. r.0 ≡ 0) }
+        ensures none { result ≡ Err ExprFault.NotAnExpression
+            → after_operator frame self.old.frames operand self.old.nodes ≡ None }
+        ensures err { IfErr result IsReadFault }
+    {
+        if self.operand_precedence() < frame.precedence() {
+            return Err(ExprFault::NotAnExpression);
+        }
+        self.write_operand(frame.sort(), operand)?;
+        self.wait(frame)?;
+        Ok((0, None))
+    }
+
+    /// A parenthesis closes.
+    fn close(&mut self, operand: Operand) -> Result<(usize, Option<Operand>), ExprFault>
+        ensures ok { IfOk result (λ r. after_close self.old.frames operand self.old.nodes
+            ≡ Some (r.0, (self.new.frames, r.1, self.new.nodes))) }
+        ensures used { IfOk result (λ r. r.0 ≡ 0) }
+        ensures none { result ≡ Err ExprFault.NotAnExpression
+            → after_close self.old.frames operand self.old.nodes ≡ None }
+        ensures err { IfErr result IsReadFault }
+    {
+        match self.pop() {
+            Some(Frame::Open) => Ok((0, Some(operand.enclosed()))),
+            _ => Err(ExprFault::NotAnExpression),
+        }
+    }
+
+    /// The load that waits takes its index, and reads so many bytes. So many tokens more than one
+    /// are used up.
+    fn end_load(
+        &mut self,
+        operand: Operand,
+        more: usize,
+        size: u32,
+    ) -> Result<(usize, Option<Operand>), ExprFault>
+        ensures ok { IfOk result (λ r. after_load more size self.old.frames operand self.old.nodes
+            ≡ Some (r.0, (self.new.frames, r.1, self.new.nodes))) }
+        ensures used { IfOk result (λ r. r.0 ≡ more) }
+        ensures none { result ≡ Err ExprFault.NotAnExpression
+            → after_load more size self.old.frames operand self.old.nodes ≡ None }
+        ensures err { IfErr result IsReadFault }
+    {
+        match self.pop() {
+            Some(Frame::Load(protocol)) => {
+                self.write_number(operand)?;
+                self.write(Node::Load(protocol, size))?;
+                Ok((more, Some(Operand::Number)))
+            }
+            _ => Err(ExprFault::NotAnExpression),
+        }
+    }
+
+    /// Places a token behind an operand: how many more than this one are used up, and the operand,
+    /// if one is whole.
+    fn after_token(
+        &mut self,
+        operand: Operand,
+        first: TokenKind,
+        rest: &[Token],
+    ) -> Result<(usize, Option<Operand>), ExprFault>
+        ensures ok { IfOk result (λ r.
+            after_token_at first (kinds_of rest.now) self.old.frames operand self.old.nodes
+            ≡ Some (r.0, (self.new.frames, r.1, self.new.nodes))) }
+        ensures within { IfOk result (λ r. r.0 ≤ length rest.now) }
+        ensures none { result ≡ Err ExprFault.NotAnExpression
+            → after_token_at first (kinds_of rest.now) self.old.frames operand self.old.nodes
+            ≡ None }
+        ensures err { IfErr result IsReadFault }
+    {
+        match first {
+            TokenKind::Operator(operator) => self.shift_operator(Frame::Apply(operator), operand),
+            TokenKind::Comparison(comparison) => {
+                self.shift_operator(Frame::Compare(comparison), operand)
+            }
+            TokenKind::Join(join) => self.shift_operator(Frame::Join(join), operand),
+            TokenKind::Close => self.close(operand),
+            TokenKind::CloseBracket => self.end_load(operand, 0, 1),
+            TokenKind::Colon => match size_of(rest) {
+                Some(size) => self.end_load(operand, 2, size),
+                None => Err(ExprFault::NotAnExpression),
+            },
+            _ => Err(ExprFault::NotAnExpression),
+        }
+    }
+
+    /// Reads the tokens behind an operand, or the rest of a value: how many more than one are used
+    /// up.
+    fn after_operand(
+        &mut self,
+        operand: Operand,
+        first: TokenKind,
+        rest: &[Token],
+    ) -> Result<(usize, Option<Operand>), ExprFault>
+        ensures ok { IfOk result (λ r.
+            after_operand (first ∷ kinds_of rest.now) self.old.frames operand self.old.nodes
+            ≡ Some (r.0, (self.new.frames, r.1, self.new.nodes))) }
+        ensures within { IfOk result (λ r. r.0 ≤ length rest.now) }
+        ensures none { result ≡ Err ExprFault.NotAnExpression
+            → after_operand (first ∷ kinds_of rest.now) self.old.frames operand self.old.nodes
+            ≡ None }
+        ensures err { IfErr result IsReadFault }
+    {
+        match prefix_len(operand, first, rest) {
+            Some((number, len)) if self.operand_precedence() >= 1 => {
+                Ok((1, Some(Operand::Either(number, Some(len)))))
+            }
+            _ => {
+                let reduced = self.reduce(operand, token_precedence(first))?;
+                self.after_token(reduced, first, rest)
+            }
+        }
+    }
+
+    /// Goes on by at least one token: how many, and the operand that is read then.
+    fn step(
+        &mut self,
+        operand: Option<Operand>,
+        tokens: &[Token],
+    ) -> Result<(usize, Option<Operand>), ExprFault>
+        requires { 0 < length tokens.now }
+        ensures ok { IfOk result (λ r.
+            run (kinds_of tokens.now) 0 self.old.frames operand self.old.nodes
+            ≡ run (kinds_of (drop r.0 tokens.now)) 0 self.new.frames r.1 self.new.nodes) }
+        ensures used { IfOk result (λ r. 0 < r.0) }
+        ensures within { IfOk result (λ r. r.0 ≤ length tokens.now) }
+        ensures none { result ≡ Err ExprFault.NotAnExpression
+            → run (kinds_of tokens.now) 0 self.old.frames operand self.old.nodes ≡ None }
+        ensures err { IfErr result IsReadFault }
+    {
+        let [first, rest @ ..] = tokens else {
+            return Err(ExprFault::NotAnExpression);
+        };
+        match operand {
+            None => {
+                let (more, next) = self.begin(first.kind, tokens)?;
+                Ok((1 + more, next))
+            }
+            Some(read) => {
+                let (more, next) = self.after_operand(read, first.kind, rest)?;
+                Ok((1 + more, next))
+            }
+        }
+    }
+
+    /// What the tokens leave is one truth.
+    fn finish(&mut self, operand: Option<Operand>) -> Result<(), ExprFault>
+        ensures ok { OnOk result (finish operand self.old.frames self.old.nodes
+            ≡ Some self.new.nodes) }
+        ensures none { result ≡ Err ExprFault.NotAnExpression
+            → finish operand self.old.frames self.old.nodes ≡ None }
+        ensures err { IfErr result IsReadFault }
+    {
+        let Some(read) = operand else {
+            return Err(ExprFault::NotAnExpression);
+        };
+        let reduced = self.reduce(read, 8)?;
+        match self.pop() {
+            None => self.write_truth(reduced),
+            Some(_) => Err(ExprFault::NotAnExpression),
+        }
+    }
+
+    /// Reads the tokens of a whole expression, where nothing is read yet.
+    pub fn read(&mut self, tokens: &[Token]) -> Result<(), ExprFault>
+        requires frames { self.old.frames ≡ [] }
+        requires nodes { self.old.nodes ≡ [] }
+        ensures ok { OnOk result (all_run (kinds_of tokens.now) ≡ Some self.new.nodes) }
+        ensures none { result ≡ Err ExprFault.NotAnExpression
+            → all_run (kinds_of tokens.now) ≡ None }
+        ensures err { IfErr result IsReadFault }
+    {
+        if tokens.is_empty() {
+            return Ok(());
+        }
+        let mut operand = None;
+        let mut at = 0;
+        while at < tokens.len() {
+            let (used, next) = self.step(operand, &tokens[at..])?;
+            operand = next;
+            at += used;
+        }
+        self.finish(operand)
+    }
+}
+
+/// `less N` or `greater N`, and how many tokens more than one it takes.
+fn read_sized(tokens: &[Token]) -> Option<(Node, usize)>
+    ensures value { (nodes : List Node) →
+        one_node nodes result ≡ sized_of (kinds_of tokens.now) nodes }
+    ensures within { IfSome result (λ r. r.1 < length tokens.now) }
+{
+    match (kind_at(tokens, 0), kind_at(tokens, 1)) {
+        (Some(TokenKind::Size(size)), Some(TokenKind::Number(number))) => {
+            Some((Node::Sized(size, number), 1))
+        }
+        _ => None,
+    }
+}
+
+/// A value with what stands before it, or else a check.
+fn read_primitive(tokens: &[Token]) -> Option<(Node, usize)>
+    ensures value { (nodes : List Node) →
+        one_node nodes result ≡ primitive (kinds_of tokens.now) nodes }
+    ensures within { IfSome result (λ r. r.1 < length tokens.now) }
+{
+    if let Some((qualifiers, value, more)) = read_valued(tokens) {
+        return Some((Node::Valued(qualifiers, value), more));
+    }
+    match kind_at(tokens, 0) {
+        Some(TokenKind::Protocol(protocol)) if is_check(protocol) => {
+            Some((Node::Check(protocol), 0))
+        }
+        _ => None,
+    }
+}
+
+/// A value with nothing before it.
+fn read_bare(tokens: &[Token]) -> Option<(Node, usize)>
+    ensures value { (nodes : List Node) →
+        one_node nodes result ≡ bare_of (kinds_of tokens.now) nodes }
+    ensures within { IfSome result (λ r. r.1 < length tokens.now) }
+{
+    let (value, used) = read_value(tokens)?;
+    Some((Node::Bare(value), used - 1))
+}
+
+fn prefix_mask(len: Option<u32>) -> NetMask
+    ensures { result ≡ prefix_mask len }
+{
+    match len {
+        None => NetMask::Unwritten,
+        Some(len) => NetMask::Prefix(len),
+    }
+}
+
+/// The number and the length of a prefix, where a plain number has one behind it.
+fn prefix_len(operand: Operand, first: TokenKind, rest: &[Token]) -> Option<(u32, u32)>
+    ensures value { result ≡ prefix_len operand (first ∷ kinds_of rest.now) }
+    ensures within { IfSome result (λ _. 0 < length rest.now) }
+{
+    match (operand, first, kind_at(rest, 0)) {
+        (
+            Operand::Plain(number),
+            TokenKind::Operator(Operator::Divide),
+            Some(TokenKind::Number(len)),
+        ) => Some((number, len)),
+        _ => None,
+    }
+}
+
+/// The size of an accessor, behind its colon.
+fn size_of(tokens: &[Token]) -> Option<u32>
+    ensures value { result ≡ accessor_size (kinds_of tokens.now) }
+    ensures within { IfSome result (λ _. 1 < length tokens.now) }
+{
+    match (kind_at(tokens, 0), kind_at(tokens, 1)) {
+        (Some(TokenKind::Number(size)), Some(TokenKind::CloseBracket)) => Some(size),
+        _ => None,
+    }
+}

@@ -1,4 +1,0 @@
-pub mod Values
-pub mod Grammar
-pub mod Machine
-pub mod Nesting

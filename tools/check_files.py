@@ -1,0 +1,168 @@
+#!/usr/bin/env python3
+"""Runs capkit over real files and devices in a shell, and compares what is left with what must be.
+
+usage: check_files.py [--capkit PROGRAM]
+
+Each case has a folder of its own with a copy of samples/. It is a shell line, the status that it must end with, what
+standard error must hold, and files with what they must hold: bytes, the name of a sample that is unchanged, or None where
+there must be no such file. A case on a terminal is a line over an input that takes three seconds, the terminal's name, and
+whether progress must be shown there.
+"""
+import argparse
+import fcntl
+import os
+import pathlib
+import pty
+import shutil
+import subprocess
+import sys
+import tempfile
+import termios
+
+from built import ROOT, built_program
+
+SAMPLES = ROOT / "samples"
+
+# A writer that gives a capture's packets and waits, and a reader that waits a second for a line.
+WAITING = "(cat day.pcap; sleep 3)"
+FIRST = "(read -t 1 -r line && echo 1)"
+TWICE = "capkit: usage: name used twice\n"
+
+CASES = [
+    # What an output held before goes, unless an expression or a listing is refused.
+    ("printf keep > out; capkit print -w out day.pcap 'prot 80'", 2,
+     "capkit: expression: unknown word at 1\n", {"out": b"keep"}),
+    ("capkit print -w out day.pcap 'prot 80'", 2, "capkit: expression: unknown word at 1\n", {"out": b""}),
+    ("printf keep > out; echo text > code; capkit print -w out --code code day.pcap", 2,
+     "capkit: code: not a listing at line 1\n", {"out": b"keep"}),
+    ("printf keep > out; capkit edit nowhere out", 1, "capkit: nowhere: cannot open\n", {"out": b"keep"}),
+    ("capkit edit nowhere out", 1, "capkit: nowhere: cannot open\n", {"out": None}),
+    ("printf keep > out; echo text > in; capkit edit in out", 1,
+     "capkit: in: offset 0: not a capture file\n", {"out": b""}),
+    ("cat day.pcap day.pcap > out; capkit edit -F pcap day.pcap out", 0, "", {"out": "day.pcap"}),
+    ("printf keep > kept; ln -s kept out; capkit edit -F pcap day.pcap out", 0, "", {"kept": "day.pcap"}),
+    ("mkfifo pipe; cat pipe > out & capkit edit -F pcap day.pcap pipe; s=$?; wait; exit $s", 0, "", {"out": "day.pcap"}),
+    ("capkit print -w /dev/null day.pcap", 0, "", {}),
+    ("capkit print -w /dev/full day.pcap", 1, "capkit: /dev/full: write failed\n", {}),
+    ("capkit print -w . day.pcap", 1, "capkit: .: cannot create\n", {}),
+    # A file that is read is no output, under whatever name.
+    ("capkit edit -F pcap day.pcap - >> day.pcap", 2, TWICE, {"day.pcap": "day.pcap"}),
+    ("ln day.pcap hard.pcap; capkit edit day.pcap - >> hard.pcap", 2, TWICE, {"day.pcap": "day.pcap"}),
+    ("ln -s day.pcap soft.pcap; capkit edit soft.pcap day.pcap", 2, TWICE, {"day.pcap": "day.pcap"}),
+    ("capkit print - < day.pcap >> day.pcap", 2, TWICE, {"day.pcap": "day.pcap"}),
+    ("capkit edit - day.pcap < day.pcap", 2, TWICE, {"day.pcap": "day.pcap"}),
+    ("capkit infos mirror.pcap day.pcap >> day.pcap", 2, TWICE, {"day.pcap": "day.pcap"}),
+    ("capkit merge -w - mirror.pcap day.pcap >> day.pcap", 2, TWICE, {"day.pcap": "day.pcap"}),
+    ("capkit print day.pcap 1<> day.pcap", 2, TWICE, {"day.pcap": "day.pcap"}),
+    ("capkit compile tcp > code; cp code before; capkit print --code code day.pcap >> code; s=$?; cmp code before && exit $s",
+     2, TWICE, {}),
+    ("capkit edit -F pcap day.pcap - > out", 0, "", {"out": "day.pcap", "day.pcap": "day.pcap"}),
+    ("capkit edit -F pcap - - < day.pcap | cat > out", 0, "", {"out": "day.pcap"}),
+    ("capkit print - < /dev/null > /dev/null", 1, "capkit: -: offset 0: not a capture file\n", {}),
+    # What is known of a pipe is written to a pipe before more is waited for: lines, packets, and reports of files before.
+    (f"{WAITING} | capkit print - | {FIRST} > out", 0, "", {"out": b"1\n"}),
+    (f"{WAITING} | capkit edit -F pcap - - | capkit print - | {FIRST} > out", 0, "", {"out": b"1\n"}),
+    (f"mkfifo in; {WAITING} > in & capkit merge -F pcap -w - in | capkit print - | {FIRST} > out", 0, "", {"out": b"1\n"}),
+    (f"{WAITING} | capkit infos day.pcap - | {FIRST} > out", 0, "", {"out": b"1\n"}),
+    ("(cat day.pcap; sleep 1; tail -c +25 day.pcap; sleep 1; tail -c +25 day.pcap) | capkit print - | head -n 1 | wc -l > out",
+     0, "", {"out": b"1\n"}),
+    # A run that is stopped while it waits leaves all that was decided, in a file too, and whole packets.
+    *[(f"{WAITING} | timeout -s {signal} 1 capkit edit -F pcap - out", 124, "", {"out": "day.pcap"})
+      for signal in ("INT", "TERM", "HUP")],
+    # The shell tells what was killed.
+    (f"exec 2> /dev/null; {WAITING} | timeout -s KILL 1 capkit edit -F pcap - out", 137, "", {"out": "day.pcap"}),
+    ("head -c 3000 day.pcap > part; capkit edit -F pcap part whole 2> /dev/null; (cat part; sleep 3) "
+     "| timeout -s TERM 1 capkit edit -F pcap - out; s=$?; cmp out whole && exit $s", 124, "", {}),
+    (f"capkit print day.pcap > lines; {WAITING} | timeout 1 capkit print - > out; s=$?; cmp out lines && exit $s", 124, "", {}),
+    # What was asked for and can't be written is a fault.
+    ("capkit --help > /dev/full", 1, "capkit: -: write failed\n", {}),
+    ("capkit --version > /dev/full", 1, "capkit: -: write failed\n", {}),
+    ("capkit edit --help > /dev/full", 1, "capkit: -: write failed\n", {}),
+    ("capkit help > shown; capkit --help | cmp - shown", 0, "", {}),
+    ("capkit help edit > shown; capkit edit --help | cmp - shown", 0, "", {}),
+    # A name is shown without its control characters, and reported with them.
+    ("capkit infos $'a\\nb\\e[31m'", 1, "capkit: a\\x0ab\\x1b[31m: cannot open\n", {}),
+    ("echo text > $'a\\nb'; capkit infos $'a\\nb'", 1, "capkit: a\\x0ab: offset 0: not a capture file\n", {}),
+    ("cp day.pcap $'a\\eb'; capkit infos $'a\\eb' | head -n 1 > out", 0, "", {"out": b"File: a\x1bb\n"}),
+    ("capkit print $'-\\e' 2> out; s=$?; grep -q $'\\e' out || exit $s", 2, "", {}),
+]
+
+SLOW = "(cat day.pcap; sleep 3; tail -c +25 day.pcap) |"
+PROGRESS = b"\r\x1b[K0 MiB read, 0 MiB/s\r\x1b[K"
+
+TERMINAL_CASES = [
+    (f"{SLOW} capkit edit - out", "xterm", True),
+    (f"{SLOW} capkit print -w out - tcp", "xterm", True),
+    (f"{SLOW} capkit edit - out", "dumb", False),
+    (f"{SLOW} capkit edit - - > out", "xterm", False),
+    (f"{SLOW} capkit print - | wc -l > out", "xterm", False),
+    (f"{SLOW} capkit edit - /dev/null", "xterm", False),
+    (f"set -m; {SLOW} capkit edit - out & set +m; wait", "xterm", False),
+]
+
+
+def folder_of(here, program):
+    """Fills the folder, and returns the variables of a shell in it."""
+    shutil.copytree(SAMPLES, here, dirs_exist_ok=True)
+    (here / ".bin").mkdir()
+    (here / ".bin" / "capkit").symlink_to(program)
+    return {**os.environ, "PATH": f"{here / '.bin'}:{os.environ['PATH']}"}
+
+
+def differences_on_terminal(program, line, name, is_shown):
+    """What differs on a terminal of that name, which is the line's standard error and its controlling terminal."""
+    with tempfile.TemporaryDirectory() as folder:
+        here = pathlib.Path(folder)
+        variables = folder_of(here, program)
+        ours, theirs = pty.openpty()
+        run = subprocess.run(["bash", "-c", line], cwd=here, env={**variables, "TERM": name}, stderr=theirs,
+                             stdout=subprocess.DEVNULL, stdin=subprocess.DEVNULL, timeout=60, start_new_session=True,
+                             preexec_fn=lambda: fcntl.ioctl(theirs, termios.TIOCSCTTY, 0))
+        os.set_blocking(ours, False)
+        try:
+            shown = os.read(ours, 65536)
+        except BlockingIOError:
+            shown = b""
+        os.close(ours)
+        os.close(theirs)
+        if run.returncode != 0:
+            yield f"status {run.returncode}, not 0"
+        if shown != (PROGRESS if is_shown else b""):
+            yield f"{shown!r} is shown on {name}"
+
+
+def differences(program, line, status, message, files):
+    """What differs after the line was run."""
+    with tempfile.TemporaryDirectory() as folder:
+        here = pathlib.Path(folder)
+        variables = folder_of(here, program)
+        run = subprocess.run(["bash", "-c", line], cwd=here, env=variables, capture_output=True, stdin=subprocess.DEVNULL,
+                             timeout=60)
+        if run.returncode != status:
+            yield f"status {run.returncode}, not {status}"
+        if run.stderr != message.encode():
+            yield f"standard error {run.stderr!r}, not {message!r}"
+        for name, wanted in files.items():
+            path = here / name
+            held = path.read_bytes() if path.exists() else None
+            if isinstance(wanted, str):
+                wanted = (SAMPLES / wanted).read_bytes()
+            if held != wanted:
+                yield f"{name} is not as it must be"
+
+
+def main():
+    parser = argparse.ArgumentParser(usage=__doc__.split("usage: ")[1].split("\n")[0])
+    parser.add_argument("--capkit", type=pathlib.Path)
+    options = parser.parse_args()
+    program = (options.capkit or built_program()).resolve()
+    found = [(case[0], text) for case in CASES for text in differences(program, *case)]
+    found += [(case[0], text) for case in TERMINAL_CASES for text in differences_on_terminal(program, *case)]
+    for line, difference in found:
+        print(f"{line}\n    {difference}")
+    print(f"{len(CASES) + len(TERMINAL_CASES)} cases, {len(found)} differences")
+    return 1 if found else 0
+
+
+if __name__ == "__main__":
+    sys.exit(main())

@@ -1,0 +1,135 @@
+#!/usr/bin/env python3
+"""Lists private words in pages, comments and identifiers, each with the word of the field that is to stand there; and
+definitions that have the name of another one, or a participle for a name.
+
+usage: check_words.py [FILE..]
+
+Without files it reads the pages (but the glossary), and of the crates' src/ and specs/ the comments and the identifiers.
+Code between backticks and in fenced blocks of pages, and texts between double quotes in code, are left out. Words are
+found in capitals too, and where a line ends between two of them. The status is 1 if a word is found.
+"""
+import bisect
+import collections
+import itertools
+import pathlib
+import re
+import sys
+
+ROOT = pathlib.Path(__file__).resolve().parent.parent
+PAGES = ["*.md", "docs/**/*.md", "library/*.md", "library/*/*.md", "samples/*.md", "teach/*.md", "packaging/pages/*"]
+CODE = ["crates/*/src/**/*.rt", "crates/*/specs/**/*.antt"]
+COMMENTS = {".rt": re.compile(r"(?:^|\s)//[/!]?\s(.*)"), ".antt": re.compile(r"(?:^|\s)--\s(.*)")}
+# Code between backticks, which may go on in the next line.
+QUOTED = re.compile(r"`(?:[^`\n]|\n(?!\n))*`")
+# Each blank of a word stands for the end of a line too, and `$` for the end of a paragraph.
+WORDS = [
+    (r"\banswers? other than 0\b|\bsays yes\b", "accepts the packet, returns non-zero"),
+    (r"\banswers (it|that fault|true|false|\d|E\d)|\banswers? (it|that) again\b", "returns"),
+    (r"\breads yes\b|\breads no[.,;]", "matches, doesn't match"),
+    (r"\blets? pass\b", "matches, keeps"),
+    (r"\bfaults?( is| are| was)? (tells?|told)\b|\b(tells|told) (fault|as|once|on standard)\b", "reports"),
+    (r"\bwants? of\b|\bno memory comes\b", "out of memory, the lack of"),
+    (r"\brefused growths?\b|\bgrowth is refused\b", "failed allocation"),
+    (r"\bheadings?\b", "file header, section header"),
+    (r"\b(a|block's|record's|option's) head\b|\bheads (of (a|pcap)|stand)\b", "header"),
+    (r"(?<!in )\bfronts?\b", "prefix, start"),
+    (r"\b(goes|gone|passed) over\b", "skips, skipped"),
+    (r"\bleaves (it|the table|the sink)([.,;]|$)", "leaves it unchanged"),
+    (r"\b(come|comes|came) whole\b", "complete"),
+    (r"\bin hand\b", "current"),
+    (r"\bdenials?\b", "negation"),
+    (r"\bwrong bod(y|ies)\b", "wrong implementation"),
+    (r"\b(contract|clause|law)s? (say|says|said)\b", "states"),
+    (r"\blooked for in this order\b", "checked in this order"),
+    (r"\bstands? (for\b|in\b(?! (front|place|either)))", "means, is in"),
+    (r"\bbehind\b", "after, past, following"),
+    (r"\bso many\b", "the number's name"),
+    (r"\b(come|comes|came) to\b", "is, becomes, reaches"),
+]
+WORDS = [(re.compile(word.replace(" ", r"\s").replace("$", r"(?=\n\n|\n?\Z)"), re.IGNORECASE), better) for word, better in WORDS]
+# Words that no identifier has among those that it joins.
+IDENTIFIERS = {
+    "heading": "file_header, section_header",
+    "headings": "headers",
+    "looseness": "precedence",
+    "stood": "the past of an input",
+    "laid": "order",
+    "fed": "sequence",
+    "behind": "after, past, next",
+}
+DEFINITION = re.compile(r"^(?:abbrev |unfoldable |opaque )?pub (?:record |data )?(?!mod\b)([A-Za-z_]\w*)", re.MULTILINE)
+PARTICIPLE = re.compile(r"[a-z]+(ed|en|wn)")
+# They are read as a noun and as an adjective: the captured packet, a checked value.
+PARTICIPLES = {"captured", "checked"}
+
+
+def definitions():
+    """Yields what is wrong with the names of the definitions in specs/."""
+    homes = collections.defaultdict(list)
+    for path in sorted(ROOT.glob("crates/*/specs/*.antt")):
+        for name in DEFINITION.findall(path.read_text()):
+            homes[name].append(path.relative_to(ROOT))
+    for name, paths in homes.items():
+        if len(set(paths)) > 1:
+            yield f"{paths[0]}: {name}: a name of its own, as {paths[1]} has it too"
+        elif PARTICIPLE.fullmatch(name) and name not in PARTICIPLES:
+            yield f"{paths[0]}: {name}: a noun or a verb"
+
+
+def words_of(identifier):
+    """The words that an identifier joins, by underscores or capitals, in small letters."""
+    return [word.lower() for word in re.findall(r"[A-Z]?[a-z]+|[A-Z]+(?![a-z])", identifier)]
+
+
+def identifiers(path):
+    """The numbered lines of a file of code, without comments and texts."""
+    mark = {".rt": "//", ".antt": "--"}.get(path.suffix)
+    for number, line in enumerate(path.read_text().splitlines() if mark else [], 1):
+        yield number, re.sub(r'"[^"]*"', "", line).partition(mark)[0]
+
+
+def readable(path):
+    """The text of a file's comments, or of a page, without code: line by line, blanks at their ends left out."""
+    comment, is_fenced, lines = COMMENTS.get(path.suffix), False, []
+    for line in path.read_text().splitlines():
+        if comment:
+            found = comment.search(line)
+            line = found.group(1) if found else ""
+        elif line.lstrip().startswith("```"):
+            is_fenced = not is_fenced
+        lines.append("" if is_fenced else line.strip())
+    return QUOTED.sub(lambda found: "`" + "\n" * found[0].count("\n"), "\n".join(lines))
+
+
+def phrases(path):
+    """Yields the words of the list that a file has, each with its line and what is to be there."""
+    text = readable(path)
+    starts = [0, *(found.end() for found in re.finditer("\n", text))]
+    for word, better in WORDS:
+        for found in word.finditer(text):
+            yield bisect.bisect(starts, found.start()), " ".join(found[0].split()), better
+
+
+def names(path):
+    """Yields the identifiers of a file of code that join a word which none is to have."""
+    for number, line in identifiers(path):
+        for name in re.findall(r"[A-Za-z_]\w*", line):
+            for word in words_of(name):
+                if word in IDENTIFIERS:
+                    yield number, name, IDENTIFIERS[word]
+
+
+def main():
+    files = [pathlib.Path(name).resolve() for name in sys.argv[1:]]
+    files = files or [path for pattern in PAGES + CODE for path in sorted(ROOT.glob(pattern)) if path.name != "GLOSSARY.md"]
+    found = [
+        f"{path.relative_to(ROOT)}:{number}: {word}: {better}"
+        for path in files for number, word, better in itertools.chain(sorted(phrases(path)), names(path))
+    ]
+    found += definitions()
+    print(*found, sep="\n", end="\n" if found else "")
+    return 1 if found else 0
+
+
+if __name__ == "__main__":
+    sys.exit(main())

@@ -1,0 +1,357 @@
+#!/usr/bin/env python3
+"""Prints what a promise means: its contracts, and all definitions that they rest on, as one text.
+
+usage: meaning.py NAME              the text of a function or type by its path, as cap_tools::run, or of a promise:
+                                    edit, print, merge, infos, compile, library
+       meaning.py --closure         how many definitions of how many lines each promise rests on
+       meaning.py --folders [--strict] [--names]
+                                    how many definitions of each file of specs/ a promise rests on, only a contract
+                                    between crates, and no public contract
+       meaning.py --why NAME        how a public contract comes to a definition or type
+
+A contract rests on the definitions, types and constants that its clauses and its signature name, on what these name,
+and so on: its closure. A type brings along how contracts see it (its `view`), a bound its trait, with the contracts
+there. What invariants of types and proofs/ cite is left out. Names are followed to the module that they come from.
+
+A command is the contract of `cap_tools::run` without the cases that the command never comes to: an edit compiles
+nothing. Which these are follows from `assignment`; each text names what it leaves out.
+
+A text goes from the contract down: what a definition names comes further down, or before it in its own file. The tables
+count lines without comments and blank lines.
+
+Definitions that no promise rests on, which help proofs, private functions and other crates here, belong into
+specs/inside/, all others not; by --strict the status is 1 where some lie elsewhere. --names lists those.
+Promises are the public contracts of the crates that are for users (all but those in BETWEEN), the laws, and those in
+PROMISED. The status is also 1 where a name wasn't found, or an import seems to have no use: then this script overlooked
+a form of the language.
+"""
+import argparse
+import collections
+import re
+import signal
+import sys
+
+from sources import ROOT, WORD, Sources, blanked
+
+POLICY = ("cap_packets", "specs.Verdict", "Policy")
+COMMAND = ("cap_command", "src.command", "Command")
+# What a command chooses: of these types a text has only the cases that its command comes to.
+CHOICES = {
+    COMMAND,
+    POLICY,
+    ("cap_packets", "specs.Outcome", "Form"),
+    ("cap_packets", "src.output", "Writing"),
+    ("cap_tools", "specs.Start", "Preparing"),
+    ("cap_io", "specs.Sequence", "PacketOrder"),
+}
+# The equations, by their first words, that a command with something to prepare never comes to.
+PREPARED = ["IsPolicy None", "IsWhyRefused None"]
+COMMANDS = {"edit": [], "print": PREPARED, "merge": [], "infos": [], "compile": PREPARED}
+# Crates whose public functions are for other crates here.
+BETWEEN = {
+    "cap_arguments", "cap_inputs", "cap_memory", "cap_packets", "flt_code", "flt_lay", "flt_opt", "flt_passes",
+    "flt_short", "flt_tree",
+}
+# What the pages promise of these.
+PROMISED = {
+    "flt_lay::laid_out", "flt_opt::replaces", "flt_passes::best_of", "flt_passes::optimised", "flt_short::shortened",
+}
+# The headline: what is written, reported and returned, and what each step costs; the compiler; the command line; files.
+HEADLINE = [
+    "cap_tools::run", "cap_tools::Job", "flt_gen::generate", "capkit::command_of", "cap_io::Source", "cap_io::Sink",
+]
+
+
+class Cases:
+    """The cases that a command comes to, found from its variant on."""
+
+    def __init__(self, command, never):
+        self.command = {(*COMMAND, command.capitalize())}
+        self.never, self.alive, self.impossible = never, set(self.command), set()
+
+    def has(self, piece):
+        """Whether the command comes to this equation, constructor or variant."""
+        asked = piece.patterns | (piece.uses if piece.kind == "rule" else set())
+        if any(len(use) == 4 and use[:3] in CHOICES and use not in self.alive for use in asked):
+            return False
+        if piece.kind == "rule" and piece.uses & self.impossible:
+            return False
+        return not any(re.search(rf"^{re.escape(head)}\b", piece.text, re.MULTILINE) for head in self.never)
+
+    def add(self, piece):
+        """Notes the cases that a piece makes. A rule of a fact makes none: it asks for them."""
+        made = set() if piece.kind == "rule" else piece.uses - piece.patterns
+        new = {use for use in made if len(use) == 4 and use[:3] in CHOICES and use[:3] != COMMAND} - self.alive
+        self.alive |= new
+        return bool(new)
+
+    def never_holds(self, item, pieces):
+        """Whether the cases that are left of a fact never hold."""
+        if any(piece.kind == "field" and piece.uses & self.impossible for piece in pieces):
+            return True
+        equations = [piece for piece in pieces if piece.kind == "equation"]
+        is_cut = len(pieces) < len(item.pieces) and bool(equations)
+        return is_cut and all(re.search(r"=\s+⊥$", piece.text) for piece in equations)
+
+
+def closure(sources, roots, cases=None):
+    """The items that these rest on, each with the pieces of it that count."""
+    while True:
+        found, grows = reached(sources, roots, cases)
+        if cases is None:
+            return found
+        never = {key for key, pieces in found.items() if cases.never_holds(sources.items[key], pieces)}
+        if not grows and never <= cases.impossible:
+            return found
+        if not grows:
+            cases.impossible |= never
+            cases.alive = set(cases.command)
+
+
+def reached(sources, roots, cases):
+    """The same by the cases that are known so far; and whether there are more."""
+    found, open_keys, grows = {}, list(roots), False
+    while open_keys:
+        key = open_keys.pop()
+        if key in found:
+            continue
+        found[key] = [piece for piece in sources.items[key].pieces if cases is None or cases.has(piece)]
+        for piece in found[key]:
+            grows |= cases is not None and cases.add(piece)
+            open_keys += [use[:3] for use in piece.uses if use[:3] in sources.items]
+    return found, grows
+
+
+class Meaning:
+    """The closures of the sources' contracts."""
+
+    def __init__(self, sources):
+        self.sources, self.paths = sources, sources.public_paths()
+
+    def roots(self, name):
+        """The contracts of a path: of a function, of a type's methods and ghost members, or of a crate's."""
+        keys = [key for key, paths in self.paths.items() if key in self.sources.items
+                and any(path == name or re.match(rf"{re.escape(name)}(::| as )", path) for path in paths)]
+        return [key for key in keys if is_contract(self.sources.items[key]) or len(keys) == 1]
+
+    def of(self, name):
+        """The roots and the closure of a path or a promise."""
+        roots = self.roots({"library": "cap_library"}.get(name, "cap_tools::run" if name in COMMANDS else name))
+        return roots, closure(self.sources, roots, Cases(name, COMMANDS[name]) if name in COMMANDS else None)
+
+    def public_roots(self, is_promised=False):
+        """All public contracts; or those for users, and the laws."""
+        return [key for key, paths in self.paths.items() if is_contract(self.sources.items[key])
+                and (not is_promised or any(is_promise(path) for path in paths))]
+
+    def closure_of(self, names):
+        """What several paths and promises rest on."""
+        return {key: pieces for name in names for key, pieces in self.of(name)[1].items()}
+
+    def misplaced(self):
+        """Yields the definitions in the wrong folder, each with its file, and whether a promise rests on it."""
+        believed = closure(self.sources, self.public_roots(is_promised=True))
+        for spec in self.sources.specs.values():
+            for name in spec.parts:
+                is_believed = spec.key(name) in believed
+                if is_believed == ("inside" in spec.module.split(".")):
+                    yield spec, name, is_believed
+
+    def chain(self, name):
+        """The shortest way from a public contract to an item of this name, or None."""
+        way = {key: [key] for key in self.public_roots()}
+        open_keys = collections.deque(way)
+        while open_keys:
+            key = open_keys.popleft()
+            if key[2] == name:
+                return way[key]
+            for use in sorted(use[:3] for use in self.sources.items[key].uses()):
+                if use in self.sources.items and use not in way:
+                    way[use] = [*way[key], use]
+                    open_keys.append(use)
+        return None
+
+
+def is_contract(item):
+    """Whether an item states something of its own: a function with clauses, a trait, or ghost members."""
+    return item.kind in ("trait", "ghosts") or item.kind == "fn" and re.search(r"\b(requires|ensures)\b", item.text())
+
+
+def is_promise(path):
+    return path.split("::")[0] not in BETWEEN or "::law" in path or path in PROMISED
+
+
+def code_lines(item, pieces):
+    """How many lines a part of an item has, without comments and blank lines."""
+    comment = "--" if item.path.suffix == ".antt" else "//"
+    return sum(bool(line.strip()) for piece in pieces for line in blanked(piece.text, comment).split("\n"))
+
+
+def is_definition(item):
+    return item.path.suffix == ".antt"
+
+
+# ---- the text
+
+def in_reading_order(sources, found, roots):
+    """The files of a closure: each in front of those that it uses, as far as they use each other in one direction."""
+    uses = collections.defaultdict(dict)
+    for key, pieces in found.items():
+        for use in sorted(use[:3] for piece in pieces for use in piece.uses if use[:3] in found):
+            uses[sources.items[key].path].setdefault(sources.items[use].path)
+    order, met = [], set()
+
+    def visit(path):
+        met.add(path)
+        for other in sorted(uses[path]):
+            if other not in met:
+                visit(other)
+        order.insert(0, path)
+
+    for path in sorted({sources.items[key].path for key in roots}):
+        if path not in met:
+            visit(path)
+    return order
+
+
+def item_text(item, pieces):
+    """An item as it stands in its file; where cases are left out, with a line that names them."""
+    text = "\n".join(piece.text.strip("\n") for piece in pieces)
+    names = dict.fromkeys(name for piece in item.pieces if piece not in pieces for name in case_names(piece))
+    if not names:
+        return text
+    left_out = f"left out: {', '.join(names)}"
+    if item.kind == "enum":
+        return f"{text.removesuffix('}').rstrip()}\n    // {left_out}\n}}"
+    return f"{text}\n-- {left_out}"
+
+
+def case_names(piece):
+    """How a case that is left out is named: by its constructors of what a command chooses, else by its patterns."""
+    if piece.kind == "rule":
+        return [use[3] for use in piece.patterns]
+    chosen = sorted(use[3] for use in piece.patterns if use[:3] in CHOICES)
+    return chosen or [blanked(piece.text, "--").split()[1]]
+
+
+def heading(sources, path):
+    """What a file is called, and what it is about."""
+    name = path.relative_to(ROOT / "crates")
+    spec = next((it for it in sources.specs.values() if it.path == path), None)
+    about = spec.head if spec else "\n".join(re.findall(r"^//! ?.*$", path.read_text(), re.MULTILINE))
+    return f"==== {name}\n{about}".rstrip()
+
+
+def text_of(meaning, name, roots, found):
+    """A promise's meaning as one text."""
+    sources = meaning.sources
+    parts = ["==== the contract" + "s" * (len(roots) > 1)]
+    parts += [f"// {meaning.paths[key][0]}\n{item_text(sources.items[key], found[key])}" for key in sorted(roots)]
+    for path in in_reading_order(sources, found, roots):
+        here = [sources.items[key] for key in found if sources.items[key].path == path and key not in roots]
+        if here:
+            parts.append(heading(sources, path))
+            parts += [item_text(item, found[item.key]) for item in sorted(here, key=lambda item: item.line)]
+    parts.append("==== names of the libraries\n" + "\n".join(library_lines(sources, found)))
+    body = "\n\n".join(parts)
+    return f"capkit's meaning of {name}, in {body.count(chr(10)) + 3} lines\n\n{body}"
+
+
+def library_lines(sources, found):
+    """What a closure names of std and other crates, by their modules. Signs are explained in docs/inside/MODEL.md."""
+    names = collections.defaultdict(set)
+    for key, pieces in found.items():
+        item = sources.items[key]
+        words = {word for piece in pieces for word in re.findall(WORD, blanked(piece.text, "--"))}
+        for module, name in sources.foreign[item.path]:
+            if name in words:
+                names[module].add(name)
+    return [f"{module}: {', '.join(sorted(names[module]))}" for module in sorted(names)]
+
+
+# ---- the tables
+
+def figures(sources, found):
+    """Definitions, their lines, types, their lines, and files of specs/."""
+    items = [(sources.items[key], pieces) for key, pieces in found.items()]
+    specs = [pair for pair in items if is_definition(pair[0])]
+    types = [pair for pair in items if not is_definition(pair[0]) and pair[0].kind != "fn"]
+    return [len(specs), sum(code_lines(*it) for it in specs), len(types), sum(code_lines(*it) for it in types),
+            len({item.path for item, _ in specs})]
+
+
+def print_closures(meaning):
+    """The table of the headline's closures, and of the commands'."""
+    print(f"{'':24}{'definitions':>12}{'lines':>8}{'types':>8}{'lines':>8}{'files':>8}")
+    for name in HEADLINE:
+        print_row(name, figures(meaning.sources, meaning.of(name)[1]))
+    print_row("all of these", figures(meaning.sources, meaning.closure_of(HEADLINE)))
+    for name in [*COMMANDS, "library"]:
+        print_row(name, figures(meaning.sources, meaning.of(name)[1]))
+
+
+def print_row(name, numbers):
+    print(f"{name:24}{numbers[0]:>12}" + "".join(f"{number:>8}" for number in numbers[1:]))
+
+
+def print_folders(meaning, is_strict, has_names):
+    """The files of specs/, with how many definitions lie in the wrong folder."""
+    sources = meaning.sources
+    found = [closure(sources, meaning.public_roots(is_promised)) for is_promised in (True, False)]
+    wrong, totals = len(list(meaning.misplaced())), [0, 0, 0]
+    print(f"{'':46}{'promised':>9}{'between':>9}{'inside':>9}")
+    for spec in sources.specs.values():
+        sides = [[], [], []]
+        for name in spec.parts:
+            sides[0 if spec.key(name) in found[0] else 1 if spec.key(name) in found[1] else 2].append(name)
+        totals = [total + len(side) for total, side in zip(totals, sides)]
+        print_folder(spec.path.relative_to(ROOT / "crates"), map(len, sides))
+        for label, side in zip(("between", "inside"), sides[1:] if has_names else []):
+            print(f"    {label}: {' '.join(side)}" if side else "", end="\n" if side else "")
+    print_folder("all", totals)
+    print(f"{wrong} definitions are in the wrong folder")
+    return 1 if is_strict and wrong else 0
+
+
+def print_folder(name, numbers):
+    print(f"{str(name):46}" + "".join(f"{number:>9}" for number in numbers))
+
+
+def print_chain(meaning, name):
+    """How a public contract comes to an item; each line is used by the one above."""
+    chain = meaning.chain(name)
+    for crate, module, item in chain or []:
+        print(f"{crate} {module} {item}")
+    if not chain:
+        print(f"no public contract rests on {name}")
+    return 0 if chain else 1
+
+
+def main():
+    parser = argparse.ArgumentParser(usage=__doc__.partition("usage: ")[2].partition("\n\n")[0])
+    parser.add_argument("name", nargs="?")
+    parser.add_argument("--why", metavar="NAME")
+    for option in ("--closure", "--folders", "--strict", "--names"):
+        parser.add_argument(option, action="store_true")
+    given = parser.parse_args()
+    meaning = Meaning(Sources())
+    print(*meaning.sources.unknown, sep="\n", end="\n" if meaning.sources.unknown else "", file=sys.stderr)
+    if given.closure:
+        print_closures(meaning)
+    elif given.folders:
+        return print_folders(meaning, given.strict, given.names)
+    elif given.why:
+        return print_chain(meaning, given.why)
+    elif given.name:
+        roots, found = meaning.of(given.name)
+        if not roots:
+            parser.error(f"no public function, type or promise {given.name}")
+        print(text_of(meaning, given.name, roots, found))
+    else:
+        parser.error("a name, --closure, --folders or --why")
+    return 1 if meaning.sources.unknown else 0
+
+
+if __name__ == "__main__":
+    signal.signal(signal.SIGPIPE, signal.SIG_DFL)
+    sys.exit(main())

@@ -1,0 +1,50 @@
+#!/usr/bin/env python3
+"""Lists the functions of a crate whose proofs took longest, in seconds, the dearest first.
+
+usage: proof_times.py CRATE [COUNT]
+
+It goes by when the last check wrote which file of the crate's out/incremental. So that check is to
+be one from nothing, by one job: remove that folder, and run `rt check --jobs 1` in the crate's.
+Over kept work a proof shows a part of what it costs. After a function's seconds come those of its
+parts: Lts is the model of its steps, Tie and Proof are where goals are searched for, Kinds is
+mostly what is loaded. The first function that needs a library pays for loading it.
+"""
+import collections
+import pathlib
+import re
+import sys
+
+ROOT = pathlib.Path(__file__).resolve().parent.parent
+PARTS = (
+    "Answers Carried Code Given Goals Instances Invariants Key Kinds Layout Lts Met Named Proof "
+    "Reads Statement TheLaws TheLink Tie View"
+).split()
+PROOF = re.compile(rf"\w+-proofs\.(.*?)\.({'|'.join(PARTS)})\b")
+
+
+def place_of(file):
+    """Returns the function that a file belongs to, and the part of its proof."""
+    name = re.sub(r"^Rattle-|\.decls|\.oantt$", "", file)
+    found = PROOF.match(name)
+    return found.groups() if found else (name.partition("-")[2] or name, "other")
+
+
+def main():
+    folder = ROOT / "crates" / sys.argv[1] / "out" / "incremental"
+    files = sorted((it.stat().st_mtime, it.name) for it in folder.rglob("*.oantt"))
+    if not files:
+        sys.exit(f"{folder} has no work of a check")
+    parts = collections.defaultdict(collections.Counter)
+    before = files[0][0]
+    for written, name in files:
+        function, part = place_of(name)
+        parts[function][part] += written - before
+        before = written
+    dearest = sorted(parts, key=lambda it: -parts[it].total())
+    for function in dearest[: int(sys.argv[2]) if len(sys.argv) > 2 else 25]:
+        most = (f"{part} {seconds:.1f}" for part, seconds in parts[function].most_common(4))
+        print(f"{parts[function].total():6.1f}  {function}  ({', '.join(most)})")
+    print(f"{before - files[0][0]:6.1f}  in all")
+
+
+main()

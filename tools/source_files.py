@@ -1,0 +1,220 @@
+"""Reads the files of the crates: what one of specs/ imports and defines, and what one of src/ uses and declares."""
+import collections
+import dataclasses
+import pathlib
+import re
+
+ROOT = pathlib.Path(__file__).resolve().parent.parent
+
+WORD = r"[^\W\d](?:[\w']|-(?=[^\W\d]))*"
+DECLARATION = re.compile(
+    rf"(?:abbrev |unfoldable )*(?:pub )?(?:abbrev )?(?:(record|data) )?(◌\S+◌|«\w+»|{WORD}) *[:({{]")
+ITEM = re.compile(
+    r"^(?P<indent> *)(?P<pub>pub(?:\([^)]*\))? )?(?:const (?=fn|unsafe)|unsafe |extern +)*"
+    r"(?P<kind>fn|struct|enum|trait|const|static|impl|mod)\b *(?P<name>\w*)", re.MULTILINE)
+CLAUSE = re.compile(r"(requires|ensures)\*?( +\w+)? *$|ghost \w+: *$")
+
+
+def blanked(text, comment):
+    """The text with its comments and the texts between quotes as blanks, each as long as before."""
+    def blank(found):
+        return re.sub(r"[^\n]", " ", found[0])
+
+    return re.sub(rf'{comment}[^\n]*|"(?:\\.|[^"\\])*"|b?\'(?:\\.|[^\\\'\n])\'', blank, text)
+
+
+def end_of_group(code, at):
+    """The place after the bracket that closes the one at this place."""
+    depth = 0
+    for place in range(at, len(code)):
+        depth += (code[place] in "({[") - (code[place] in ")}]")
+        if depth == 0:
+            return place + 1
+    return len(code)
+
+
+def chunks(text):
+    """The top-level parts of a file of specs/: the line, the comment in front of it, and its lines."""
+    comment, current = [], None
+    for number, line in enumerate(text.splitlines(), 1):
+        if not line.strip():
+            comment = []
+        elif line.startswith("--"):
+            comment.append(line)
+        elif line[0] in " })]":
+            current[2].append(line)
+        else:
+            current = (number, comment, [line])
+            comment = []
+            yield current
+
+
+class Spec:
+    """A file of specs/: its imports and its definitions."""
+
+    def __init__(self, path):
+        self.path, (self.crate, *inner) = path, path.relative_to(ROOT / "crates").with_suffix("").parts
+        self.module = ".".join(inner)
+        self.imports, self.parts, self.constructors = [], collections.OrderedDict(), {}
+        text = path.read_text()
+        self.head = re.match(r"(?:--[^\n]*\n)*", text)[0].strip()
+        for number, comment, lines in list(chunks(text)):
+            self.add(number, comment, lines)
+
+    def add(self, number, comment, lines):
+        joined = "\n".join(lines)
+        if joined.startswith("use "):
+            self.imports.append(joined)
+            return
+        found = DECLARATION.match(joined)
+        first = re.match(WORD, joined)
+        if first and first[0] in self.parts:
+            self.parts[first[0]][2].append((comment, joined))
+        elif found and not joined.startswith(("infix", "unfolding", "pub mod")):
+            name = found[2].strip("«»")
+            self.parts[name] = (number, found[1] or "definition", [(comment, joined)])
+            if found[1] == "data":
+                for ctor in re.findall(rf"^  ({WORD}) :", joined, re.MULTILINE):
+                    self.constructors[ctor] = name
+        elif not joined.startswith("infix"):
+            if not self.parts:
+                raise LookupError(f"{self.path.relative_to(ROOT)}:{number}: no definition is before {lines[0]}")
+            # an `unfolding` line, or the equation of an operator
+            next(reversed(self.parts.values()))[2].append((comment, joined))
+
+    def key(self, name):
+        return (self.crate, self.module, name)
+
+    def names(self):
+        """The names that other files can import, with what they are a use of."""
+        found = {name: self.key(name) for name in self.parts}
+        found.update({ctor: (*self.key(name), ctor) for ctor, name in self.constructors.items()})
+        return found
+
+
+def imports_of(line, module_of):
+    """Yields the names that a `use` line brings in, by what they stand for."""
+    found = re.match(r"\s*(?:ghost )?use ([\w.]+?)(?:\.\{(.*)\}|( as (\w+))?);?$", line.replace("\n", " "))
+    path, names, alias = found[1], found[2], found[4]
+    names_there = module_of(path)
+    if names_there is None:
+        return
+    if names is None:
+        yield alias or path.split(".")[-1], names_there
+        return
+    for name in filter(None, (name.strip() for name in names.split(","))):
+        name, _, other = name.partition(" as ")
+        target = names_there.get(name.strip("«»"), names_there.get(""))
+        if target is None:
+            raise LookupError(f"{path} has no {name}")
+        yield (other or name).strip("◌«»"), target
+
+
+def without_attributes(text):
+    return "\n".join(line for line in text.split("\n") if not re.match(r"\s*#\[", line))
+
+
+def use_tree(text):
+    """Yields the paths of a Rust `use`, each with the name that it brings in."""
+    text = re.sub(r"\s+", " ", text).strip()
+    found = re.match(r"(.*?)\{(.*)\}$", text)
+    if not found:
+        path, _, alias = text.partition(" as ")
+        yield path.split("::"), alias or path.split("::")[-1]
+        return
+    depth, part = 0, ""
+    for sign in found[2] + ",":
+        depth += (sign == "{") - (sign == "}")
+        if sign == "," and depth == 0:
+            if part.strip():
+                yield from use_tree(found[1] + part.strip())
+            part = ""
+        else:
+            part += sign
+
+
+def header_end(code, at):
+    """The place of the brace or semicolon after a function's signature and clauses."""
+    start = at
+    while at < len(code):
+        if code[at] in "([" or code[at] == "{" and CLAUSE.search(code[start:at]):
+            at = start = end_of_group(code, at)
+        elif code[at] in "{;":
+            return at
+        else:
+            at += 1
+    return at
+
+
+def doc_start(text, at):
+    """Where the comment and the attributes in front of a place begin."""
+    while at > 0:
+        before = text.rfind("\n", 0, at - 1) + 1
+        line = text[before:at].strip()
+        if not line.startswith(("///", "#[")) and not (line.startswith("//") and not line.startswith("//!")):
+            break
+        at = before
+    return at
+
+
+def dedent(text):
+    lines = text.strip("\n").split("\n")
+    width = min((len(line) - len(line.lstrip()) for line in lines if line.strip()), default=0)
+    return "\n".join(line[width:] for line in lines)
+
+
+@dataclasses.dataclass
+class Block:
+    """An item of a file of src/ at its place: what is in front of its body, and its body."""
+
+    kind: str
+    name: str
+    is_public: bool
+    start: int
+    head: int
+    end_of_head: int
+    end: int
+
+
+class Source:
+    """A file of src/: its items and its uses."""
+
+    def __init__(self, path, crate, module):
+        self.path, self.crate, self.module = path, crate, module
+        self.text = path.read_text()
+        self.code = blanked(self.text, "//")
+        self.blocks = list(self.blocks_in(0, len(self.code), ""))
+        self.types = {it.name: it for it in self.blocks if it.kind in ("struct", "enum", "trait", "const", "static")}
+        self.uses = {}
+        for found in re.finditer(r"^ *(pub(?:\([^)]*\))? )?use ([^;]+);", self.code, re.MULTILINE):
+            for path, name in use_tree(found[2]):
+                self.uses[name] = (path, found[1] == "pub ")
+
+    def blocks_in(self, start, end, indent):
+        """Yields the items that stand between two places at this indentation."""
+        at = start
+        while found := ITEM.search(self.code, at, end):
+            at = found.end()
+            if found["indent"] != indent or found["kind"] == "const" and found["name"] == "_":
+                continue
+            stop = header_end(self.code, found.end())
+            last = end_of_group(self.code, stop) if self.code[stop : stop + 1] == "{" else stop + 1
+            start = doc_start(self.text, found.start())
+            head = found.start() + len(indent)
+            yield Block(found["kind"], found["name"], found["pub"] == "pub ", start, head, stop, last)
+            at = last
+
+    def key(self, name):
+        return (self.crate, f"src.{self.module}" if self.module else "src", name)
+
+    def line(self, place):
+        return self.text.count("\n", 0, place) + 1
+
+    def cut(self, start, end):
+        return dedent(without_attributes(self.text[start:end]))
+
+    def variants(self, block):
+        """The variants of an enum, each with its place, to the next one."""
+        inside = self.code[block.end_of_head + 1 : block.end - 1]
+        places = [it.start(1) + block.end_of_head + 1 for it in re.finditer(r"^    ([A-Z]\w*)", inside, re.MULTILINE)]
+        return [(re.match(r"\w+", self.code[place:])[0], place) for place in places]
