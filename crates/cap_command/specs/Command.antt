@@ -62,18 +62,18 @@ is_proper_edit edit =
     && (is_proper_shift edit.shift && option_map_or is_window edit.window true))))
 
 -- words and a listing exclude each other
-abbrev pub has_one_filter : {X : Type 0} → List ℕ → Option X → Bool
-has_one_filter words code = nat_eq (length words) 0 || is_none code
+abbrev pub has_at_most_one_filter : {X : Type 0} → List ℕ → Option X → Bool
+has_at_most_one_filter words code = nat_eq (length words) 0 || is_none code
 
 -- where the packets themselves are written there are no lines, to which link headers or bytes could
 -- be added
-abbrev pub has_one_output : {X : Type 0} → (link bytes : Bool) → Option X → Bool
-has_one_output link bytes write = is_none write || not (link || bytes)
+abbrev pub has_at_most_one_output : {X : Type 0} → (link bytes : Bool) → Option X → Bool
+has_at_most_one_output link bytes write = is_none write || not (link || bytes)
 
 abbrev pub is_proper_print : {Z : Type 0} → Print Z → Bool
 is_proper_print print =
-    has_one_filter (string_bytes print.expr) print.code
-    && (has_one_output print.link print.bytes print.write
+    has_at_most_one_filter (string_bytes print.expr) print.code
+    && (has_at_most_one_output print.link print.bytes print.write
     && option_map_or is_at_least_one print.count true)
 
 -- what a command and the number of its inputs keep

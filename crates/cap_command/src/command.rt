@@ -4,8 +4,8 @@ ghost use Rattle.std.specs.List.{list_all};
 ghost use Rattle.std.specs.Option.{option_map_or};
 ghost use Rattle.cap_command.specs.Command.{is_proper, is_input_count, is_range, is_time};
 ghost use Rattle.cap_command.specs.Command.{is_at_least_one, is_window, is_proper_shift};
-ghost use Rattle.cap_command.specs.Command.{is_proper_edit, is_proper_print, has_one_filter};
-ghost use Rattle.cap_command.specs.Command.{has_one_output, has_proper_ranges};
+ghost use Rattle.cap_command.specs.Command.{is_proper_edit, is_proper_print, has_at_most_one_filter};
+ghost use Rattle.cap_command.specs.Command.{has_at_most_one_output, has_proper_ranges};
 ghost use Rattle.cap_command.specs.Selection.{is_named, is_kept};
 
 use cap_octet::date::TIME_END;
@@ -247,17 +247,17 @@ impl<A: Allocator> Print<A> {
     fn is_proper(&self) -> bool
         ensures { result ≡ is_proper_print self.now }
     {
-        self.has_one_filter() && self.has_one_output() && allows_count(self.count)
+        self.has_at_most_one_filter() && self.has_at_most_one_output() && allows_count(self.count)
     }
 
-    fn has_one_output(&self) -> bool
-        ensures { result ≡ has_one_output self.now.link self.now.bytes self.now.write }
+    fn has_at_most_one_output(&self) -> bool
+        ensures { result ≡ has_at_most_one_output self.now.link self.now.bytes self.now.write }
     {
         self.write.is_none() || !(self.link || self.bytes)
     }
 
-    fn has_one_filter(&self) -> bool
-        ensures { result ≡ has_one_filter (string_bytes self.now.expr) self.now.code }
+    fn has_at_most_one_filter(&self) -> bool
+        ensures { result ≡ has_at_most_one_filter (string_bytes self.now.expr) self.now.code }
     {
         self.expr.is_empty() || self.code.is_none()
     }

@@ -40,8 +40,9 @@ pub(crate) fn read_header<I: Input>(input: &mut I, first: &[u8; 4]) -> Result<He
     read_head(&bytes)
 }
 
-/// Takes the next record to the start of the buffer, where the device has all of it at hand, the
-/// buffer has room for it, and it fails no check.
+/// The fast way of `next_record`: copies the next record to the start of the buffer if the device has
+/// all of it at hand, the buffer has room for it, and it fails no check. `None` if not: the device is
+/// as before, the buffer may have changed.
 #[inline(always)]
 pub(crate) fn take_record<I: Input>(
     input: &mut I,

@@ -39,33 +39,33 @@ runs_alike small i = operation_alike (operation_of i.code) i.k small
 
 -- of the places behind an instruction, whether the n-th may read a word first; past the last one
 -- none does
-abbrev pub wanted_at : List Bool → ℕ → Bool
-wanted_at behind n = slice_index_or behind n false
+abbrev pub is_live_at : List Bool → ℕ → Bool
+is_live_at behind n = slice_index_or behind n false
 
 -- whether a run may read M[w] before it writes it, from an instruction on, by its operation and by
 -- what holds of the places after it
 abbrev pub operation_wants : Option Operation → ℕ → Insn → List Bool → Bool
-operation_wants (Some (Load register Memory)) w i behind = (i.k == w) || wanted_at behind 0
-operation_wants (Some (Store register)) w i behind = not (i.k == w) && wanted_at behind 0
-operation_wants (Some Jump) w i behind = wanted_at behind i.k
+operation_wants (Some (Load register Memory)) w i behind = (i.k == w) || is_live_at behind 0
+operation_wants (Some (Store register)) w i behind = not (i.k == w) && is_live_at behind 0
+operation_wants (Some Jump) w i behind = is_live_at behind i.k
 operation_wants (Some (JumpIf test operand)) w i behind =
-    wanted_at behind i.jt || wanted_at behind i.jf
+    is_live_at behind i.jt || is_live_at behind i.jf
 operation_wants (Some ReturnConstant) w i behind = false
 operation_wants (Some ReturnAccumulator) w i behind = false
-operation_wants _ w i behind = wanted_at behind 0
+operation_wants _ w i behind = is_live_at behind 0
 
-abbrev pub wants : ℕ → Insn → List Bool → Bool
-wants w i behind = operation_wants (operation_of i.code) w i behind
+abbrev pub is_live_before : ℕ → Insn → List Bool → Bool
+is_live_before w i behind = operation_wants (operation_of i.code) w i behind
 
 -- the same of each place of a program
-abbrev pub words_wanted : ℕ → List Insn → List Bool
-words_wanted w [] = []
-words_wanted w (i ∷ is) = wants w i (words_wanted w is) ∷ words_wanted w is
+abbrev pub live_places : ℕ → List Insn → List Bool
+live_places w [] = []
+live_places w (i ∷ is) = is_live_before w i (live_places w is) ∷ live_places w is
 
 -- of the first n words none is read before it is written
-abbrev pub writes_first : ℕ → List Insn → Bool
-writes_first zero insns = true
-writes_first (suc n) insns = writes_first n insns && not (wanted_at (words_wanted n insns) 0)
+abbrev pub none_read_unwritten : ℕ → List Insn → Bool
+none_read_unwritten zero insns = true
+none_read_unwritten (suc n) insns = none_read_unwritten n insns && not (is_live_at (live_places n insns) 0)
 
 -- how many instructions Linux attaches to a socket at most
 abbrev pub most_attached : ℕ
@@ -74,5 +74,5 @@ most_attached = 4096
 abbrev pub is_portable : List Insn → ℕ
 is_portable insns =
     if nat_le (length insns) most_attached
-    && (list_all (runs_alike (list_all keeps_x_small insns)) insns && writes_first WORDS insns)
+    && (list_all (runs_alike (list_all keeps_x_small insns)) insns && none_read_unwritten WORDS insns)
     then 1 else 0

@@ -1,8 +1,8 @@
 //! Whether a program gives the same answers on libpcap's machine and on Linux's.
 ghost use Rattle.std.specs.Prelude.{◌≡◌, ◌≤◌, length};
 ghost use Rattle.std.specs.List.{list_all};
-ghost use Rattle.cap_library.specs.Portable.{is_portable, keeps_x_small, runs_alike, words_wanted};
-ghost use Rattle.cap_library.specs.Portable.{wanted_at, wants, writes_first};
+ghost use Rattle.cap_library.specs.Portable.{is_portable, keeps_x_small, runs_alike, live_places};
+ghost use Rattle.cap_library.specs.Portable.{is_live_at, is_live_before, none_read_unwritten};
 
 use flt_bpf::Insn;
 use flt_bpf::operation::{AluOperation, Operand, Operation, Register, Source, decode};
@@ -43,21 +43,21 @@ fn runs_alike(insn: &Insn, small: bool) -> bool
     }
 }
 
-fn keep_x_small(insns: &[Insn]) -> bool
+fn all_keep_x_small(insns: &[Insn]) -> bool
     ensures { result ≡ list_all keeps_x_small insns.now }
 {
     insns.iter().all(|insn| keeps_x_small(insn))
 }
 
-fn run_alike(insns: &[Insn], small: bool) -> bool
+fn all_run_alike(insns: &[Insn], small: bool) -> bool
     ensures { result ≡ list_all (runs_alike small) insns.now }
 {
     insns.iter().all(|insn| runs_alike(insn, small))
 }
 
 /// What is noted of the place after this number of others; `false` past the last one.
-fn wanted_at(behind: &[bool], place: usize) -> bool
-    ensures { result ≡ wanted_at behind.now place }
+fn is_live_at(behind: &[bool], place: usize) -> bool
+    ensures { result ≡ is_live_at behind.now place }
 {
     match behind.get(place) {
         Some(is_wanted) => *is_wanted,
@@ -67,53 +67,53 @@ fn wanted_at(behind: &[bool], place: usize) -> bool
 
 /// Whether a run may read a word of memory before it writes it, from an instruction on, by what
 /// holds of the places behind it.
-fn wants(insn: &Insn, word: u32, behind: &[bool]) -> bool
-    ensures { result ≡ wants word insn.now behind.now }
+fn is_live_before(insn: &Insn, word: u32, behind: &[bool]) -> bool
+    ensures { result ≡ is_live_before word insn.now behind.now }
 {
     match decode(insn.code) {
-        Some(Operation::Load(_, Source::Memory)) => insn.k == word || wanted_at(behind, 0),
-        Some(Operation::Store(_)) => insn.k != word && wanted_at(behind, 0),
-        Some(Operation::Jump) => wanted_at(behind, insn.k as usize),
+        Some(Operation::Load(_, Source::Memory)) => insn.k == word || is_live_at(behind, 0),
+        Some(Operation::Store(_)) => insn.k != word && is_live_at(behind, 0),
+        Some(Operation::Jump) => is_live_at(behind, insn.k as usize),
         Some(Operation::JumpIf(_, _)) => {
-            wanted_at(behind, insn.jt as usize) || wanted_at(behind, insn.jf as usize)
+            is_live_at(behind, insn.jt as usize) || is_live_at(behind, insn.jf as usize)
         }
         Some(Operation::ReturnConstant | Operation::ReturnAccumulator) => false,
-        _ => wanted_at(behind, 0),
+        _ => is_live_at(behind, 0),
     }
 }
 
 /// Notes of each place whether a run from there on may read a word of memory before it writes it.
-fn mark_wanted(insns: &[Insn], word: u32, marks: &mut [bool])
+fn mark_live(insns: &[Insn], word: u32, marks: &mut [bool])
     requires { length marks.old ≡ length insns.now }
-    ensures { marks.new ≡ words_wanted word insns.now }
+    ensures { marks.new ≡ live_places word insns.now }
 {
     let mut place = insns.len();
     while place > 0 {
         place -= 1;
-        let is_wanted = wants(&insns[place], word, &marks[place + 1..]);
+        let is_wanted = is_live_before(&insns[place], word, &marks[place + 1..]);
         marks[place] = is_wanted;
     }
 }
 
 /// Whether a run may read a word of memory before it writes it. libpcap finds there what lay in its
 /// memory, and Linux refuses the program.
-fn reads_first(insns: &[Insn], word: u32) -> bool
+fn may_read_unwritten(insns: &[Insn], word: u32) -> bool
     requires { length insns.now ≤ MOST_ATTACHED }
-    ensures { result ≡ wanted_at (words_wanted word insns.now) 0 }
+    ensures { result ≡ is_live_at (live_places word insns.now) 0 }
 {
     let mut marks = [false; MOST_ATTACHED];
     let marks = &mut marks[..insns.len()];
-    mark_wanted(insns, word, marks);
-    wanted_at(marks, 0)
+    mark_live(insns, word, marks);
+    is_live_at(marks, 0)
 }
 
-fn write_first(insns: &[Insn]) -> bool
+fn no_word_read_unwritten(insns: &[Insn]) -> bool
     requires { length insns.now ≤ MOST_ATTACHED }
-    ensures { result ≡ writes_first WORDS insns.now }
+    ensures { result ≡ none_read_unwritten WORDS insns.now }
 {
     let mut all = true;
     for word in 0..WORDS {
-        all = all && !reads_first(insns, word);
+        all = all && !may_read_unwritten(insns, word);
     }
     all
 }
@@ -124,7 +124,7 @@ fn write_first(insns: &[Insn]) -> bool
 pub extern "C" fn capkit_is_portable(insns: &[Insn]) -> u32
     ensures { result ≡ is_portable insns.now }
 {
-    if insns.len() <= MOST_ATTACHED && run_alike(insns, keep_x_small(insns)) && write_first(insns) {
+    if insns.len() <= MOST_ATTACHED && all_run_alike(insns, all_keep_x_small(insns)) && no_word_read_unwritten(insns) {
         1
     } else {
         0

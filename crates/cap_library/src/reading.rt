@@ -68,8 +68,9 @@ pub extern "C" fn capkit_next(
     found_number(next_unit(reader, interfaces, capture, packet))
 }
 
-/// Puts the comment of a packet that was found last into a buffer, and gives its length; 0 where
-/// there is none.
+/// Puts the comment of the packet that this reader found last into a buffer, and gives its length; 0
+/// if it has none. It needs the byte order alone, so the clauses hold whatever the table of interfaces
+/// is.
 #[unsafe(no_mangle)]
 pub extern "C" fn capkit_comment(
     reader: &Reader,

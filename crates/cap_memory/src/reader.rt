@@ -258,7 +258,8 @@ fn part_of(text: &[u8], at: usize, length: u32) -> &[u8]
     &rest[..rest.len().min(length as usize)]
 }
 
-/// The comment of a packet that was found last, by its reader; empty where there is none.
+/// The comment of the packet that this reader found last; empty if it has none. It needs the byte
+/// order alone, so the clauses hold whatever the table of interfaces is.
 pub fn comment_of<'a>(reader: &Reader, capture: &'a [u8], packet: &Packet) -> &'a [u8]
     ensures { (table : List Interface) → result.now ≡ comment_by (declared_in reader.now table)
         (take packet.now.options_length (drop packet.now.options_at capture.now)) }

@@ -30,7 +30,7 @@ fn write_fault<'a, O: Output>(
 }
 
 /// Reports a fault at an offset, in bytes, of the input of this name.
-pub fn tell_fault<O: Output>(
+pub fn report_fault<O: Output>(
     output: &mut O,
     name: &str,
     offset: u64,
@@ -46,7 +46,7 @@ pub fn tell_fault<O: Output>(
 }
 
 /// Reports that the device of the output of this name failed.
-pub fn tell_write_failed<O: Output>(output: &mut O, name: &str) -> Result<(), DeviceFault>
+pub fn report_write_failed<O: Output>(output: &mut O, name: &str) -> Result<(), DeviceFault>
     ensures exact { IsTrue O.tells → AppendsOrStops result (O.written output.old)
         (write_failed_message name.now) (O.written output.new) }
     ensures failed { O.failures output.new ≡ O.failures output.old + failures_of result }
@@ -56,7 +56,7 @@ pub fn tell_write_failed<O: Output>(output: &mut O, name: &str) -> Result<(), De
 }
 
 /// Reports that there was no memory, where there was no current packet or block.
-pub fn tell_no_memory<O: Output>(output: &mut O) -> Result<(), DeviceFault>
+pub fn report_no_memory<O: Output>(output: &mut O) -> Result<(), DeviceFault>
     ensures exact { IsTrue O.tells → AppendsOrStops result (O.written output.old) no_memory_message
         (O.written output.new) }
     ensures failed { O.failures output.new ≡ O.failures output.old + failures_of result }
@@ -83,7 +83,7 @@ fn write_refusal<'a, O: Output>(
 }
 
 /// Reports why an expression was refused.
-fn tell_expression<O: Output>(output: &mut O, fault: ExprFault) -> Result<(), DeviceFault>
+fn report_expression<O: Output>(output: &mut O, fault: ExprFault) -> Result<(), DeviceFault>
     ensures exact { IsTrue O.tells → AppendsOrStops result (O.written output.old)
         (expression_message (message_of fault)) (O.written output.new) }
     ensures failed { O.failures output.new ≡ O.failures output.old + failures_of result }
@@ -100,7 +100,7 @@ fn tell_expression<O: Output>(output: &mut O, fault: ExprFault) -> Result<(), De
 }
 
 /// Reports why a text is no listing.
-fn tell_listing<O: Output>(output: &mut O, fault: ListingFault) -> Result<(), DeviceFault>
+fn report_listing<O: Output>(output: &mut O, fault: ListingFault) -> Result<(), DeviceFault>
     ensures exact { IsTrue O.tells → AppendsOrStops result (O.written output.old)
         (code_message (listing_message fault)) (O.written output.new) }
     ensures failed { O.failures output.new ≡ O.failures output.old + failures_of result }
@@ -117,7 +117,7 @@ fn tell_listing<O: Output>(output: &mut O, fault: ListingFault) -> Result<(), De
 }
 
 /// Reports which rule instructions break, and where.
-fn tell_check<O: Output>(output: &mut O, fault: CheckFault, at: usize) -> Result<(), DeviceFault>
+fn report_check<O: Output>(output: &mut O, fault: CheckFault, at: usize) -> Result<(), DeviceFault>
     ensures exact { IsTrue O.tells → AppendsOrStops result (O.written output.old)
         (code_message (check_message fault at)) (O.written output.new) }
     ensures failed { O.failures output.new ≡ O.failures output.old + failures_of result }
@@ -133,17 +133,17 @@ fn tell_check<O: Output>(output: &mut O, fault: CheckFault, at: usize) -> Result
 }
 
 /// Reports why a filter was refused.
-pub fn tell_refusal<O: Output>(output: &mut O, refusal: Refusal) -> Result<(), DeviceFault>
+pub fn report_refusal<O: Output>(output: &mut O, refusal: Refusal) -> Result<(), DeviceFault>
     ensures exact { IsTrue O.tells → AppendsOrStops result (O.written output.old)
         (refusal_message refusal) (O.written output.new) }
     ensures failed { O.failures output.new ≡ O.failures output.old + failures_of result }
 {
     match refusal {
         Refusal::Expression(ExprFault::Memory) | Refusal::Listing(ListingFault::Memory) => {
-            tell_no_memory(output)
+            report_no_memory(output)
         }
-        Refusal::Expression(fault) => tell_expression(output, fault),
-        Refusal::Listing(fault) => tell_listing(output, fault),
-        Refusal::Program(fault, at) => tell_check(output, fault, at),
+        Refusal::Expression(fault) => report_expression(output, fault),
+        Refusal::Listing(fault) => report_listing(output, fault),
+        Refusal::Program(fault, at) => report_check(output, fault, at),
     }
 }

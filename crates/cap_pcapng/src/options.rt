@@ -11,7 +11,7 @@ const END: u16 = 0;
 const COMMENT: u16 = 1;
 
 /// The options of a block, in order, up to code 0 or the end of their bytes. A value that doesn't
-/// fit in the bytes is fault 8, and nothing comes behind it (draft-ietf-opsawg-pcapng, "Options").
+/// fit in the bytes is `BadOption`, and nothing follows it (draft-ietf-opsawg-pcapng, "Options").
 #[derive(Clone, Copy)]
 pub struct Options<'a> {
     /// The byte order of the block.

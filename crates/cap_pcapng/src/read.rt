@@ -55,7 +55,7 @@ pub fn frame(section: Option<Order>, bytes: &[u8; 12]) -> Result<Frame, Fault>
     })
 }
 
-/// Reads the body of a block, or tells the first check that it fails.
+/// Reads the body of a block, or returns the first check that fails.
 fn body_of<'a>(frame: &Frame, body: &'a [u8]) -> Result<Block<'a>, Fault>
     ensures parts { ChecksGive (body_checks frame.now.block_type frame.now.order body.now
         ++ option_checks (parts_in_body frame.now.block_type frame.now.order body.now)) result
@@ -72,11 +72,16 @@ fn body_of<'a>(frame: &Frame, body: &'a [u8]) -> Result<Block<'a>, Fault>
     }
 }
 
-/// Reads the block of this frame at the start of bytes; or tells the first check that it fails:
-/// there is no room for its head and its end, some of its bytes aren't there, its two total lengths
-/// differ, an obsolete packet block, a body that is too short for its type, a section header of
-/// another version than 1.0 and 1.2, an option of an interface. The checks that need the interfaces
-/// before it are its caller's.
+/// Reads the block with this frame at the start of `bytes`, or returns the first check that fails:
+///
+/// - `BadBlockLength`: a length below 12, or its two total lengths differ
+/// - `Truncated`: `bytes` end before the block does
+/// - `ObsoletePacketBlock`
+/// - `BadBody`: too short for its type
+/// - `BadVersion`: a section of another version than 1.0 and 1.2
+/// - an option of an interface: as `Interface` lists them
+///
+/// The caller makes the checks that need the interfaces of its section.
 pub fn block<'a>(frame: &Frame, bytes: &'a [u8]) -> Result<Block<'a>, Fault>
     ensures parts { IfOk result (λ block. parts_of block ≡ parts_in frame.now bytes.now) }
     ensures described { IfOk result IsDescribedIfAny }

@@ -3,7 +3,7 @@ use Rattle.std.proofs.Common.{◌≡◌, ℕ, zero, suc, Bool, true, false, ◌&
 use Rattle.std.proofs.lemmas.Bool.{lt-ltb}
 use Rattle.std.specs.Global.{Global, Vec}
 use Rattle.std.specs.Option.{option_map_or}
-use Rattle.cap_command.specs.Command.{is_proper, has_one_filter, has_one_output, is_at_least_one}
+use Rattle.cap_command.specs.Command.{is_proper, has_at_most_one_filter, has_at_most_one_output, is_at_least_one}
 use Rattle.cap_command.specs.declared.command.Command.{Command}
 use Rattle.cap_command.specs.declared.command.Command.TheVariants as command
 use Rattle.capkit.specs.Line.{has_expression, with_code}
@@ -22,7 +22,7 @@ both false b is = (cc)
 -- a proper command without words is proper with a listing too
 pub listed : (c : Command Global) (bytes : Vec ℕ) (inputs : ℕ) → (is_proper c inputs && not (has_expression c)) ≡ true → is_proper (with_code c bytes) inputs ≡ true
 listed (command.Print print) bytes inputs is =
-    no-words (nat_eq inputs 1) (has_one_filter (string_bytes print.expr) print.code) (has_one_output print.link print.bytes print.write && option_map_or is_at_least_one print.count true) (length (string_bytes print.expr)) is
+    no-words (nat_eq inputs 1) (has_at_most_one_filter (string_bytes print.expr) print.code) (has_at_most_one_output print.link print.bytes print.write && option_map_or is_at_least_one print.count true) (length (string_bytes print.expr)) is
 listed (command.Edit edit) bytes inputs is = both _ _ is
 listed (command.Merge merge) bytes inputs is = both _ _ is
 listed command.Infos bytes inputs is = both _ _ is

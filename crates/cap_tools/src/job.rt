@@ -21,7 +21,7 @@ use cap_filter::filter::Filter;
 use cap_filter::refusal::Refusal;
 use cap_inputs::{InputCursor, Inputs, Next};
 use cap_octet::{Input, Output};
-use cap_packets::message::tell_no_memory;
+use cap_packets::message::report_no_memory;
 use cap_packets::{JobOutput, Selector};
 use flt_bpf::Program;
 use std::alloc::Allocator;
@@ -495,7 +495,7 @@ where
     let mut job = match Job::new(alloc, command, names, inputs, out, err) {
         Ok(job) => job,
         Err((out, mut err)) => {
-            let _ = tell_no_memory(&mut err);
+            let _ = report_no_memory(&mut err);
             return (1, out, err);
         }
     };

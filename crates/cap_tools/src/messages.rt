@@ -9,7 +9,7 @@ use crate::step::JobEnd;
 use cap_filter::refusal::Refusal;
 use cap_inputs::Inputs;
 use cap_octet::{DeviceFault, Input, Output};
-use cap_packets::message::{tell_fault, tell_refusal, tell_write_failed};
+use cap_packets::message::{report_fault, report_refusal, report_write_failed};
 use std::alloc::Allocator;
 use std::marker::Model;
 
@@ -79,7 +79,7 @@ impl<E: Output, A: Allocator> Messages<E, A> {
             self.new.device }
         ensures names { self.new.names ≡ self.old.names }
     {
-        let _ = tell_refusal(&mut self.device, refusal);
+        let _ = report_refusal(&mut self.device, refusal);
     }
 
     /// The device, as it stands.
@@ -108,9 +108,9 @@ fn tell<I: Input, E: Output, A: Allocator + Copy + Drop>(
     match end {
         JobEnd::Complete => Ok(()),
         JobEnd::FaultIn(input, fault) => {
-            tell_fault(device, name_of(names, input), inputs.offset(input), fault)
+            report_fault(device, name_of(names, input), inputs.offset(input), fault)
         }
-        JobEnd::OutputFailed => tell_write_failed(device, name_of(names, inputs.count())),
+        JobEnd::OutputFailed => report_write_failed(device, name_of(names, inputs.count())),
     }
 }
 

@@ -6,7 +6,7 @@ use Rattle.std.specs.List.{join_by}
 use Rattle.std.specs.Option.{option_map_or}
 use Rattle.std.proofs.lemmas.Bool.{and_from, eq-eqb, lt-ltb}
 use Rattle.cap_octet.specs.declared.format.Format.{Format}
-use Rattle.cap_command.specs.Command.{has_one_filter, has_one_output, is_at_least_one, is_proper}
+use Rattle.cap_command.specs.Command.{has_at_most_one_filter, has_at_most_one_output, is_at_least_one, is_proper}
 use Rattle.clap.specs.Words.{Row, Text, first_of}
 use Rattle.cap_arguments.specs.declared.ids.TheConstants as ids
 use Rattle.capkit.specs.Line.{IsPrintOf, flag_in, format_in, has_exclusion, has_expression, has_two_filters, has_two_outputs, is_ready, or_else, print_fault, texts_in}
@@ -39,9 +39,9 @@ one_filter (Some name) (Some code) (word ∷ words) expr named is none =
 
 -- beside a capture that is written no lines are asked for
 one_output : (output : Option Text) (format : Format) (write : Option Format) (link bytes : Bool) → write ≡ option_map (λ name. format) output
-    → (is_some output && (link || bytes)) ≡ false → has_one_output link bytes write ≡ true
-one_output None format write link bytes is none = ap (has_one_output link bytes) is
-one_output (Some name) format write link bytes is none = ap (has_one_output link bytes) is ∙ ap not none
+    → (is_some output && (link || bytes)) ≡ false → has_at_most_one_output link bytes write ≡ true
+one_output None format write link bytes is none = ap (has_at_most_one_output link bytes) is
+one_output (Some name) format write link bytes is none = ap (has_at_most_one_output link bytes) is ∙ ap not none
 
 pub ready : (matches : List Row) (line : Line) (is : IsPrintOf matches line) → print_fault matches ≡ None → vec_len line.inputs ≡ 1
     → option_map_or is_at_least_one is.print.count true ≡ true → is_ready line ≡ true
@@ -49,9 +49,9 @@ ready matches line is none one count =
     let print = is.print in
     let filters = neither (has_two_filters matches) _ (no_exclusion (has_exclusion matches) _ none) in
     let outputs = neither (has_two_outputs matches) _ filters.1 in
-    let unread : has_one_filter (string_bytes print.expr) print.code ≡ true =
-    ap (has_one_filter (string_bytes print.expr)) is.unread ∙ or_true (nat_eq (length (string_bytes print.expr)) 0) in
-    let output : has_one_output print.link print.bytes print.write ≡ true =
+    let unread : has_at_most_one_filter (string_bytes print.expr) print.code ≡ true =
+    ap (has_at_most_one_filter (string_bytes print.expr)) is.unread ∙ or_true (nat_eq (length (string_bytes print.expr)) 0) in
+    let output : has_at_most_one_output print.link print.bytes print.write ≡ true =
     one_output (first_of ids.OUT.now matches) (format_in ids.FORMAT.now matches) print.write print.link print.bytes is.write
     (ap (λ link. is_some (first_of ids.OUT.now matches) && (link || print.bytes)) is.link
     ∙ ap (λ bytes. is_some (first_of ids.OUT.now matches) && (flag_in ids.LINK_HEADER.now matches || bytes)) is.bytes ∙ outputs.0) in

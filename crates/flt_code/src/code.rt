@@ -28,8 +28,14 @@ pub enum Reach {
     BothFar,
 }
 
-/// The code from some place to the end. A place is named by the number of instructions from there
-/// on.
+/// The code from some place to the end, kept last instruction first. A place is the number of
+/// instructions from it to the end, which doesn't change when code is put in front:
+///
+///     place 3: jeq #80 ..     `top()`, the first instruction so far
+///     place 2: ret #262144
+///     place 1: ret #0
+///
+/// A jump that is put in front of place 3 skips 3 - `to` instructions to get to place `to`.
 #[derive(Drop)]
 pub struct Code<A: Allocator> {
     backwards: Vec<Insn, A>,
@@ -237,8 +243,9 @@ impl<A: Allocator> Code<A> {
         past_index(&self.backwards[..within], tested, place)
     }
 
-    /// Where a jump behind a test at a place goes, which is taken where a fact holds: its target
-    /// followed, and past a load of the header length that is in X already.
+    /// Where a test of the field at `tested` may jump instead of to `place`. Jumps on the way are
+    /// skipped, and so are tests that `own` (the outcome of this test) and `known` decide, and a load of
+    /// the header length that X holds already.
     #[tactic(auto, unfolding(crate::specs::Follow::target))]
     pub fn target(&self, known: Knowledge, tested: Offset, own: Fact, place: usize) -> usize
         ensures { result ≡ target self.now known tested own place }

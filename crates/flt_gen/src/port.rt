@@ -1,4 +1,6 @@
-//! The code of ports.
+//! The code of ports, which are tested layer by layer: the network header (`emit_ports_of_kind`), TCP
+//! or UDP (`emit_transport_ports`), that it is no later fragment (`emit_ports_in`), the ports
+//! (`emit_port_sides`).
 
 ghost use Rattle.std.specs.Prelude.{◌≡◌, ◌+◌, ◌*◌, length};
 ghost use Rattle.flt_code.specs.Emits.{HasRoom, EmitsFormula, EmitsBehind};

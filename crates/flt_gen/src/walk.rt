@@ -1,6 +1,15 @@
 //! The walk over an expression's nodes from the last to the first, which emits code in front of
 //! code. What comes later waits in lists, so that a long chain of operands needs no more of the
 //! processor's stack than a short one.
+//!
+//! `tcp and (host A or host B)` has the nodes `tcp`, A, B, `or`, `and`. From the last one on:
+//!
+//! - `and`: its left operand, `tcp`, waits in `truths` with the targets of the whole.
+//! - `or`: `pending` notes that its right operand is next.
+//! - B: as it follows `or`, it isn't emitted yet but put into `group`.
+//! - A: joins the group. One test for both is emitted, and `finish_truth` makes its entry the target
+//!   of `tcp` if that matches.
+//! - `tcp` is emitted. Nothing waits, so the program begins at its entry.
 
 ghost use Rattle.std.specs.Prelude.{◌≡◌, ◌+◌, ◌^◌, ◌<◌, ◌≤◌, true, length, OnOk, IfOk, reverse};
 ghost use Rattle.std.specs.Prelude.{if◌then◌else◌};
@@ -66,7 +75,8 @@ impl<A: Allocator> Model for Walk<A> {
 }
 
 impl<A: Allocator> Walk<A> {
-    /// A truth's code is emitted: the left operand that waits is next.
+    /// The code of a truth begins at `entry`: sets the targets of the left operand that waits, or the
+    /// program's start if none does.
     fn finish_truth(&mut self, entry: usize)
         ensures { self.new ≡ finish_truth (block self.old.code entry) self.old }
     {

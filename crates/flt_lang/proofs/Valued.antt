@@ -86,13 +86,13 @@ front (qualifiers no_protocol one_side k) w h = refl
 front (qualifiers no_protocol source_first k) w h = refl
 front (qualifiers no_protocol destination_first k) w h = refl
 
-begin_protocol : (p : Protocol) (ts : List TokenKind) (fs : List Frame) (d : List Node) → ends_protocol ts ≡ true → begin (token.Protocol p ∷ ts) fs d ≡ with_frames fs (primitive (token.Protocol p ∷ ts) d)
-begin_protocol p (token.OpenBracket ∷ ts) fs d h = cc
-begin_protocol p (token.Cast c ∷ ts) fs d h = cc
-begin_protocol p _ fs d h = refl
+begin_with_protocol : (p : Protocol) (ts : List TokenKind) (fs : List Frame) (d : List Node) → ends_protocol ts ≡ true → begin (token.Protocol p ∷ ts) fs d ≡ with_frames fs (primitive (token.Protocol p ∷ ts) d)
+begin_with_protocol p (token.OpenBracket ∷ ts) fs d h = cc
+begin_with_protocol p (token.Cast c ∷ ts) fs d h = cc
+begin_with_protocol p _ fs d h = refl
 
 begin_front : (ts : List TokenKind) (fs : List Frame) (d : List Node) → is_front ts ≡ true → begin ts fs d ≡ with_frames fs (primitive ts d)
-begin_front (token.Protocol p ∷ ts) fs d h = begin_protocol p ts fs d h
+begin_front (token.Protocol p ∷ ts) fs d h = begin_with_protocol p ts fs d h
 begin_front (token.Side s ∷ ts) fs d h = refl
 begin_front (token.ValueType k ∷ ts) fs d h = refl
 begin_front _ fs d h = cc

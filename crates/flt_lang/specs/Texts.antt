@@ -79,15 +79,15 @@ operator_sign operator.Remainder = codes "%"
 operator_sign operator.ExclusiveOr = codes "^"
 
 -- the number 1 has two names: the code of ICMP, directly behind `icmp[`, and else the FIN flag
-abbrev pub name_of_one : Behind → List ℕ
-name_of_one IcmpBracket = codes "icmpcode"
-name_of_one _ = codes "tcp-fin"
+abbrev pub name_of_number_one : Behind → List ℕ
+name_of_number_one IcmpBracket = codes "icmpcode"
+name_of_number_one _ = codes "tcp-fin"
 
 -- a number that has no name is written in decimal
 abbrev pub name_word : Behind → ℕ → List ℕ
 name_word behind n =
     if n == 0 then codes "icmptype" else
-    if n == 1 then name_of_one behind else
+    if n == 1 then name_of_number_one behind else
     if n == 2 then codes "tcp-syn" else
     if n == 4 then codes "tcp-rst" else
     if n == 8 then codes "tcp-push" else

@@ -330,7 +330,8 @@ impl<A: Allocator> Writer<A> {
         self.settle()
     }
 
-    /// An accessor: its place is written next.
+    /// An accessor, `protocol[index:size]`: writes `:size]`; the index is next, and `protocol[` waits
+    /// for it.
     fn write_load(&mut self, protocol: Protocol, size: u32) -> Result<(), AllocError>
         ensures { OnOk result (self.new ≡ write_node true (node.Load protocol size) self.old) }
     {

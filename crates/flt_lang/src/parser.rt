@@ -1,4 +1,4 @@
-//! The parser.
+//! Tokens become a tree: the loop over `Reader`, and what it refuses.
 
 ghost use Rattle.std.specs.Prelude.{◌≡◌, ◌↔◌, ◌⊎◌, Err, IfOk, IfErr};
 ghost use Rattle.flt_tree.specs.Tree.{Expression};

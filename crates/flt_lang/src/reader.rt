@@ -46,6 +46,8 @@ impl<A: Allocator> Model for Reader<A> {
     } };
 }
 
+// What a step has read is a pair: how many tokens after the first one, and the operand if it is
+// complete. If it isn't, a frame waits for the rest of it.
 impl<A: Allocator> Reader<A> {
     /// Nothing is read yet.
     pub fn new(alloc: A) -> Result<Self, AllocError>
@@ -138,7 +140,7 @@ impl<A: Allocator> Reader<A> {
         ensures err { IfErr result IsReadFault }
     {
         match first {
-            TokenKind::Protocol(protocol) => self.begin_protocol(protocol, tokens),
+            TokenKind::Protocol(protocol) => self.begin_with_protocol(protocol, tokens),
             TokenKind::Side(_) | TokenKind::ValueType(_) => self.put_truth(read_primitive(tokens)),
             TokenKind::Cast(cast) => self.put_truth(Some((Node::Cast(None, cast), 0))),
             TokenKind::Size(_) => self.put_truth(read_sized(tokens)),
@@ -197,8 +199,9 @@ impl<A: Allocator> Reader<A> {
         Ok((more, Some(Operand::Truth)))
     }
 
-    /// Reads an accessor up to its bracket, a cast, or another primitive that has a protocol first.
-    fn begin_protocol(
+    /// Reads an operand that begins with a protocol: an accessor as `tcp[` up to its bracket, a cast as
+    /// `ether broadcast`, or another primitive. `tokens` has the protocol first.
+    fn begin_with_protocol(
         &mut self,
         protocol: Protocol,
         tokens: &[Token],

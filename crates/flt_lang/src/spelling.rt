@@ -3,7 +3,7 @@
 ghost use Rattle.std.specs.Prelude.{◌≡◌, ◌<◌, ◌++◌, OnOk};
 ghost use Rattle.std.specs.String.{string_bytes};
 ghost use Rattle.flt_lang.specs.Texts.{protocol_word, join_word, side_word, type_word, size_word};
-ghost use Rattle.flt_lang.specs.Texts.{cast_word, comparison_sign, operator_sign, name_of_one};
+ghost use Rattle.flt_lang.specs.Texts.{cast_word, comparison_sign, operator_sign, name_of_number_one};
 ghost use Rattle.flt_lang.specs.Texts.{name_word, dotted_word, mac_word, ip6_word, octet};
 ghost use Rattle.flt_lang.specs.Texts.{hex_byte, bytes_text};
 ghost use Rattle.flt_lang.specs.Texts.{group_at, groups_text, spelling, next_behind};
@@ -118,8 +118,8 @@ fn operator_sign(operator: Operator) -> &'static str
     }
 }
 
-fn name_of_one(behind: Behind) -> &'static str
-    ensures { result.now ≡ name_of_one behind }
+fn name_of_number_one(behind: Behind) -> &'static str
+    ensures { result.now ≡ name_of_number_one behind }
 {
     match behind {
         Behind::IcmpBracket => "icmpcode",
@@ -138,7 +138,7 @@ fn push_name<A: Allocator>(
 {
     match number {
         0 => text.push_str("icmptype"),
-        1 => text.push_str(name_of_one(behind)),
+        1 => text.push_str(name_of_number_one(behind)),
         2 => text.push_str("tcp-syn"),
         4 => text.push_str("tcp-rst"),
         8 => text.push_str("tcp-push"),

@@ -63,7 +63,7 @@ fn dash_in(word: &[u8]) -> Option<usize>
 }
 
 /// Both answers: unknown where either is, and else too large where either is.
-fn both(
+fn both_numbers(
     first: Result<u32, WordFault>,
     last: Result<u32, WordFault>,
 ) -> Result<(u32, u32), WordFault>
@@ -82,7 +82,7 @@ pub(crate) fn range(word: &[u8]) -> Result<(u32, u32), WordFault>
         (λ range. is_word_sized range.0 && is_word_sized range.1) result }
 {
     match dash_in(word) {
-        Some(dash) => both(decimal(&word[..dash]), decimal(&word[dash + 1..])),
+        Some(dash) => both_numbers(decimal(&word[..dash]), decimal(&word[dash + 1..])),
         None => Err(WordFault::Unknown),
     }
 }

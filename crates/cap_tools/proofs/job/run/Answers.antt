@@ -39,10 +39,10 @@ returns-in-Done g c = record {
 
 pub returns-in-Err-clause-exact : goal.returns-in-Err-clause-exact
 returns-in-Err-clause-exact g c = λ ti to.
-    let P : OutputView → Type 0 = λ v. IsTold g.E.Output.tells v no_memory_message (output_view (g.E.Output.written c.tell_no_memory.new.output) (g.E.Output.failures c.tell_no_memory.new.output)) in
+    let P : OutputView → Type 0 = λ v. IsTold g.E.Output.tells v no_memory_message (output_view (g.E.Output.written c.report_no_memory.new.output) (g.E.Output.failures c.report_no_memory.new.output)) in
     never_began (record {
       status_is = refl;
       same = ap (λ o. output_view (g.O.Output.written o) (g.O.Output.failures o)) c.in-Err.ensures.refused.0;
       exact = subst P (ap (λ e. output_view (g.E.Output.written e) (g.E.Output.failures e)) c.in-Err.ensures.refused.1)
-          (record { answer = c.tell_no_memory.result; exact = λ te. c.tell_no_memory.ensures.exact te; counted = c.tell_no_memory.ensures.failed });
+          (record { answer = c.report_no_memory.result; exact = λ te. c.report_no_memory.ensures.exact te; counted = c.report_no_memory.ensures.failed });
     })

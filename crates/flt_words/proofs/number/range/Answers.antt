@@ -11,7 +11,7 @@ returns-in-Some c =
     let word = c.args.word.now in
     let found = sym c.dash_in.ensures ∙ c.in-Some.is in
     let parts = answers_both (WritesDecimal (take c.in-Some.dash word)) (WritesDecimal (drop (c.in-Some.dash + 1) word)) is_word_sized is_word_sized _ _ c.decimal.ensures (rw take_rest at c.decimal-in-Some.ensures) in
-    rw c.both.ensures (answers_along _ _ _ (λ range. range_from_parts c.in-Some.dash found) (λ range. range_parts c.in-Some.dash found) _ parts)
+    rw c.both_numbers.ensures (answers_along _ _ _ (λ range. range_from_parts c.in-Some.dash found) (λ range. range_parts c.in-Some.dash found) _ parts)
 
 pub returns-in-None : goal.returns-in-None
 returns-in-None c = λ range. range_lacks_none (sym c.dash_in.ensures ∙ c.in-None.is)

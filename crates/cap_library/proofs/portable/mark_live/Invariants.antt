@@ -1,11 +1,11 @@
 use Rattle.std.proofs.Common.{◌≡◌, ◌≤◌, drop, length}
-use Rattle.cap_library.specs.Portable.{words_wanted}
-use Rattle.cap_library.proofs.portable.mark_wanted.Given as goal
+use Rattle.cap_library.specs.Portable.{live_places}
+use Rattle.cap_library.proofs.portable.mark_live.Given as goal
 
 abbrev pub invariant-loop-place : goal.invariant-loop-place
 invariant-loop-place l =
     (l.place ≤ length l.insns) × (length l.marks ≡ length l.insns)
-    × (drop l.place l.marks ≡ words_wanted l.word (drop l.place l.insns))
+    × (drop l.place l.marks ≡ live_places l.word (drop l.place l.insns))
 
 abbrev pub decreases-loop-place : goal.decreases-loop-place
 decreases-loop-place l = l.place

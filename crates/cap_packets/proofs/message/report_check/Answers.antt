@@ -1,7 +1,7 @@
 use Rattle.std.proofs.Common.{List, ℕ, sym, ◌∙◌, subst}
 use Rattle.cap_octet.specs.Device.{AppendsOrStops}
 use Rattle.cap_packets.proofs.Refusals.{check-indexed, check-whole}
-use Rattle.cap_packets.proofs.message.tell_check.Goals as goal
+use Rattle.cap_packets.proofs.message.report_check.Goals as goal
 
 pub returns-then-has_index-clause-exact : goal.returns-then-has_index-clause-exact
 returns-then-has_index-clause-exact g c = λ ti.

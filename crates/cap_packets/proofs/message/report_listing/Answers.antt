@@ -1,7 +1,7 @@
 use Rattle.std.proofs.Common.{List, ℕ, sym, ◌∙◌, subst}
 use Rattle.cap_octet.specs.Device.{AppendsOrStops}
 use Rattle.cap_packets.proofs.Refusals.{listing-lined, listing-whole}
-use Rattle.cap_packets.proofs.message.tell_listing.Goals as goal
+use Rattle.cap_packets.proofs.message.report_listing.Goals as goal
 
 pub returns-in-None-clause-exact : goal.returns-in-None-clause-exact
 returns-in-None-clause-exact g c = λ ti.
