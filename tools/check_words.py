@@ -57,6 +57,8 @@ IDENTIFIERS = {
     "fed": "sequence",
     "behind": "after, past, next",
 }
+# A name of the public surface.
+ALLOWED = {"laid_out"}
 DEFINITION = re.compile(r"^(?:abbrev |unfoldable |opaque )?pub (?:record |data )?(?!mod\b)([A-Za-z_]\w*)", re.MULTILINE)
 PARTICIPLE = re.compile(r"[a-z]+(ed|en|wn)")
 # They are read as a noun and as an adjective: the captured packet, a checked value.
@@ -115,7 +117,7 @@ def names(path):
     for number, line in identifiers(path):
         for name in re.findall(r"[A-Za-z_]\w*", line):
             for word in words_of(name):
-                if word in IDENTIFIERS:
+                if word in IDENTIFIERS and name not in ALLOWED:
                     yield number, name, IDENTIFIERS[word]
 
 

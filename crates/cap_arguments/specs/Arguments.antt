@@ -45,24 +45,24 @@ abbrev pub flag : Rule → Rule
 flag rule = record rule { action = Some SetTrue }
 
 -- it has one
-abbrev pub valued : Rule → Rule
-valued rule = record rule { value_names = 1 }
+abbrev pub with_one_value : Rule → Rule
+with_one_value rule = record rule { value_names = 1 }
 
 -- it has a number from `least` to `most`, below 2^63, or below 2^64
-abbrev pub bounded : (least most : ℕ) → Rule → Rule
-bounded least most rule =
-    record (valued rule) { parser = Some (parser.Signed (pos least) (pos most)) }
+abbrev pub with_bounds : (least most : ℕ) → Rule → Rule
+with_bounds least most rule =
+    record (with_one_value rule) { parser = Some (parser.Signed (pos least) (pos most)) }
 
-abbrev pub bounded_wide : (least most : ℕ) → Rule → Rule
-bounded_wide least most rule = record (valued rule) { parser = Some (parser.Unsigned least most) }
+abbrev pub with_wide_bounds : (least most : ℕ) → Rule → Rule
+with_wide_bounds least most rule = record (with_one_value rule) { parser = Some (parser.Unsigned least most) }
 
 -- it has one of some names
-abbrev pub chosen : ValueParser → Rule → Rule
-chosen names rule = record rule { parser = Some names }
+abbrev pub with_choices : ValueParser → Rule → Rule
+with_choices names rule = record rule { parser = Some names }
 
 -- its command needs it
-abbrev pub needed : Rule → Rule
-needed rule = record rule { required = true }
+abbrev pub as_required : Rule → Rule
+as_required rule = record rule { required = true }
 
 -- it has any number of values
 abbrev pub many : Rule → Rule
@@ -82,47 +82,47 @@ name_of sub.Compile = codes "compile"
 abbrev pub edit_rules : (formats : ValueParser) → List Rule
 edit_rules formats =
     flag (by_letter (codes "r") ids.KEEP.now)
-    ∷ valued (by_letter (codes "A") ids.START.now)
-    ∷ valued (by_letter (codes "B") ids.STOP.now)
-    ∷ bounded 0 most_32 (by_name (codes "chop-start") ids.CHOP_START.now)
-    ∷ bounded 0 most_32 (by_name (codes "chop-end") ids.CHOP_END.now)
-    ∷ bounded 1 most_32 (by_letter (codes "s") ids.SNAP.now)
-    ∷ valued (by_name (codes "later") ids.LATER.now)
-    ∷ valued (by_name (codes "earlier") ids.EARLIER.now)
-    ∷ bounded least_window most_window (by_letter (codes "D") ids.WINDOW.now)
-    ∷ chosen formats (by_letter (codes "F") ids.FORMAT.now)
-    ∷ needed (by_place ids.IN.now)
-    ∷ needed (by_place ids.OUT.now)
+    ∷ with_one_value (by_letter (codes "A") ids.START.now)
+    ∷ with_one_value (by_letter (codes "B") ids.STOP.now)
+    ∷ with_bounds 0 most_32 (by_name (codes "chop-start") ids.CHOP_START.now)
+    ∷ with_bounds 0 most_32 (by_name (codes "chop-end") ids.CHOP_END.now)
+    ∷ with_bounds 1 most_32 (by_letter (codes "s") ids.SNAP.now)
+    ∷ with_one_value (by_name (codes "later") ids.LATER.now)
+    ∷ with_one_value (by_name (codes "earlier") ids.EARLIER.now)
+    ∷ with_bounds least_window most_window (by_letter (codes "D") ids.WINDOW.now)
+    ∷ with_choices formats (by_letter (codes "F") ids.FORMAT.now)
+    ∷ as_required (by_place ids.IN.now)
+    ∷ as_required (by_place ids.OUT.now)
     ∷ many (by_place ids.RANGE.now)
     ∷ []
 
 abbrev pub merge_rules : (formats : ValueParser) → List Rule
 merge_rules formats =
     flag (by_letter (codes "a") ids.APPEND.now)
-    ∷ chosen formats (by_letter (codes "F") ids.FORMAT.now)
-    ∷ needed (by_letter (codes "w") ids.OUT.now)
-    ∷ needed (by_place ids.FILE.now)
+    ∷ with_choices formats (by_letter (codes "F") ids.FORMAT.now)
+    ∷ as_required (by_letter (codes "w") ids.OUT.now)
+    ∷ as_required (by_place ids.FILE.now)
     ∷ many (by_place ids.MORE.now)
     ∷ []
 
 abbrev pub infos_rules : List Rule
-infos_rules = needed (by_place ids.FILE.now) ∷ many (by_place ids.MORE.now) ∷ []
+infos_rules = as_required (by_place ids.FILE.now) ∷ many (by_place ids.MORE.now) ∷ []
 
 abbrev pub print_rules : (formats : ValueParser) → List Rule
 print_rules formats =
-    bounded_wide 1 most_64 (by_letter (codes "c") ids.COUNT.now)
+    with_wide_bounds 1 most_64 (by_letter (codes "c") ids.COUNT.now)
     ∷ flag (by_letter (codes "e") ids.LINK_HEADER.now)
     ∷ flag (by_letter (codes "x") ids.BYTES.now)
     ∷ by_letter (codes "w") ids.OUT.now
-    ∷ chosen formats (by_name (codes "format") ids.FORMAT.now)
+    ∷ with_choices formats (by_name (codes "format") ids.FORMAT.now)
     ∷ by_name (codes "code") ids.LISTING.now
-    ∷ needed (by_place ids.FILE.now)
+    ∷ as_required (by_place ids.FILE.now)
     ∷ many (by_place ids.WORD.now)
     ∷ []
 
 abbrev pub compile_rules : (links : ValueParser) → List Rule
 compile_rules links =
-    chosen links (by_name (codes "link") ids.LINK.now) ∷ many (by_place ids.WORD.now) ∷ []
+    with_choices links (by_name (codes "link") ids.LINK.now) ∷ many (by_place ids.WORD.now) ∷ []
 
 -- with these arguments after its own
 abbrev pub with_rules : App → List Rule → App
@@ -178,14 +178,14 @@ with_name (name.Long long) rule = record rule { long = Some long.now }
 
 abbrev pub with_value : Choices → Value → Rule → Rule
 with_value choices value.Flag rule = flag rule
-with_value choices (value.Text shown) rule = valued rule
+with_value choices (value.Text shown) rule = with_one_value rule
 with_value choices (value.Number shown least most) rule =
-    record (valued rule) { parser = Some (parser.Signed least most) }
-with_value choices (value.Wide shown least most) rule = bounded_wide least most rule
-with_value choices value.Format rule = chosen (parser.Names choices.formats) rule
-with_value choices value.Link rule = chosen (parser.Names choices.links) rule
+    record (with_one_value rule) { parser = Some (parser.Signed least most) }
+with_value choices (value.Wide shown least most) rule = with_wide_bounds least most rule
+with_value choices value.Format rule = with_choices (parser.Names choices.formats) rule
+with_value choices value.Link rule = with_choices (parser.Names choices.links) rule
 with_value choices value.File rule = rule
-with_value choices value.NeededFile rule = needed rule
+with_value choices value.NeededFile rule = as_required rule
 with_value choices value.Words rule = many rule
 
 -- the rule of an argument's row

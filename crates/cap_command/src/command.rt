@@ -6,7 +6,7 @@ ghost use Rattle.cap_command.specs.Command.{is_proper, is_input_count, is_range,
 ghost use Rattle.cap_command.specs.Command.{is_at_least_one, is_window, is_proper_shift};
 ghost use Rattle.cap_command.specs.Command.{is_proper_edit, is_proper_print, has_at_most_one_filter};
 ghost use Rattle.cap_command.specs.Command.{has_at_most_one_output, has_proper_ranges};
-ghost use Rattle.cap_command.specs.Selection.{is_named, is_kept};
+ghost use Rattle.cap_command.specs.Selection.{is_in_some_range, is_kept};
 
 use cap_octet::date::TIME_END;
 use cap_octet::{Format, Link};
@@ -218,7 +218,7 @@ impl<A: Allocator> Edit<A> {
     }
 
     fn names(&self, number: u64) -> bool
-        ensures { result ≡ is_named self.now.ranges.items number }
+        ensures { result ≡ is_in_some_range self.now.ranges.items number }
     {
         self.ranges
             .iter()

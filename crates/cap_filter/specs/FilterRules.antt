@@ -34,7 +34,7 @@ abbrev pub read_on : Expression → Option Link → Captured → Decision
 read_on e None p = Refuse LinkTypeNotFiltered
 read_on e (Some link) p = decision_of (holds e link p.bytes p.orig)
 
--- all packets pass the empty expression
+-- all packets pass the empty expression, also of link types that expressions aren't read on
 abbrev pub expression_decides : Expression → Captured → Decision
 expression_decides empty p = Keep
 expression_decides (truth a) p = read_on (truth a) (link_of p.link) p

@@ -4,7 +4,7 @@ use Rattle.std.proofs.lemmas.List.{append_assoc}
 use Rattle.std.proofs.lemmas.Bool.Decides.{nat_tests}
 use Rattle.cap_octet.specs.declared.fault.Fault.{Fault}
 use Rattle.cap_io.specs.Capture.{Placed, Items, Ending}
-use Rattle.cap_io.specs.Sequence.{Event, Packet, SequenceEnd, Complete, FaultIn, Sequence, with_front, InputItems, Entry, end_behind, entries_of, input_entries, all_entries, comes_before, insert_entry, sort_entries, end_or_more, sequence_of_entries, end_at, first_end, fault_in_front, unless_fault, sequence_by_time}
+use Rattle.cap_io.specs.Sequence.{Event, Packet, SequenceEnd, Complete, FaultIn, Sequence, with_front, InputItems, Entry, end_behind, entries_of, input_entries, all_entries, comes_before, insert_entry, sort_entries, end_or_more, sequence_of_entries, end_at, first_end, fault_without_packets, unless_fault, sequence_by_time}
 
 -- a fact of each
 abbrev pub Each : (Entry → Type 0) → List Entry → Type 0
@@ -110,11 +110,11 @@ first-close-assoc : (a b c : SequenceEnd) → first_end a (first_end b c) ≡ fi
 first-close-assoc Complete b c = refl
 first-close-assoc (FaultIn i f o) b c = refl
 
-broken-append : (input : ℕ) (xs ys : List InputItems) → fault_in_front input (xs ++ ys) ≡ first_end (fault_in_front input xs) (fault_in_front (input + length xs) ys)
+broken-append : (input : ℕ) (xs ys : List InputItems) → fault_without_packets input (xs ++ ys) ≡ first_end (fault_without_packets input xs) (fault_without_packets (input + length xs) ys)
 broken-append input [] ys = rw add-zero refl
 broken-append input (x ∷ xs) ys =
     let e : input + suc (length xs) ≡ (input + 1) + length xs = omega arith in
-    rw (e, broken-append (input + 1) xs ys) (first-close-assoc (end_at input x) (fault_in_front (input + 1) xs) (fault_in_front (input + 1 + length xs) ys))
+    rw (e, broken-append (input + 1) xs ys) (first-close-assoc (end_at input x) (fault_without_packets (input + 1) xs) (fault_without_packets (input + 1 + length xs) ys))
 
 first-over : (a b : SequenceEnd) → first_end a b ≡ Complete → (a ≡ Complete) × (b ≡ Complete)
 first-over Complete b h = (refl, h)
@@ -131,7 +131,7 @@ up-to-close (FaultIn i f o) e fed = refl
 -- An input whose current packet has the least key, the lowest input of those: its packet comes first, and what is left
 -- behind it is the merge of what is left.
 pub merged-next : (xs ys : List InputItems) (g : ℕ) (p : Placed) (items : Items) (ps : List Placed) (size : ℕ) → items.packets ≡ p ∷ ps
-    → fault_in_front 0 (xs ++ record { greatest = g; items = items; size = size } ∷ ys) ≡ Complete → AllOver (max g p.packet.time) xs → AllFrom (max g p.packet.time) ys
+    → fault_without_packets 0 (xs ++ record { greatest = g; items = items; size = size } ∷ ys) ≡ Complete → AllOver (max g p.packet.time) xs → AllFrom (max g p.packet.time) ys
     → sequence_by_time (xs ++ record { greatest = g; items = items; size = size } ∷ ys)
     ≡ with_front (Packet (length xs) p ∷ []) (sequence_by_time (xs ++ record { greatest = max g p.packet.time; items = record { packets = ps; declared = items.declared; ending = items.ending }; size = size } ∷ ys))
 merged-next xs ys g p items ps size is whole over from =
@@ -140,12 +140,12 @@ merged-next xs ys g p items ps size is whole over from =
     let r : InputItems = record { greatest = g; items = record { packets = p ∷ ps; declared = items.declared; ending = items.ending }; size = size } in
     let r' : InputItems = record { greatest = k; items = record { packets = ps; declared = items.declared; ending = items.ending }; size = size } in
     let same : record { greatest = g; items = items; size = size } ≡ r = ap (λ (l : List Placed). record { greatest = g; items = record { packets = l; declared = items.declared; ending = items.ending }; size = size }) is in
-    let B : InputItems → Type 0 = λ z. fault_in_front 0 (xs ++ z ∷ ys) ≡ Complete in
-    let whole' : fault_in_front 0 (xs ++ r ∷ ys) ≡ Complete = subst B same whole in
+    let B : InputItems → Type 0 = λ z. fault_without_packets 0 (xs ++ z ∷ ys) ≡ Complete in
+    let whole' : fault_without_packets 0 (xs ++ r ∷ ys) ≡ Complete = subst B same whole in
     let e : Entry = record { key = k; input = n; p = p; last = end_behind n items.ending ps } in
     let zero : 0 + n ≡ n = omega arith in
-    let apart = first-over (fault_in_front 0 xs) (fault_in_front (0 + n) (r ∷ ys)) (sym (broken-append 0 xs (r ∷ ys)) ∙ whole') in
-    let rest = first-over (end_at (0 + n) r) (fault_in_front (0 + n + 1) ys) apart.1 in
+    let apart = first-over (fault_without_packets 0 xs) (fault_without_packets (0 + n) (r ∷ ys)) (sym (broken-append 0 xs (r ∷ ys)) ∙ whole') in
+    let rest = first-over (end_at (0 + n) r) (fault_without_packets (0 + n + 1) ys) apart.1 in
     let behind_e : List Entry = input_entries n r' ++ all_entries (n + 1) ys in
     let old : all_entries 0 (xs ++ r ∷ ys) ≡ all_entries 0 xs ++ e ∷ behind_e = all_entries-append 0 xs (r ∷ ys) ∙ ap (λ (m : ℕ). all_entries 0 xs ++ all_entries m (r ∷ ys)) zero in
     let new : all_entries 0 (xs ++ r' ∷ ys) ≡ all_entries 0 xs ++ behind_e = all_entries-append 0 xs (r' ∷ ys) ∙ ap (λ (m : ℕ). all_entries 0 xs ++ all_entries m (r' ∷ ys)) zero in
@@ -155,9 +155,9 @@ merged-next xs ys g p items ps size is whole over from =
     (all-from e (n + 1) ys (omega arith) from) in
     let first : sort_entries (all_entries 0 (xs ++ r ∷ ys)) ≡ e ∷ sort_entries (all_entries 0 (xs ++ r' ∷ ys)) =
     ap sort_entries old ∙ sorted-first e (all_entries 0 xs) behind_e (all-over e 0 xs over) follows ∙ ap (λ (l : List Entry). e ∷ sort_entries l) (sym new) in
-    let left_broken : fault_in_front 0 (xs ++ r' ∷ ys) ≡ end_behind n items.ending ps =
+    let left_broken : fault_without_packets 0 (xs ++ r' ∷ ys) ≡ end_behind n items.ending ps =
     broken-append 0 xs (r' ∷ ys)
-    ∙ ap (λ (c : SequenceEnd). first_end c (fault_in_front (0 + n) (r' ∷ ys))) apart.0
+    ∙ ap (λ (c : SequenceEnd). first_end c (fault_without_packets (0 + n) (r' ∷ ys))) apart.0
     ∙ ap (λ (c : SequenceEnd). first_end (end_at (0 + n) r') c) rest.1
     ∙ over-right (end_at (0 + n) r')
     ∙ ap (λ (m : ℕ). end_at m r') zero in
@@ -168,12 +168,12 @@ merged-next xs ys g p items ps size is whole over from =
     ∙ ap (λ (c : SequenceEnd). with_front (Packet n p ∷ []) (unless_fault c (sequence_of_entries (sort_entries (all_entries 0 (xs ++ r' ∷ ys)))))) (sym left_broken)
 
 -- an input that ends by a fault, where none before it does and it has no packet left: nothing more comes
-pub merged-broken : (xs ys : List InputItems) (r : InputItems) (fault : Fault) (offset : ℕ) → fault_in_front 0 xs ≡ Complete → end_at (length xs) r ≡ FaultIn (length xs) fault offset
+pub merged-broken : (xs ys : List InputItems) (r : InputItems) (fault : Fault) (offset : ℕ) → fault_without_packets 0 xs ≡ Complete → end_at (length xs) r ≡ FaultIn (length xs) fault offset
     → sequence_by_time (xs ++ r ∷ ys) ≡ record { events = []; end = FaultIn (length xs) fault offset }
 merged-broken xs ys r fault offset none is =
     let zero : 0 + length xs ≡ length xs = omega arith in
     ap (λ (c : SequenceEnd). unless_fault c (sequence_of_entries (sort_entries (all_entries 0 (xs ++ r ∷ ys)))))
     (broken-append 0 xs (r ∷ ys)
-    ∙ ap (λ (c : SequenceEnd). first_end c (fault_in_front (0 + length xs) (r ∷ ys))) none
-    ∙ ap (λ (m : ℕ). fault_in_front m (r ∷ ys)) zero
-    ∙ ap (λ (c : SequenceEnd). first_end c (fault_in_front (length xs + 1) ys)) is)
+    ∙ ap (λ (c : SequenceEnd). first_end c (fault_without_packets (0 + length xs) (r ∷ ys))) none
+    ∙ ap (λ (m : ℕ). fault_without_packets m (r ∷ ys)) zero
+    ∙ ap (λ (c : SequenceEnd). first_end c (fault_without_packets (length xs + 1) ys)) is)

@@ -149,14 +149,14 @@ items_with (Stops why) declared offset behind = no_items declared why offset
 items_with (Whole size packets after) declared offset behind =
     after_packets (placed_at offset packets) (behind size after)
 
--- from a place on, with at most so many units
+-- from a place on; the number is fuel that isn't used up, since a unit has a byte at least
 unfoldable pub items_within : ℕ → Declared → ℕ → List ℕ → Items
 items_within zero declared offset text = no_items declared None offset
 items_within (suc most) declared offset text =
     items_with (front_of declared text) declared offset
     (λ size after. items_within most after (offset + size) (drop size text))
 
--- from a place on; each unit has a byte at least
+-- from a place on
 unfoldable pub items_from : Declared → ℕ → List ℕ → Items
 items_from declared offset text = items_within (length text + 1) declared offset text
 

@@ -127,20 +127,21 @@ abbrev pub first_end : SequenceEnd → SequenceEnd → SequenceEnd
 first_end Complete later = later
 first_end (FaultIn input fault offset) later = FaultIn input fault offset
 
--- the fault of the first input that ends by one and has no packet left
-abbrev pub fault_in_front : ℕ → List InputItems → SequenceEnd
-fault_in_front input [] = Complete
-fault_in_front input (r ∷ rs) = first_end (end_at input r) (fault_in_front (input + 1) rs)
+-- the fault of the first input that ends by one and has no packet
+abbrev pub fault_without_packets : ℕ → List InputItems → SequenceEnd
+fault_without_packets input [] = Complete
+fault_without_packets input (r ∷ rs) = first_end (end_at input r) (fault_without_packets (input + 1) rs)
 
 abbrev pub unless_fault : SequenceEnd → Sequence → Sequence
 unless_fault Complete more = more
 unless_fault (FaultIn input fault offset) more =
     record { events = []; end = FaultIn input fault offset }
 
--- Where an input has none left and ends by a fault, nothing comes; else all packets in the order.
+-- Where an input has no packet and ends by a fault, no packet of any input comes; else all packets
+-- in the order.
 abbrev pub sequence_by_time : List InputItems → Sequence
 sequence_by_time rs =
-    unless_fault (fault_in_front 0 rs) (sequence_of_entries (sort_entries (all_entries 0 rs)))
+    unless_fault (fault_without_packets 0 rs) (sequence_of_entries (sort_entries (all_entries 0 rs)))
 
 -- ---- the job's order
 

@@ -3,8 +3,10 @@ use Rattle.std.specs.Prelude.{ℕ, List}
 use Rattle.cap_octet.specs.declared.packet.Packet.{Packet}
 
 pub record Captured : Type 0 where
+  -- of its interface, or of its pcap file
   pub link : ℕ
   pub snap : ℕ
+  -- its interface's name; empty in pcap
   pub name : List ℕ
   pub time : ℕ
   pub orig : ℕ

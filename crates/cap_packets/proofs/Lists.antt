@@ -21,7 +21,7 @@ use Rattle.cap_packets.specs.Reports.{Tally, tally_with}
 use Rattle.cap_packets.specs.Outcome.{Form, AsReports, JobProgress, apply_verdict, next_progress, end_with, apply_events}
 use Rattle.cap_packets.specs.Edits.{coming, is_repeated, packets_selected, unique_behind}
 use Rattle.cap_packets.specs.Selector.{is_count}
-use Rattle.cap_packets.specs.Lists.{CountsAll, EndsOutOfRange, HasLastMarks, PassesFiltered, arriving, ascends, at_most, end_at_time, final, first_out_of_range, greatest, packets_kept as kept, least, marks, packets_of, tally_of, times}
+use Rattle.cap_packets.specs.Lists.{CountsAll, EndsWithoutTime, HasLastMarks, PassesFiltered, arriving, ascends, at_most, end_at_time, final, first_without_time, greatest, packets_kept as kept, least, marks, packets_of, tally_of, times}
 use Rattle.cap_packets.proofs.Outcomes.{progress-ended}
 use Rattle.cap_packets.proofs.Selectors.{upper_bound}
 
@@ -241,7 +241,7 @@ noted (Some n) state before p b kept is =
 record Follows (s : EditRule) (number : ℕ) (before : List Mark) (out : List Captured) (ps : List Placed) (w : JobProgress) : Type 0 where
   passed : w.packets ≡ out ++ unique_behind s.window before (packets_selected s number (packets_of ps))
   kept : IsKept s.window (before ++ marks (packets_selected s number (packets_of ps))) w.state.window
-  end : w.end ≡ end_at_time (first_out_of_range s number ps)
+  end : w.end ≡ end_at_time (first_without_time s number ps)
 
 abbrev Goes : EditRule → ℕ → SelectorState → List Mark → List Captured → List Placed → Type 0
 Goes s k state before out ps = Follows s (k + 1) before out ps (apply_events (Edit s) reports (under_way k state out) (arriving ps))
@@ -344,8 +344,8 @@ kept-first (Some n) = sym (none-dropped (0 - (n - 1)) [] refl)
 follows-first : (s : EditRule) (ps : List Placed) → length ps < 2 ^ 63 → Goes s 0 initial_state [] [] ps
 follows-first s ps less = follows s 0 initial_state [] [] ps (omega arith) (kept-first s.window)
 
-pub ends_out_of_range : EndsOutOfRange
-ends_out_of_range s ps less = let f = follows-first s ps less in (f.end, f.passed)
+pub ends_without_time : EndsWithoutTime
+ends_without_time s ps less = let f = follows-first s ps less in (f.end, f.passed)
 
 -- ---- packets without places
 

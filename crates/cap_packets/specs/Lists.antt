@@ -112,26 +112,27 @@ arriving (p ∷ ps) = Packet 0 p ∷ arriving ps
 abbrev pub packets_of : List Placed → List Captured
 packets_of ps = map (λ (p : Placed). p.packet) ps
 
--- whether the packet with this number is selected, and its time leaves its range by the shift
-abbrev pub leaves_range : EditRule → ℕ → Captured → Bool
-leaves_range s number p = is_selected s number p && is_none (shifted_time s.shift p.time)
+-- whether the packet with this number is selected, and its moved time isn't from 0 to 2^63 - 1
+-- nanoseconds
+abbrev pub has_no_time_after_shift : EditRule → ℕ → Captured → Bool
+has_no_time_after_shift s number p = is_selected s number p && is_none (shifted_time s.shift p.time)
 
 -- where the first lies that does, the first of all having this number
-abbrev pub first_out_of_range : EditRule → ℕ → List Placed → Option ℕ
-first_out_of_range s number [] = None
-first_out_of_range s number (p ∷ ps) =
-    if leaves_range s number p.packet then Some p.offset else first_out_of_range s (number + 1) ps
+abbrev pub first_without_time : EditRule → ℕ → List Placed → Option ℕ
+first_without_time s number [] = None
+first_without_time s number (p ∷ ps) =
+    if has_no_time_after_shift s number p.packet then Some p.offset else first_without_time s (number + 1) ps
 
 -- the job goes on where there is none, and else it ends there, for its time
 abbrev pub end_at_time : Option ℕ → Option SequenceEnd
 end_at_time None = None
 end_at_time (Some offset) = Some (FaultIn 0 TimeOutOfRange offset)
 
--- An edit of fewer than 2^63 packets ends at the first that is selected and whose time leaves its
--- range; what passes is what is unique of what is selected in front of it.
-abbrev pub EndsOutOfRange : Type 0
-EndsOutOfRange = (s : EditRule) (ps : List Placed) → length ps < 2 ^ 63
+-- An edit of fewer than 2^63 packets ends at the first that is selected and whose moved time is
+-- below 0 or above 2^63 - 1 nanoseconds; what passes is what is unique of what is selected before it.
+abbrev pub EndsWithoutTime : Type 0
+EndsWithoutTime = (s : EditRule) (ps : List Placed) → length ps < 2 ^ 63
     → ((apply_events (Edit s) (AsReports []) no_progress (arriving ps)).end
-    ≡ end_at_time (first_out_of_range s 1 ps))
+    ≡ end_at_time (first_without_time s 1 ps))
     × ((apply_events (Edit s) (AsReports []) no_progress (arriving ps)).packets
     ≡ unique_behind s.window [] (packets_selected s 1 (packets_of ps)))

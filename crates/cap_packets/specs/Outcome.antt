@@ -165,6 +165,8 @@ closing_text (AsCapture format) link (p ∷ ps) = []
 closing_text (AsReports names) link ps = []
 closing_text (AsLines options) link ps = []
 
+-- What the end adds. After a fault that is nothing: where no packet was kept, the output has no file
+-- header either.
 abbrev pub text_at_end : Option SequenceEnd → Form → Option ℕ → List Captured → List ℕ
 text_at_end (Some Complete) form link ps = closing_text form link ps
 text_at_end end form link ps = []

@@ -20,6 +20,7 @@ pub record Tally : Type 0 where
   pub least : ℕ
   pub greatest : ℕ
   pub last : ℕ
+  -- no time is less than the one before it; equal times are in order
   pub strict : Bool
 
 abbrev pub nothing_counted : Tally
@@ -57,6 +58,7 @@ pub record Report : Type 0 where
   pub size : ℕ
   pub tally : Tally
 
+-- a file of no kind has a fault, and no report
 abbrev pub kind_name : Option Kind → List ℕ
 kind_name None = []
 kind_name (Some kind.Pcap) = format_name format.Pcap

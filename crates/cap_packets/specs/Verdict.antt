@@ -79,17 +79,17 @@ refuses s fault = record { verdict = Refuse fault; state = s }
 
 -- ---- edits
 
-abbrev pub is_from : Option ℕ → ℕ → Bool
-is_from None time = true
-is_from (Some start) time = nat_le start time
+abbrev pub is_from_start : Option ℕ → ℕ → Bool
+is_from_start None time = true
+is_from_start (Some start) time = nat_le start time
 
-abbrev pub is_before : Option ℕ → ℕ → Bool
-is_before None time = true
-is_before (Some stop) time = nat_lt time stop
+abbrev pub is_before_stop : Option ℕ → ℕ → Bool
+is_before_stop None time = true
+is_before_stop (Some stop) time = nat_lt time stop
 
 abbrev pub is_selected : EditRule → ℕ → Captured → Bool
 is_selected s number p =
-    is_kept s.ranges s.keep number && (is_from s.start p.time && is_before s.stop p.time)
+    is_kept s.ranges s.keep number && (is_from_start s.start p.time && is_before_stop s.stop p.time)
 
 abbrev pub without_first : ℕ → List ℕ → List ℕ
 without_first n bytes = drop n bytes
@@ -118,7 +118,7 @@ edited_packet_with s p time = record {
   comment = p.comment;
 }
 
--- a time that is moved, where it stays in range
+-- a time that is moved, where it is from 0 to 2^63 - 1 nanoseconds then
 abbrev pub shifted_time : Shift → ℕ → Option ℕ
 shifted_time shift.None time = Some time
 shifted_time (shift.Later by) time = if nat_lt (time + by) TIME_END then Some (time + by) else None
@@ -128,8 +128,9 @@ abbrev pub with_mark : ℕ → Mark → SelectorState → SelectorState
 with_mark most mark s =
     record { passed = s.passed; window = last most (s.window ++ mark ∷ []); tally = s.tally }
 
--- A packet whose mark is that of one of the n - 1 before it is skipped; its mark enters the window
--- all the same.
+-- A packet is skipped whose mark, the length and digest of its bytes as they are cut, is that of one
+-- of the last n - 1 that were selected, those that were skipped too. Times, original lengths, link
+-- types and interfaces aren't compared. Its mark enters the window all the same.
 abbrev pub unique : Option ℕ → SelectorState → Captured → Judgement
 unique None s p = passes s p
 unique (Some n) s p =

@@ -2,7 +2,7 @@
 ghost use Rattle.std.specs.Prelude.{ℕ, ◌≡◌, ◌^◌, ◌<◌, ◌≤◌, IfSome, None, Ok, Option, length};
 ghost use Rattle.cap_octet.specs.Packet.{captured};
 ghost use Rattle.cap_io.specs.Reading.{most_in_unit};
-ghost use Rattle.cap_packets.specs.Verdict.{edited_packet_with, is_before, is_from, is_selected};
+ghost use Rattle.cap_packets.specs.Verdict.{edited_packet_with, is_before_stop, is_from_start, is_selected};
 ghost use Rattle.cap_packets.specs.Verdict.{shifted_time, selects};
 ghost use Rattle.cap_packets.specs.Verdict.{bytes_within_snap, unique, without_first, without_last};
 ghost use Rattle.cap_packets.specs.Selector.{IsWindowFor, ReturnsVerdict, marks_in, edit_rule_of};
@@ -16,8 +16,8 @@ use cap_octet::{Fault, Packet};
 use cap_window::Window;
 use std::alloc::Allocator;
 
-fn is_from(start: Option<u64>, time: u64) -> bool
-    ensures { result ≡ is_from start time }
+fn is_from_start(start: Option<u64>, time: u64) -> bool
+    ensures { result ≡ is_from_start start time }
 {
     match start {
         Some(start) => start <= time,
@@ -25,8 +25,8 @@ fn is_from(start: Option<u64>, time: u64) -> bool
     }
 }
 
-fn is_before(stop: Option<u64>, time: u64) -> bool
-    ensures { result ≡ is_before stop time }
+fn is_before_stop(stop: Option<u64>, time: u64) -> bool
+    ensures { result ≡ is_before_stop stop time }
 {
     match stop {
         Some(stop) => time < stop,
@@ -38,7 +38,7 @@ fn is_before(stop: Option<u64>, time: u64) -> bool
 fn is_selected<A: Allocator>(edit: &Edit<A>, number: u64, packet: &Packet<'_>) -> bool
     ensures { result ≡ is_selected (edit_rule_of edit.now) number (captured packet.now) }
 {
-    let in_time = is_from(edit.start, packet.time) && is_before(edit.stop, packet.time);
+    let in_time = is_from_start(edit.start, packet.time) && is_before_stop(edit.stop, packet.time);
     edit.keeps(number) && in_time
 }
 

@@ -1,5 +1,5 @@
 //! Laws of the definitions: each is the contract of a function that does nothing.
-ghost use Rattle.cap_packets.specs.Lists.{CountsAll, EndsOutOfRange, HasLastMarks, PassesFiltered};
+ghost use Rattle.cap_packets.specs.Lists.{CountsAll, EndsWithoutTime, HasLastMarks, PassesFiltered};
 ghost use Rattle.cap_packets.specs.Whole.{EditWrites, InfosReports, MergeWrites, PrintLines};
 ghost use Rattle.cap_packets.specs.Whole.{PrintWrites, EditKeeps, EditsAlike, MergesOne};
 ghost use Rattle.cap_packets.specs.Whole.{CutsGivePrefixes, NegationParts};
@@ -24,8 +24,8 @@ pub fn window_has_last_marks()
 
 /// An edit ends at the first packet that is selected and whose time leaves its range, and only
 /// there. What passes is what is unique of what is selected in front of it.
-pub fn edit_ends_out_of_range()
-    ensures { EndsOutOfRange }
+pub fn edit_ends_without_time()
+    ensures { EndsWithoutTime }
 {}
 
 /// An edit writes what is unique of what is selected of the packets of its input, up to the first

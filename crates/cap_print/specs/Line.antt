@@ -33,7 +33,7 @@ link_part n p =
     (codes "link " ++ (decimal n ++ codes ", "))
 
 -- the date, what is said of the link header where it is asked for, what is said of the network
--- header, and the original length
+-- header, and the original length of the whole packet
 unfoldable pub line : Bool → Captured → List ℕ
 line with_link p =
     date_text p.time

@@ -7,7 +7,7 @@ use Rattle.cap_io.specs.Capture.{Declared, Items, no_items, kind_of}
 use Rattle.cap_io.specs.Position.{IsAt}
 use Rattle.cap_io.specs.Source.{Phase, Reading, Ended, Failed}
 use Rattle.cap_inputs.specs.declared.inputs.Next.TheVariants as next
-use Rattle.cap_io.specs.Sequence.{InputItems, Event, Packet, InputEnd, SequenceEnd, Complete, FaultIn, PacketOrder, InTurn, ByTime, with_front, sequence_in_turn, sequence_by_time, fault_in_front, sequence_of_entries, sort_entries, all_entries, unless_fault}
+use Rattle.cap_io.specs.Sequence.{InputItems, Event, Packet, InputEnd, SequenceEnd, Complete, FaultIn, PacketOrder, InTurn, ByTime, with_front, sequence_in_turn, sequence_by_time, fault_without_packets, sequence_of_entries, sort_entries, all_entries, unless_fault}
 use Rattle.cap_packets.specs.Verdict.{Policy}
 use Rattle.cap_packets.specs.Outcome.{Form, JobProgress, apply_events, end_input, unless_ended}
 use Rattle.cap_inputs.specs.Inputs.{InputView, InputPast, Future, AreFutures, AreInputsBehind, AllEnded, AllReady, IsInput, IsNextIn, IsOpen, IsReady, KeysOver, KeysFrom, NoneEnded, NoneWaits, ended_count, input_behind, items_left, inputs_left, key_of, one_more_if_ended, sequence_left, packet_time}
@@ -191,7 +191,7 @@ merge-left i xs ys h here waits ready over from p held f fit fs gs before behind
     let key : key_of h ≡ max h.greatest p.time = ap (λ (o : Option Captured). max h.greatest (packet_time o)) held in
     let O : ℕ → Type 0 = λ k. InputsOver k xs in
     let F : ℕ → Type 0 = λ k. InputsFrom k ys in
-    let B : List InputItems → Type 0 = λ l. fault_in_front 0 l ≡ Complete in
+    let B : List InputItems → Type 0 = λ l. fault_without_packets 0 l ≡ Complete in
     merge-decides xs ys h p fs gs f waits held (subst O key (over-of (key_of h) xs over r.before)) (subst F key (from-of (key_of h) ys from r.behind)) before behind_fits
     (subst B (rests-join xs ys h fs gs f before) (none-broken 0 0 (xs ++ h ∷ ys) (fs ++ f ∷ gs) ready (fits-join xs ys h fs gs f before fit behind_fits)))
     ∙ ap (λ n. with_front (Packet n (record { offset = h.source.offset; packet = p }) ∷ []) (sequence_by_time (inputs_left xs fs ++ items_left (input_behind h) f ∷ inputs_left ys gs))) (rests-length xs fs before ∙ here)

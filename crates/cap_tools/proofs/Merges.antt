@@ -3,7 +3,7 @@ use Rattle.std.proofs.Common.{◌≡◌, ℕ, ◌+◌, ◌<◌, ◌≤◌, true,
 use Rattle.cap_octet.specs.Packet.{Captured}
 use Rattle.cap_io.specs.Capture.{Placed, Items, after_packets}
 use Rattle.cap_io.specs.Source.{Ended}
-use Rattle.cap_io.specs.Sequence.{Packet, SequenceEnd, Complete, with_front, end_at, first_end, fault_in_front, sequence_by_time}
+use Rattle.cap_io.specs.Sequence.{Packet, SequenceEnd, Complete, with_front, end_at, first_end, fault_without_packets, sequence_by_time}
 use Rattle.cap_inputs.specs.Inputs.{InputView, Future, AreFutures, waiting_packets, items_left, inputs_left, no_future, input_behind}
 use Rattle.cap_tools.proofs.Splits.{Fit}
 use Rattle.cap_tools.proofs.Coming.{hand_is}
@@ -60,15 +60,15 @@ all-from k (h ∷ hs) [] from fits = absurd fits
 all-from k (h ∷ hs) (f ∷ fs) from fits = (from-one k h f from.0 fits.0, all-from k hs fs from.1 fits.1)
 
 -- where no input has to be read none ends by a fault, whatever comes
-pub none-broken : (k n : ℕ) (hs : List InputView) (fs : List Future) → InputsFrom k hs → AreFutures hs fs → fault_in_front n (inputs_left hs fs) ≡ Complete
+pub none-broken : (k n : ℕ) (hs : List InputView) (fs : List Future) → InputsFrom k hs → AreFutures hs fs → fault_without_packets n (inputs_left hs fs) ≡ Complete
 none-broken k n [] [] from fits = refl
 none-broken k n [] (f ∷ fs) from fits = absurd fits
 none-broken k n (h ∷ hs) [] from fits = absurd fits
-none-broken k n (h ∷ hs) (f ∷ fs) from fits = ap (λ (c : SequenceEnd). first_end c (fault_in_front (n + 1) (inputs_left hs fs))) (whole-one k n h f from.0 fits.0) ∙ none-broken k (n + 1) hs fs from.1 fits.1
+none-broken k n (h ∷ hs) (f ∷ fs) from fits = ap (λ (c : SequenceEnd). first_end c (fault_without_packets (n + 1) (inputs_left hs fs))) (whole-one k n h f from.0 fits.0) ∙ none-broken k (n + 1) hs fs from.1 fits.1
 
 -- the input with the least key, the lowest input of those, is decided: whatever comes, its packet is next
 pub merge-decides : (xs ys : List InputView) (h : InputView) (p : Captured) (fs gs : List Future) (f : Future) → h.waiting ≡ true → h.source.packet ≡ Some p
-    → InputsOver (max h.greatest p.time) xs → InputsFrom (max h.greatest p.time) ys → AreFutures xs fs → AreFutures ys gs → fault_in_front 0 (inputs_left xs fs ++ items_left h f ∷ inputs_left ys gs) ≡ Complete
+    → InputsOver (max h.greatest p.time) xs → InputsFrom (max h.greatest p.time) ys → AreFutures xs fs → AreFutures ys gs → fault_without_packets 0 (inputs_left xs fs ++ items_left h f ∷ inputs_left ys gs) ≡ Complete
     → sequence_by_time (inputs_left xs fs ++ items_left h f ∷ inputs_left ys gs) ≡ with_front (Packet (length (inputs_left xs fs)) (first_is h p) ∷ []) (sequence_by_time (inputs_left xs fs ++ items_left (input_behind h) f ∷ inputs_left ys gs))
 merge-decides xs ys h p fs gs f waits held over from fits_x fits_y whole =
     let is = waiting-rest h p f waits held in

@@ -91,8 +91,8 @@ pub record HasLeft (call : Call) (o : Outcome) (r : RunResult) : Type 0 where
 
 -- ---- an input is cut short
 
--- Why an input is cut short behind these whole units: a read failed, and the device wasn't sure to
--- give as many bytes as decide what stands there; or there was no memory for its next unit, which is
+-- Why an input is cut short after these whole units: a read failed, and all that the device was sure
+-- to give was one byte short, or more, of those that decide what follows; or there was no memory for its next unit, which is
 -- longer than each that the block held, or describes an interface.
 abbrev pub IsWhyCut : Fault → FreshInput → (done rest : List ℕ) → Declared → Type 0
 IsWhyCut fault input done rest declared =
@@ -134,7 +134,8 @@ pub record HasLackedMemory (call : Call) (work : Work) (r : RunResult) : Type 0 
       (fault_message (name_at call.names input) packet.offset NoMemory) r.messages
   pub status : r.status ≡ 1
 
--- there was no memory to begin: nothing is read, and nothing is written but a message
+-- There was no memory to begin: nothing is written but a message. No clause can say that an
+-- allocation failed, so a run may always leave this.
 pub record NeverBegan (call : Call) (r : RunResult) : Type 0 where
   pub status_is : r.status ≡ 1
   pub same : r.output ≡ call.output

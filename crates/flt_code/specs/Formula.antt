@@ -28,8 +28,8 @@ pub data Formula : Type 0 where
   Guard : Elementary → Formula → Formula
   -- one of two tests and then a formula
   Fork : Elementary → Elementary → Formula → Formula
-  -- a test and then a formula, or another formula. It is for a test that excludes the other
-  -- formula: where the test was yes the code goes past that
+  -- (test and formula) or another formula, which the test excludes: so where the test was yes its
+  -- code skips the other formula
   Choose : Elementary → Formula → Formula → Formula
   -- a field is one of some numbers
   Among : MaskedField → List ℕ → Formula

@@ -17,12 +17,12 @@ use Rattle.cap_octet.specs.declared.link.Link.{Link}
 use Rattle.cap_octet.specs.declared.link.Link.TheVariants.{Ether}
 use Rattle.flt_code.specs.Elementary.{Reading, Yes, No, Rejected, reading_of, with, elementary_reads, is_at, kind_test, type_test}
 use Rattle.cap_octet.specs.Link.{all_links, link_of, link_type, type_offset}
-use Rattle.flt_gen.specs.Laws.{frame_kind, carried, carries}
+use Rattle.flt_gen.specs.Laws.{frame_kind, carries_kind, carries}
 
 -- a test reads what a packet's header is
-pub record Agrees (reading : Reading) (header : NetworkHeader) (kind : NetworkKind) (carried : Bool) : Type 0 where
+pub record Agrees (reading : Reading) (header : NetworkHeader) (kind : NetworkKind) (carries_kind : Bool) : Type 0 where
   pub matches : (reading ≡ Yes) ↔ (header ≡ Known kind)
-  pub rejects : (reading ≡ Rejected) ↔ ((header ≡ Short) × (carried ≡ true))
+  pub rejects : (reading ≡ Rejected) ↔ ((header ≡ Short) × (carries_kind ≡ true))
 
 abbrev type_of : NetworkKind → ℕ
 type_of Ipv4 = ETHERTYPE_IPV4
@@ -197,7 +197,7 @@ not_carried kind p other = record {
     go false e = not_ip (slice_index p 0 / 16) other e
 
 by_place : (place : Option ℕ) (kind : NetworkKind) (p : List ℕ) → All (λ b. b < 2 ^ 8) p
-    → Agrees (elementary_reads (type_test place (frame_kind kind)) p) (header_after place p) kind (carried place kind)
+    → Agrees (elementary_reads (type_test place (frame_kind kind)) p) (header_after place p) kind (carries_kind place kind)
 by_place (Some at) Ipv4 p bytes = at_type at Ipv4 p
 by_place (Some at) Ipv6 p bytes = at_type at Ipv6 p
 by_place (Some at) Arp p bytes = at_type at Arp p

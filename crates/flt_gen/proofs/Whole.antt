@@ -11,7 +11,7 @@ use Rattle.flt_bpf.specs.Valid.{IsValid}
 use Rattle.flt_tree.specs.Tree.{TruthTree, Expression, empty, truth}
 use Rattle.flt_tree.specs.Counts.{words_of, bound_of, truth_tests, truth_size}
 use Rattle.flt_tree.specs.Resolved.{is_unfilled, any_primitive, some_primitive}
-use Rattle.flt_short.specs.Alike.{Replaces}
+use Rattle.flt_short.specs.Alike.{Shortens}
 use Rattle.flt_passes.specs.Betters.{Betters}
 use Rattle.cap_octet.specs.declared.link.Link.{Link}
 use Rattle.flt_code.specs.declared.elementary.Elementary.TheVariants.{Outcome}
@@ -202,7 +202,7 @@ program_short link e filled l =
     record { no_jump = no_jump_flow _ (program_code link e) s.no_jump; short = omega (arith, final_length link e) }
 
 -- a program that replaces one for an expression is one too
-pub replaced_decides : (new old : List Insn) (e : Expression) (link : Link) → Replaces new old → IsProgramOf old e link → IsProgramOf new e link
+pub replaced_decides : (new old : List Insn) (e : Expression) (link : Link) → Shortens new old → IsProgramOf old e link → IsProgramOf new e link
 replaced_decides new old e link r o =
     record {
       bounded = omega (arith, r.shorter, o.bounded);
@@ -212,7 +212,7 @@ replaced_decides new old e link r o =
           record { answer = d.answer; count = c.count; answered = c.answered; upper_bound = c.inside; right = d.right };
     }
 
-pub replaced_short : (new old : List Insn) (most : ℕ) → Replaces new old → IsShort old most → IsShort new most
+pub replaced_short : (new old : List Insn) (most : ℕ) → Shortens new old → IsShort old most → IsShort new most
 replaced_short new old most r s = record { no_jump = r.no_jump s.no_jump; short = omega (arith, r.shorter, s.short) }
 
 -- a program that is better than one for an expression is one for it too

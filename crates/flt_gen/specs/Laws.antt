@@ -37,13 +37,13 @@ frame_kind network.Arp = frame.Arp
 frame_kind network.Rarp = frame.Rarp
 
 -- raw IP, whose header has no EtherType, has neither ARP nor RARP
-abbrev pub carried : Option ℕ → NetworkKind → Bool
-carried None network.Arp = false
-carried None network.Rarp = false
-carried type_offset kind = true
+abbrev pub carries_kind : Option ℕ → NetworkKind → Bool
+carries_kind None network.Arp = false
+carries_kind None network.Rarp = false
+carries_kind type_offset kind = true
 
 abbrev pub carries : Link → NetworkKind → Bool
-carries link kind = carried (type_offset link) kind
+carries link kind = carries_kind (type_offset link) kind
 
 -- the test of a kind matches exactly the packets whose network header is of that kind
 abbrev pub MatchesKind : Type 0

@@ -47,6 +47,7 @@ ip_proto link n = Guard (kind_test link Ip) (Single (has_ip_proto link n))
 abbrev pub ip6_proto : Link → ℕ → Formula
 ip6_proto link n = Guard (kind_test link Ip6) (Single (has_ip6_proto link n))
 
+-- the next header of IPv6 alone: extension headers aren't looked past
 abbrev pub any_proto : Link → ℕ → Formula
 any_proto link n = Choose (kind_test link Ip) (Single (has_ip_proto link n)) (ip6_proto link n)
 
@@ -257,6 +258,7 @@ ip6_transport link = record {
   destination = Fixed (network_offset link + 42);
 }
 
+-- of TCP and UDP; of SCTP no port is read
 abbrev pub port_formula : Link → PortTest → List ℕ → Formula
 port_formula link wanted numbers =
     Choose (kind_test link Ip) (transport_ports (ip_transport link) wanted numbers)
@@ -269,7 +271,7 @@ port_test protocol direction ports = record {
   ports = ports;
 }
 
--- values with their qualifiers; what doesn't fit is no, here and above
+-- values with their qualifiers; what doesn't fit was refused before, and is no here and above
 
 abbrev pub host_formula : Link → Option Protocol → Direction → Value → Formula
 host_formula link protocol direction (value.Dotted dotted mask) =
@@ -314,7 +316,7 @@ value_formula link Proto protocol direction v = proto_value_formula link protoco
 abbrev pub qualified_formula : Link → CompleteQualifiers → Value → Formula
 qualified_formula link q v = value_formula link q.value_type q.protocol q.direction v
 
--- the original length is at most, or at least, a number
+-- the original length is at most, or at least, a number: `less N` is `len <= N` (pcap-filter(7))
 abbrev pub sized_formula : Size → ℕ → Formula
 sized_formula size.Less n = Compare AtMost len (literal n)
 sized_formula size.Greater n = Compare AtLeast len (literal n)

@@ -16,7 +16,8 @@ use Rattle.flt_tree.specs.declared.qualifiers.Qualifiers.{Qualifiers}
 use Rattle.flt_lang.specs.Values.{ReadsQualifiers, is_written, ReadsValue}
 use Rattle.flt_tree.specs.Tree.{NumberTree, literal, len, named, load, negated, applied, TruthTree, check, cast, sized, bare, valued, compared, denied, joined, Expression, empty, truth}
 
--- the level of an operator: its chains are of operands of this level
+-- the level of an operator, as libpcap's grammar has it and not as C: `|`, `&` and `^` are equal and
+-- bind most loosely; its chains are of operands of this level
 abbrev pub level : Operator → ℕ
 level operator.Multiply = 0
 level operator.Divide = 0

@@ -1,4 +1,4 @@
--- When a program may stand for another one.
+-- When a program may replace another one.
 use Rattle.std.specs.Prelude.{◌≡◌, ◌≢◌, ℕ, List, Some, All}
 use Rattle.flt_bpf.specs.declared.insn.Insn.{Insn}
 use Rattle.flt_bpf.specs.declared.operation.Operation.TheVariants.{Jump}

@@ -1,4 +1,4 @@
-//! What is known of two programs where a run of one stands for a run of the other.
+//! What is known of two programs where a run of one replaces a run of the other.
 
 use flt_bpf::operation::Width;
 

@@ -1,4 +1,4 @@
-//! The rules by which an instruction of new code stands for some of the old code.
+//! The rules by which an instruction of new code replaces some of the old code.
 
 use crate::known::loads;
 use flt_bpf::Wide;
@@ -65,7 +65,7 @@ fn does_bits(new: Wide, old: Wide, behind: Option<Wide>, both: &Both) -> bool {
     is_bits && is_mask && is_test && new.k == old.k && same_accumulator(both)
 }
 
-/// The rule by which an instruction stands for the one of the old code at a place.
+/// The rule by which an instruction replaces the one of the old code at a place.
 pub(crate) fn rule_at(new: Wide, old: &[Wide], at: usize, both: &Both) -> Option<Rule> {
     let insn = *old.get(at)?;
     if does_same(new, insn, both) {

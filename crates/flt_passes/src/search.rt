@@ -71,7 +71,7 @@ impl<A: Allocator + Clone> Searching<A> {
         Ok(())
     }
 
-    /// The tests that a run comes to from a head on, with nothing between.
+    /// The tests that a run reaches from a first one on, with nothing between.
     fn region(&mut self, head: usize) -> Result<Vec<usize, A>, AllocError> {
         let mut region = Vec::new(self.alloc.clone()?);
         let mut work = Vec::new(self.alloc.clone()?);
@@ -253,7 +253,7 @@ impl<A: Allocator + Clone> Searching<A> {
         put_search(&mut self.nodes, ranges).map(Some)
     }
 
-    /// Searches by halves in place of the tests that begin at a head.
+    /// Searches by halves in place of the tests that begin at a first one.
     fn replace(&mut self, head: usize, region: &[usize]) -> Result<(), AllocError> {
         let chain = self.chain(head)?;
         let ranges = if chain.exits.len() == region.len() {

@@ -19,7 +19,7 @@ fn deeds_of(node: Node) -> Deeds {
     }
 }
 
-/// A node whose edges lead to what stands for their targets.
+/// A node whose edges lead to what replaces their targets.
 fn turned(node: Node, stands: &[usize]) -> Node {
     Node {
         yes: entry_at(stands, node.yes),

@@ -185,7 +185,7 @@ impl<A: Allocator + Clone> Threading<A> {
         }
     }
 
-    /// Leads the edge of a node on that isn't a test, where a run with this knowledge leaves it. What
+    /// Leads the edge of a node on that isn't a test, where a run with this knowledge goes on from it. What
     /// just goes on must be next, and may have to stand there once more: no edge is led to it.
     fn lead_on(&mut self, at: usize, node: Node, mut known: Known) -> Result<(), AllocError> {
         let reads = self.reads(&known, node.yes);

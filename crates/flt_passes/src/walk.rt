@@ -55,7 +55,7 @@ enum Step {
     Either,
 }
 
-/// The old run, until it comes to what an instruction of the new code stands for.
+/// The old run, until it reaches what an instruction of the new code replaces.
 #[derive(Drop)]
 struct Walker<'a, A: Allocator> {
     new: Wide,
@@ -278,7 +278,7 @@ fn met_by(met: Option<Arrival>, one: &Arrival) -> Arrival {
     }
 }
 
-/// Where the old run comes to what an instruction of the new code stands for.
+/// Where the old run reaches what an instruction of the new code replaces.
 pub(crate) fn walked<A: Allocator>(
     new: Wide,
     old: &[Wide],

@@ -20,7 +20,7 @@ use Rattle.flt_bpf.specs.Machine.{Next, Goes, Ends, Lost, step, does, does_if_kn
 use Rattle.flt_short.specs.declared.alike.Landing.{Landing}
 use Rattle.flt_bpf.specs.Valid.{IsValid}
 use Rattle.flt_bpf.specs.Layout.{JUMP}
-use Rattle.flt_short.specs.Alike.{MASK, EQUAL, Replaces, reads_accumulator, reads_index, implies, landing_fits_at, landing_fits, goes_on, same_step, one_test, ANY_BIT, direct_code, is_number, direct_load, is_indirect, adds_header, loads_alike, header_load, code_from, stands_at, stands, are_alike, begins}
+use Rattle.flt_short.specs.Alike.{MASK, EQUAL, Shortens, reads_accumulator, reads_index, implies, landing_fits_at, landing_fits, goes_on, same_step, one_test, ANY_BIT, direct_code, is_number, direct_load, is_indirect, adds_header, loads_alike, header_load, code_from, stands_at, stands, are_alike, begins}
 use Rattle.flt_bpf.specs.Answer.{answer_of, answer_after}
 use Rattle.flt_bpf.proofs.Suffix.{answer_drop, machine_answers}
 use Rattle.flt_short.proofs.Basics.{both_true}
@@ -617,7 +617,7 @@ module _ (p : List ℕ) (n : ℕ) where
       let inside = c.upper_bound in
       record { met = c.met; answered = c.answered; upper_bound = omega arith; inside = omega arith }
 
-pub replaced : (new old : List Insn) (ls : List Landing) → length new ≤ length old → length ls ≡ length old → begins ls (length new) ≡ true → are_alike new old ls ≡ true → All (λ i. i.code ≢ JUMP) new → IsValid new → Replaces new old
+pub replaced : (new old : List Insn) (ls : List Landing) → length new ≤ length old → length ls ≡ length old → begins ls (length new) ≡ true → are_alike new old ls ≡ true → All (λ i. i.code ≢ JUMP) new → IsValid new → Shortens new old
 replaced new old ls short same b e free valid =
     record {
       shorter = short;
@@ -628,7 +628,7 @@ replaced new old ls short same b e free valid =
     }
 
 -- each program replaces itself
-pub itself : (old : List Insn) → Replaces old old
+pub itself : (old : List Insn) → Shortens old old
 itself old =
     record {
       shorter = omega arith;

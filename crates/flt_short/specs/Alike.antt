@@ -24,7 +24,7 @@ pub record Comes (prog : List Insn) (p : List ℕ) (n answer most : ℕ) : Type 
 
 -- a program in place of an old one: it is no longer, and on each packet it gives the same answer in
 -- no more instructions
-pub record Replaces (new old : List Insn) : Type 0 where
+pub record Shortens (new old : List Insn) : Type 0 where
   pub shorter : length new ≤ length old
   pub valid : IsValid old → IsValid new
   pub runs : (p : List ℕ) (n answer count : ℕ)

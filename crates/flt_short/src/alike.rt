@@ -2,7 +2,7 @@
 
 ghost use Rattle.std.specs.Prelude.{◌≡◌, ◌≢◌, ◌↔◌, ◌-◌, ◌==◌, ◌&&◌, nat_lt, length, IsTrue, All};
 ghost use Rattle.flt_bpf.specs.Instructions.{operation_of};
-ghost use Rattle.flt_short.specs.Alike.{Replaces, reads_accumulator, reads_index};
+ghost use Rattle.flt_short.specs.Alike.{Shortens, reads_accumulator, reads_index};
 ghost use Rattle.flt_short.specs.Alike.{sets_accumulator, sets_index, implies, landing_fits};
 ghost use Rattle.flt_short.specs.Alike.{goes_on};
 ghost use Rattle.flt_short.specs.Alike.{same_step, one_test, direct_code, is_number, direct_load};
@@ -349,7 +349,7 @@ fn has_no_jump(code: &[Insn]) -> bool
 /// A program may replace an old one: it does the same by its landings, is valid and no longer,
 /// and has no jump.
 pub fn replaces(code: &[Insn], old: &[Insn], landings: &[Landing]) -> bool
-    ensures { IsTrue result → Replaces code.now old.now }
+    ensures { IsTrue result → Shortens code.now old.now }
 {
     if code.len() > old.len() || landings.len() != old.len() {
         return false;

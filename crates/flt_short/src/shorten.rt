@@ -3,7 +3,7 @@
 
 ghost use Rattle.std.specs.Prelude.{IfOk};
 ghost use Rattle.std.specs.Option.{IfSome};
-ghost use Rattle.flt_short.specs.Alike.{Replaces};
+ghost use Rattle.flt_short.specs.Alike.{Shortens};
 
 use crate::alike::{
     Landing, adds_header, is_indirect, reads_accumulator, reads_index, replaces, sets_accumulator,
@@ -425,7 +425,7 @@ fn replacement<A: Allocator>(
     mut backwards: Vec<Insn, A>,
     merges: bool,
 ) -> Option<Vec<Insn, A>>
-    ensures { IfSome result (λ short. Replaces short.items insns.now) }
+    ensures { IfSome result (λ short. Shortens short.items insns.now) }
 {
     let len = shorten(insns, landings, &mut backwards, merges);
     backwards.truncate(len);
@@ -440,7 +440,7 @@ fn attempt<A: Allocator + Clone>(
     merges: bool,
 ) -> Result<Option<Vec<Insn, A>>, AllocError>
     ensures { IfOk result
-        (λ outcome. IfSome outcome (λ short. Replaces short.items insns.now)) }
+        (λ outcome. IfSome outcome (λ short. Shortens short.items insns.now)) }
 {
     let mut landings = vec![in alloc.clone()?; NOWHERE; insns.len()]?;
     let backwards = vec![in alloc; EMPTY; insns.len()]?;
@@ -454,7 +454,7 @@ pub fn shortened<A: Allocator + Clone>(
     alloc: A,
     insns: Vec<Insn, A>,
 ) -> Result<Vec<Insn, A>, AllocError>
-    ensures { IfOk result (λ short. Replaces short.items insns.items) }
+    ensures { IfOk result (λ short. Shortens short.items insns.items) }
 {
     if let Some(short) = attempt(alloc.clone()?, &insns, true)? {
         return Ok(short);

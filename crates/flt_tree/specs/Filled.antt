@@ -17,8 +17,8 @@ latest q (denied a) = latest q a
 latest q (joined j a b) = latest (latest q a) b
 latest q _ = q
 
--- each bare value takes the qualifiers of the nearest value to its left that has some, or q where
--- there is none
+-- each bare value takes the qualifiers of the nearest value to its left that has some, also out of
+-- parentheses and from under `not`, or q where there is none
 abbrev pub with_inherited : Qualifiers → TruthTree → TruthTree
 with_inherited q (bare v) = valued q v
 with_inherited q (denied a) = denied (with_inherited q a)

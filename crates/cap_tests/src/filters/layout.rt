@@ -12,7 +12,7 @@ const RETURN: Wide = Wide {
     k: 0,
 };
 
-/// Each refused growth is an error, and nothing else is.
+/// Each failed allocation is an error, and nothing else is.
 #[test]
 fn refused_growths(rt: HostRuntime) {
     let trial = Trial::new(rt.alloc());
