@@ -1,4 +1,4 @@
--- One more row of a table, and then those behind it.
+-- One more row of a table, and then those after it.
 use Rattle.std.proofs.Common.{◌≡◌, ◌∙◌, ◌∷◌, ◌+◌, ◌<◌, ◌≤◌, ap, sym, add-one, drop-cons, ℕ, List, length, drop, map, slice_index_or}
 use Rattle.std.specs.Prelude.{fold}
 use Rattle.std.proofs.lemmas.List.{drop_all}

@@ -157,7 +157,7 @@ line_shapes formats links =
     ∷ shape_of (name_of sub.Compile) (compile_rules links)
     ∷ []
 
--- the whole line behind the program's name, with `--version` and no subcommand `help`
+-- the whole line after the program's name, with `--version` and no subcommand `help`
 abbrev pub line_app : (formats links : ValueParser) → App
 line_app formats links = with_shapes bare_line (line_shapes formats links)
 

@@ -89,7 +89,7 @@ fn arg_of<'a>(alloc: Global, argument: Argument, choices: Choices<'a>) -> Arg<'a
     }
 }
 
-/// The command with these arguments behind its own.
+/// The command with these arguments after its own.
 fn with_arguments<'a>(
     alloc: Global,
     mut command: Command<'a>,

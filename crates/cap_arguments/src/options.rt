@@ -181,7 +181,7 @@ const MERGE: CommandRow = CommandRow {
             id: ids::APPEND,
             name: Name::Letter('a'),
             value: Value::Flag,
-            help: "Join the captures, one behind another, and don't merge by time",
+            help: "Join the captures, one after another, and don't merge by time",
         },
         Argument {
             id: ids::FORMAT,
@@ -229,7 +229,7 @@ const PRINT: CommandRow = CommandRow {
             id: ids::BYTES,
             name: Name::Letter('x'),
             value: Value::Flag,
-            help: "Print the bytes behind the link header too",
+            help: "Print the bytes after the link header too",
         },
         Argument {
             id: ids::OUT,

@@ -36,7 +36,7 @@ fn refusal_of(alloc: Global, usage: &Usage) -> Result<(String, u8), AllocError> 
     }
 }
 
-/// The words of a line, one text behind another.
+/// The words of a line, one text after another.
 fn words_of(alloc: Global, first: &[&str], more: &[String]) -> Result<Vec<String>, AllocError> {
     let mut words = Vec::new(alloc);
     for word in first {
@@ -89,7 +89,7 @@ fn count_lines(bytes: &[u8]) -> usize {
     lines
 }
 
-/// Whether the outcome is a listing of at most so many instructions.
+/// Whether the outcome is a listing of at most `most` instructions.
 fn is_listing(outcome: &Outcome, most: Option<usize>) -> bool {
     let lines = count_lines(&outcome.written);
     let most = match most {

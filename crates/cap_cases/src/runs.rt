@@ -18,7 +18,7 @@ const SPARE: usize = 1_000;
 /// How many bytes a listing takes at most that no case states.
 const LISTING: usize = 300_000;
 
-/// How many bytes of a listing an expression comes to at most, for each of its own.
+/// How many bytes a listing has at most for each byte of its expression.
 const EXPANSION: usize = 200;
 
 /// How many bytes of messages are taken.
@@ -36,7 +36,7 @@ type Inputs<'d, 'm> = Vec<TrialInput<'d>, &'m Memory>;
 /// A job over memory.
 type TrialJob<'d, 'm> = Job<TrialInput<'d>, TrialOutput<'d>, TrialOutput<'d>, &'m Memory>;
 
-/// What a run leaves: its status, if it came to its end, and its devices.
+/// What a run leaves: its status, if it reached its end, and its devices.
 type Left<'d> = (Option<u8>, TrialOutput<'d>, TrialOutput<'d>);
 
 /// What devices over memory do.
@@ -75,7 +75,7 @@ fn listing_room(case: &Case<'_>) -> usize {
         .min(LISTING)
 }
 
-/// Devices that move so many bytes a call, with room for so much output, and don't fail.
+/// Devices that move a given number of bytes a call, with room for so much output, and don't fail.
 pub fn roomy(piece: usize, output: usize) -> Devices {
     Devices {
         piece,
@@ -88,7 +88,7 @@ pub fn roomy(piece: usize, output: usize) -> Devices {
     }
 }
 
-/// Devices that move so many bytes a call, take all that the case states, and don't fail.
+/// Devices that move `piece` bytes a call, take all that the case states, and don't fail.
 pub fn sound(case: &Case<'_>, piece: usize) -> Devices {
     roomy(piece, case.written.len().saturating_add(SPARE))
 }
@@ -109,8 +109,8 @@ pub struct Outcome {
     pub allocations: u64,
 }
 
-/// What is behind a text at the start of bytes, if it is there.
-fn behind<'b>(bytes: &'b [u8], text: &str) -> Option<&'b [u8]> {
+/// What is after a text at the start of bytes, if it is there.
+fn following<'b>(bytes: &'b [u8], text: &str) -> Option<&'b [u8]> {
     match bytes.split_at_checked(text.len()) {
         Some((front, rest)) if front == text.as_bytes() => Some(rest),
         _ => None,
@@ -119,9 +119,9 @@ fn behind<'b>(bytes: &'b [u8], text: &str) -> Option<&'b [u8]> {
 
 /// Whether messages are one, of these parts.
 fn is_message(messages: &[u8], parts: &[&str]) -> bool {
-    let mut rest = behind(messages, "capkit: ").unwrap_or_default();
+    let mut rest = following(messages, "capkit: ").unwrap_or_default();
     for part in parts {
-        match behind(rest, part) {
+        match following(rest, part) {
             Some(more) => rest = more,
             None => return false,
         }
@@ -268,12 +268,12 @@ fn inputs_over<'m, 'c>(
     Ok(inputs)
 }
 
-/// The number, from 1 on, of what comes after so many others.
+/// The number, from 1 on, of what comes after `before` others.
 fn turn_of(before: Option<u64>) -> Option<u64> {
     Some(before?.saturating_add(1))
 }
 
-/// Makes so many steps, closes the job, and returns the status of the last step.
+/// Makes `steps` steps, closes the job, and returns the status of the last step.
 fn step_on<'d>(mut job: TrialJob<'d, '_>, steps: u64) -> Left<'d> {
     let mut status = None;
     for _ in 0..steps {
@@ -286,7 +286,7 @@ fn step_on<'d>(mut job: TrialJob<'d, '_>, steps: u64) -> Left<'d> {
     (status, out, err)
 }
 
-/// Runs the command for so many steps, or to its end. None where it may not be run.
+/// Runs the command for `steps` steps, or to its end. None where it may not be run.
 fn run_for<'d, 'm>(
     memory: &'m Memory,
     command: Command<&'m Memory>,

@@ -14,14 +14,14 @@ const MASKS: [u8; BITS] = [1, 2, 4, 8, 16, 32, 64, 128];
 /// How many numbers are tried: each power of two up to 2^32, one less and one more.
 pub const NUMBERS: usize = 99;
 
-/// Turns the bit behind so many others into the other one.
+/// Turns the bit after `number` others into the other one.
 fn flip(bytes: &mut [u8], number: usize) {
     if let Some(byte) = bytes.get_mut(number / BITS) {
         *byte ^= MASKS[number % BITS];
     }
 }
 
-/// Turns the bit behind so many others into the other one, and the one before it back.
+/// Turns the bit after `number` others into the other one, and the one before it back.
 pub fn flip_next(bytes: &mut [u8], number: usize) {
     if 0 < number {
         flip(bytes, number - 1);
@@ -29,7 +29,7 @@ pub fn flip_next(bytes: &mut [u8], number: usize) {
     flip(bytes, number);
 }
 
-/// Writes the number of this turn over the little-endian number of so many bytes at a place: a
+/// Writes the number of this turn over the little-endian number of `turn` bytes at a place: a
 /// power of two, one less or one more, as far as it has bytes.
 pub fn set_number(bytes: &mut [u8], (place, size): (usize, usize), turn: usize) {
     let power = u32::try_from(turn / 3).unwrap_or(0);

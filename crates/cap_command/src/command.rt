@@ -67,9 +67,9 @@ pub struct Edit<A: Allocator = Global> {
 #[derive(Clone, Copy)]
 pub enum Shift {
     None,
-    /// They are later by so many nanoseconds.
+    /// How many nanoseconds later they are.
     Later(u64),
-    /// They are earlier by so many nanoseconds.
+    /// How many nanoseconds earlier they are.
     Earlier(u64),
 }
 
@@ -90,11 +90,11 @@ pub struct Print<A: Allocator = Global> {
     /// The bytes of a listing. Where there are some, the packets match that the program accepts
     /// (returns non-zero for).
     pub code: Option<Vec<u8, A>>,
-    /// Where there is one, the job ends after so many packets that match, 1 or more.
+    /// Where there is one, the job ends after this many packets that match, 1 or more.
     pub count: Option<u64>,
     /// Whether a line has the link header too.
     pub link: bool,
-    /// Whether the captured bytes behind the link header follow each line.
+    /// Whether the captured bytes after the link header follow each line.
     pub bytes: bool,
     /// The format in which the packets are written, whole, in place of lines.
     pub write: Option<Format>,
@@ -110,7 +110,7 @@ pub struct Compile<A: Allocator = Global> {
 }
 
 impl<A: Allocator> Command<A> {
-    /// Whether the command may be run on so many inputs.
+    /// Whether the command may be run on `inputs` inputs.
     ///
     /// - An edit has one input, at most `MOST_RANGES` ranges, each from 1 on, in order and below
     ///   2^63, times and spans below 2^63 nanoseconds, packets that keep at least 1 byte, and a
@@ -151,7 +151,7 @@ fn are_ranges(ranges: &[(u64, u64)]) -> bool
     ranges.iter().all(|range| is_range(range.0, range.1))
 }
 
-/// Whether times and spans may be so many nanoseconds: below 2^63.
+/// Whether times and spans may be `nanos` nanoseconds: below 2^63.
 fn is_time(nanos: u64) -> bool
     ensures { result ≡ is_time nanos }
 {
@@ -179,7 +179,7 @@ impl Shift {
     }
 }
 
-/// Whether packets may keep so many bytes.
+/// Whether packets may keep `snap` bytes.
 fn allows_snap(snap: Option<u32>) -> bool
     ensures { result ≡ option_map_or is_at_least_one snap true }
 {
@@ -189,7 +189,7 @@ fn allows_snap(snap: Option<u32>) -> bool
     }
 }
 
-/// Whether duplicates may be searched for within so many packets.
+/// Whether duplicates may be searched for within `window` packets.
 fn allows_window(window: Option<u32>) -> bool
     ensures { result ≡ option_map_or is_window window true }
 {
@@ -233,7 +233,7 @@ impl<A: Allocator> Edit<A> {
     }
 }
 
-/// Whether a print may end after so many packets.
+/// Whether a print may end after `count` packets.
 fn allows_count(count: Option<u64>) -> bool
     ensures { result ≡ option_map_or is_at_least_one count true }
 {

@@ -92,7 +92,7 @@ made-ran e (link ∷ links) (program ∷ programs) (suc i) p made = (made.0, mad
 
 -- ---- the cost
 
--- a program behind a run
+-- a program after a run
 ran : (p : Captured) (before after : Content) (answer count : ℕ) → met_on p before.insns ≡ Answered answer count → after.insns ≡ before.insns
     → after.spent ≡ min (before.spent + count) (2 ^ 128 - 1) → after ≡ ran_on p before
 ran p before after answer count met same spent =

@@ -51,16 +51,16 @@ pub record HasPrograms (e : Expression) (programs : List Content) : Type 0 where
 
 -- ---- runs
 
--- how many instructions a run met that came to an answer
+-- how many instructions a run met that reached an answer
 abbrev pub steps_of_run : Progress → ℕ
 steps_of_run (Answered answer count) = count
 steps_of_run _ = 0
 
--- what a program comes to on a packet
+-- what a program returns on a packet
 abbrev pub met_on : Captured → List Insn → Progress
 met_on p prog = machine prog p.bytes p.orig (length prog)
 
--- a program behind a run on a packet: what it spent rose by the instructions that it met
+-- a program after a run on a packet: what it spent rose by the instructions that it met
 abbrev pub ran_on : Captured → Content → Content
 ran_on p program =
     record {

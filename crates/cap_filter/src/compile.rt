@@ -10,8 +10,8 @@ use flt_gen::generate;
 use flt_words::ExprFault;
 use std::alloc::Allocator;
 
-/// A program for the expression that a text is. An error is the first of the text's faults, or want
-/// of memory.
+/// A program for the expression that a text is. An error is the first of the text's faults, or
+/// that memory ran out.
 pub fn compile_text<A: Allocator + Copy + Drop>(
     alloc: A,
     text: &str,

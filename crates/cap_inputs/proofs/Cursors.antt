@@ -9,10 +9,10 @@ use Rattle.cap_octet.specs.declared.fault.Fault.{Fault}
 use Rattle.cap_io.specs.Source.{Advances, SectionFits, SkipsUnits, Phase, Reading, Ended, Failed, SourceView, Steps, end_offset, phase_after}
 use Rattle.cap_inputs.specs.declared.inputs.Schedule.{Schedule}
 use Rattle.cap_inputs.specs.declared.inputs.Schedule.TheVariants.{Turn, Merge}
-use Rattle.cap_inputs.specs.Cursor.{ordering_of, schedule_after, schedule_behind}
+use Rattle.cap_inputs.specs.Cursor.{ordering_of, schedule_after, schedule_after_decided}
 use Rattle.cap_inputs.specs.Inputs.{DeviceLimits, device_limits, limits_of}
 use Rattle.cap_io.specs.Position.{given_in_all}
-use Rattle.cap_inputs.specs.Inputs.{InputView, InputsView, InputPast, AreInputsBehind, KnowGreatest, IsInput, ReadsInput, ReadSteps, greatest_of, input_after, input_behind, packet_time, with_cursor}
+use Rattle.cap_inputs.specs.Inputs.{InputView, InputsView, InputPast, AreInputsAfter, KnowGreatest, IsInput, ReadsInput, ReadSteps, greatest_of, input_after, input_after_decided, packet_time, with_cursor}
 
 pub get-among : (cursors : List InputView) (i : ℕ) (h d : InputView) → i < length cursors → h ≡ get_or cursors i d → IsInput cursors i h
 get-among [] i h d within is = absurd (omega (arith, within))
@@ -40,9 +40,9 @@ schedule-order (Turn turn) i (Err fault) = refl
 schedule-order (Merge next last) i (Ok found) = refl
 schedule-order (Merge next last) i (Err fault) = refl
 
-pub behind-order : (schedule : Schedule) (i : ℕ) → ordering_of (schedule_behind schedule i) ≡ ordering_of schedule
-behind-order (Turn turn) i = refl
-behind-order (Merge next last) i = refl
+pub following-order : (schedule : Schedule) (i : ℕ) → ordering_of (schedule_after_decided schedule i) ≡ ordering_of schedule
+following-order (Turn turn) i = refl
+following-order (Merge next last) i = refl
 
 pub fetches-by : (inputs : InputsView) (i : ℕ) (r : Result Bool Fault) (old new : InputView) → i < length inputs.cursors → old ≡ get_or inputs.cursors i old
     → Advances old.source.phase old.source r new.source → Steps old.source.phase old.source r new.source → new ≡ input_after old r new.source
@@ -108,7 +108,7 @@ greatest-more [] x = max_comm x.packet.time 0
 greatest-more (p ∷ ps) x = ap (max p.packet.time) (greatest-more ps x) ∙ max-assoc p.packet.time (greatest_of ps) x.packet.time
 
 -- one more packet is done
-pub greatest-decided : (h : InputView) (p : Captured) (offset : ℕ) (ps : List Placed) → h.source.packet ≡ Some p → h.greatest ≡ greatest_of ps → (input_behind h).greatest ≡ greatest_of (ps ++ record { offset = offset; packet = p } ∷ [])
+pub greatest-decided : (h : InputView) (p : Captured) (offset : ℕ) (ps : List Placed) → h.source.packet ≡ Some p → h.greatest ≡ greatest_of ps → (input_after_decided h).greatest ≡ greatest_of (ps ++ record { offset = offset; packet = p } ∷ [])
 greatest-decided h p offset ps held knows =
     ap (λ (o : Option Captured). max h.greatest (packet_time o)) held
     ∙ ap (λ (n : ℕ). max n p.time) knows
@@ -118,9 +118,9 @@ greatest-decided h p offset ps held knows =
 pub greatest-same : (g : ℕ) (ps : List Placed) → g ≡ greatest_of ps → g ≡ greatest_of (ps ++ [])
 greatest-same g ps knows = knows ∙ ap greatest_of (sym (append-nil ps))
 
-pub greatest-here : (us vs : List InputPast) (s s' : InputPast) (xs ys : List InputView) (h h' : InputView) → AreInputsBehind us xs → KnowGreatest (us ++ s ∷ vs) (xs ++ h ∷ ys)
+pub greatest-here : (us vs : List InputPast) (s s' : InputPast) (xs ys : List InputView) (h h' : InputView) → AreInputsAfter us xs → KnowGreatest (us ++ s ∷ vs) (xs ++ h ∷ ys)
     → (h.greatest ≡ greatest_of s.packets → h'.greatest ≡ greatest_of s'.packets) → KnowGreatest (us ++ s' ∷ vs) (xs ++ h' ∷ ys)
-greatest-here [] vs s s' [] ys h h' behind knows goes = (goes knows.0, knows.1)
-greatest-here [] vs s s' (x ∷ xs) ys h h' behind knows goes = absurd behind
-greatest-here (u ∷ us) vs s s' [] ys h h' behind knows goes = absurd behind
-greatest-here (u ∷ us) vs s s' (x ∷ xs) ys h h' behind knows goes = (knows.0, greatest-here us vs s s' xs ys h h' behind.1 knows.1 goes)
+greatest-here [] vs s s' [] ys h h' following knows goes = (goes knows.0, knows.1)
+greatest-here [] vs s s' (x ∷ xs) ys h h' following knows goes = absurd following
+greatest-here (u ∷ us) vs s s' [] ys h h' following knows goes = absurd following
+greatest-here (u ∷ us) vs s s' (x ∷ xs) ys h h' following knows goes = (knows.0, greatest-here us vs s s' xs ys h h' following.1 knows.1 goes)

@@ -12,7 +12,7 @@ use Rattle.cap_inputs.specs.declared.inputs.Schedule.TheVariants.{Turn, Merge}
 use Rattle.cap_inputs.specs.declared.inputs.Next.TheVariants as next
 use Rattle.cap_inputs.specs.Queue.{Queue, NotAfter, Precedes, IsFirstWaiting, is_entered}
 use Rattle.cap_octet.specs.declared.fault.Fault.{Fault}
-use Rattle.cap_inputs.specs.Cursor.{EntersQueue, HasPlaceFor, HoldsQueue, IsNextAt, IsQueued, Leaves, TakesFirst, first_schedule, is_merge, schedule_after, schedule_behind, waiting_total, waits_with}
+use Rattle.cap_inputs.specs.Cursor.{EntersQueue, HasPlaceFor, HoldsQueue, IsNextAt, IsQueued, Leaves, TakesFirst, first_schedule, is_merge, schedule_after, schedule_after_decided, waiting_total, waits_with}
 use Rattle.cap_inputs.specs.Inputs.{InputView, NoneWaits, IsLeast, KeysOver, KeysFrom, IsInput, is_packet_found, key_of, waiting_count}
 use Rattle.cap_io.specs.Sequence.{order_of}
 use Rattle.cap_inputs.proofs.Cursors.{set-here}
@@ -183,7 +183,7 @@ entry-after w (v ∷ vs) t j after e =
     cases ((v.time == t) && (v.input == j)) refl (λ more. entry-after w vs t j (λ k d h. after (suc k) d (omega (arith, h))) more)
   where
     cases : (b : Bool) → ((v.time == t) && (v.input == j)) ≡ b → (is_entered vs t j ≡ true → (w.time < t) ⊎ ((w.time ≡ t) × (w.input ≤ j))) → (w.time < t) ⊎ ((w.time ≡ t) × (w.input ≤ j))
-    cases true is behind =
+    cases true is following =
         let parts = and-true (v.time == t) (v.input == j) is in
         let time = eq-true v.time t parts.0 in
         let input = eq-true v.input j parts.1 in
@@ -191,7 +191,7 @@ entry-after w (v ∷ vs) t j after e =
           | inl lt ↦ inl (omega (arith, lt, time))
           | inr (same, le) ↦ inr (omega (arith, same, time), omega (arith, le, input))
         ]
-    cases false is behind = behind (let E : Bool → Type 0 = λ b. (b || is_entered vs t j) ≡ true in subst E is e)
+    cases false is following = following (let E : Bool → Type 0 = λ b. (b || is_entered vs t j) ≡ true in subst E is e)
 
 waits-front : (xs ys : List InputView) (t j : ℕ) → waits_with xs t j ≡ true → (j < length xs) × (waits_with (xs ++ ys) t j ≡ true)
 waits-front [] ys t j e = absurd (cc)
@@ -269,7 +269,7 @@ waits-split (x ∷ xs) back h t zero e = inl e
 waits-split (x ∷ xs) back h t (suc j) e = elim (waits-split xs back h t j e) [
   | inl in_front ↦ inl in_front
   | inr (inl here) ↦ inr (inl (ap suc here))
-  | inr (inr behind) ↦ inr (inr (behind.0, (let place = behind.1 in omega (arith, place)), behind.2))
+  | inr (inr following) ↦ inr (inr (following.0, (let place = following.1 in omega (arith, place)), following.2))
 ]
 
 over-at : (k : ℕ) (hs : List InputView) (t j : ℕ) → KeysOver k hs → waits_with hs t j ≡ true → k < t
@@ -298,9 +298,9 @@ same-input front back h w waits over from there after = elim (waits-split front 
       let less = over-at (key_of h) front w.time w.input over in_front in
       elim after [ inl lt ↦ absurd (omega (arith, less, lt)) | inr (same, le) ↦ absurd (omega (arith, less, same)) ])
   | inr (inl here) ↦ here
-  | inr (inr behind) ↦ (
-      let most = from-at (key_of h) back w.time behind.0 from behind.2 in
-      let place = behind.1 in
+  | inr (inr following) ↦ (
+      let most = from-at (key_of h) back w.time following.0 from following.2 in
+      let place = following.1 in
       elim after [ inl lt ↦ absurd (omega (arith, most, lt)) | inr (same, le) ↦ absurd (omega (arith, le, place)) ])
 ]
 
@@ -436,7 +436,7 @@ queue-read (Merge first last) cursors i h h' (Err fault) q q' a tells waits ente
     subst Q (sym enters) (subst V (sym (set-among cursors i h h' a)) (queued-still a.front a.back h h' first last q (not-yet cursors i first last h q a tells.is tells.before was) waits (subst W a.splits was)))
 
 taken-in : (schedule : Schedule) (cursors : List InputView) (i : ℕ) (h' : InputView) (q q' : Queue) (taken : Option Waiting) → is_merge schedule ≡ true → IsNextAt schedule cursors (next.Decide i) → h'.waiting ≡ false
-    → TakesFirst taken q q' → q.room ≤ q'.room → HoldsQueue schedule cursors q → HoldsQueue (schedule_behind schedule i) (slice_set cursors i h') q'
+    → TakesFirst taken q q' → q.room ≤ q'.room → HoldsQueue schedule cursors q → HoldsQueue (schedule_after_decided schedule i) (slice_set cursors i h') q'
 taken-in (Turn turn) cursors i h' q q' taken merge tells decided moved roomy was = absurd (cc)
 taken-in (Merge first last) cursors i h' q q' None merge tells decided moved roomy was =
     let least = tells.1 in
@@ -457,7 +457,7 @@ taken-in (Merge first last) cursors i h' q q' (Some w) merge tells decided moved
 
 -- the current packet of the next input is decided
 pub settled-in : (schedule : Schedule) (cursors : List InputView) (i : ℕ) (h' : InputView) (q q' : Queue) → IsNextAt schedule cursors (next.Decide i) → h'.waiting ≡ false
-    → Leaves (is_merge schedule) q q' → HoldsQueue schedule cursors q → HoldsQueue (schedule_behind schedule i) (slice_set cursors i h') q'
+    → Leaves (is_merge schedule) q q' → HoldsQueue schedule cursors q → HoldsQueue (schedule_after_decided schedule i) (slice_set cursors i h') q'
 settled-in (Turn turn) cursors i h' q q' tells decided leaves was = tt
 settled-in (Merge first last) cursors i h' q q' tells decided leaves was = taken-in (Merge first last) cursors i h' q q' leaves.0 refl tells decided leaves.1 leaves.2 was
 

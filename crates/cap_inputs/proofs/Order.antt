@@ -4,7 +4,7 @@ use Rattle.std.proofs.lemmas.List.{append_assoc}
 use Rattle.std.proofs.lemmas.Bool.Decides.{nat_tests}
 use Rattle.cap_octet.specs.declared.fault.Fault.{Fault}
 use Rattle.cap_io.specs.Capture.{Placed, Items, Ending}
-use Rattle.cap_io.specs.Sequence.{Event, Packet, SequenceEnd, Complete, FaultIn, Sequence, with_front, InputItems, Entry, end_behind, entries_of, input_entries, all_entries, comes_before, insert_entry, sort_entries, end_or_more, sequence_of_entries, end_at, first_end, fault_without_packets, unless_fault, sequence_by_time}
+use Rattle.cap_io.specs.Sequence.{Event, Packet, SequenceEnd, Complete, FaultIn, Sequence, with_front, InputItems, Entry, end_after, entries_of, input_entries, all_entries, comes_before, insert_entry, sort_entries, end_or_more, sequence_of_entries, end_at, first_end, fault_without_packets, unless_fault, sequence_by_time}
 
 -- a fact of each
 abbrev pub Each : (Entry → Type 0) → List Entry → Type 0
@@ -79,7 +79,7 @@ AllFrom k (r ∷ rs) = IsFrom k r.greatest r.items.packets × AllFrom k rs
 entries-over : (e : Entry) (input : ℕ) (ending : Ending) (greatest : ℕ) (ps : List Placed) → IsOver e.key greatest ps → Each (λ x. comes_before e x ≡ true) (entries_of input ending greatest ps)
 entries-over e input ending greatest [] h = tt
 entries-over e input ending greatest (p ∷ ps) h = (
-  ahead e (record { key = max greatest p.packet.time; input = input; p = p; last = end_behind input ending ps }) h,
+  ahead e (record { key = max greatest p.packet.time; input = input; p = p; last = end_after input ending ps }) h,
   Each-weaker (FollowsIn input (max greatest p.packet.time)) (λ x. comes_before e x ≡ true) (λ x f. ahead e x (omega (arith, h, f.1))) (entries_of input ending (max greatest p.packet.time) ps)
       (entries-follow input ending (max greatest p.packet.time) ps),
 )
@@ -87,7 +87,7 @@ entries-over e input ending greatest (p ∷ ps) h = (
 entries-from : (e : Entry) (input : ℕ) (ending : Ending) (greatest : ℕ) (ps : List Placed) → e.input < input → IsFrom e.key greatest ps → Each (λ x. comes_before x e ≡ false) (entries_of input ending greatest ps)
 entries-from e input ending greatest [] l h = tt
 entries-from e input ending greatest (p ∷ ps) l h = (
-  not-after e (record { key = max greatest p.packet.time; input = input; p = p; last = end_behind input ending ps }) h l,
+  not-after e (record { key = max greatest p.packet.time; input = input; p = p; last = end_after input ending ps }) h l,
   Each-weaker (FollowsIn input (max greatest p.packet.time)) (λ x. comes_before x e ≡ false) (λ x f. not-after e x (omega (arith, h, f.1)) (omega (arith, l, f.0))) (entries_of input ending (max greatest p.packet.time) ps)
       (entries-follow input ending (max greatest p.packet.time) ps),
 )
@@ -129,7 +129,7 @@ up-to-close Complete e fed = refl
 up-to-close (FaultIn i f o) e fed = refl
 
 -- An input whose current packet has the least key, the lowest input of those: its packet comes first, and what is left
--- behind it is the merge of what is left.
+-- after it is the merge of what is left.
 pub merged-next : (xs ys : List InputItems) (g : ℕ) (p : Placed) (items : Items) (ps : List Placed) (size : ℕ) → items.packets ≡ p ∷ ps
     → fault_without_packets 0 (xs ++ record { greatest = g; items = items; size = size } ∷ ys) ≡ Complete → AllOver (max g p.packet.time) xs → AllFrom (max g p.packet.time) ys
     → sequence_by_time (xs ++ record { greatest = g; items = items; size = size } ∷ ys)
@@ -142,20 +142,20 @@ merged-next xs ys g p items ps size is whole over from =
     let same : record { greatest = g; items = items; size = size } ≡ r = ap (λ (l : List Placed). record { greatest = g; items = record { packets = l; declared = items.declared; ending = items.ending }; size = size }) is in
     let B : InputItems → Type 0 = λ z. fault_without_packets 0 (xs ++ z ∷ ys) ≡ Complete in
     let whole' : fault_without_packets 0 (xs ++ r ∷ ys) ≡ Complete = subst B same whole in
-    let e : Entry = record { key = k; input = n; p = p; last = end_behind n items.ending ps } in
+    let e : Entry = record { key = k; input = n; p = p; last = end_after n items.ending ps } in
     let zero : 0 + n ≡ n = omega arith in
     let apart = first-over (fault_without_packets 0 xs) (fault_without_packets (0 + n) (r ∷ ys)) (sym (broken-append 0 xs (r ∷ ys)) ∙ whole') in
     let rest = first-over (end_at (0 + n) r) (fault_without_packets (0 + n + 1) ys) apart.1 in
-    let behind_e : List Entry = input_entries n r' ++ all_entries (n + 1) ys in
-    let old : all_entries 0 (xs ++ r ∷ ys) ≡ all_entries 0 xs ++ e ∷ behind_e = all_entries-append 0 xs (r ∷ ys) ∙ ap (λ (m : ℕ). all_entries 0 xs ++ all_entries m (r ∷ ys)) zero in
-    let new : all_entries 0 (xs ++ r' ∷ ys) ≡ all_entries 0 xs ++ behind_e = all_entries-append 0 xs (r' ∷ ys) ∙ ap (λ (m : ℕ). all_entries 0 xs ++ all_entries m (r' ∷ ys)) zero in
-    let follows : Each (λ x. comes_before x e ≡ false) behind_e =
+    let after_e : List Entry = input_entries n r' ++ all_entries (n + 1) ys in
+    let old : all_entries 0 (xs ++ r ∷ ys) ≡ all_entries 0 xs ++ e ∷ after_e = all_entries-append 0 xs (r ∷ ys) ∙ ap (λ (m : ℕ). all_entries 0 xs ++ all_entries m (r ∷ ys)) zero in
+    let new : all_entries 0 (xs ++ r' ∷ ys) ≡ all_entries 0 xs ++ after_e = all_entries-append 0 xs (r' ∷ ys) ∙ ap (λ (m : ℕ). all_entries 0 xs ++ all_entries m (r' ∷ ys)) zero in
+    let follows : Each (λ x. comes_before x e ≡ false) after_e =
     Each-append (λ x. comes_before x e ≡ false) (input_entries n r') (all_entries (n + 1) ys)
     (Each-weaker (FollowsIn n k) (λ x. comes_before x e ≡ false) (λ x h. later-own e x h) (input_entries n r') (entries-follow n items.ending k ps))
     (all-from e (n + 1) ys (omega arith) from) in
     let first : sort_entries (all_entries 0 (xs ++ r ∷ ys)) ≡ e ∷ sort_entries (all_entries 0 (xs ++ r' ∷ ys)) =
-    ap sort_entries old ∙ sorted-first e (all_entries 0 xs) behind_e (all-over e 0 xs over) follows ∙ ap (λ (l : List Entry). e ∷ sort_entries l) (sym new) in
-    let left_broken : fault_without_packets 0 (xs ++ r' ∷ ys) ≡ end_behind n items.ending ps =
+    ap sort_entries old ∙ sorted-first e (all_entries 0 xs) after_e (all-over e 0 xs over) follows ∙ ap (λ (l : List Entry). e ∷ sort_entries l) (sym new) in
+    let left_broken : fault_without_packets 0 (xs ++ r' ∷ ys) ≡ end_after n items.ending ps =
     broken-append 0 xs (r' ∷ ys)
     ∙ ap (λ (c : SequenceEnd). first_end c (fault_without_packets (0 + n) (r' ∷ ys))) apart.0
     ∙ ap (λ (c : SequenceEnd). first_end (end_at (0 + n) r') c) rest.1
@@ -164,7 +164,7 @@ merged-next xs ys g p items ps size is whole over from =
     ap (λ (z : InputItems). sequence_by_time (xs ++ z ∷ ys)) same
     ∙ ap (λ (c : SequenceEnd). unless_fault c (sequence_of_entries (sort_entries (all_entries 0 (xs ++ r ∷ ys))))) whole'
     ∙ ap sequence_of_entries first
-    ∙ up-to-close (end_behind n items.ending ps) (Packet n p) (sequence_of_entries (sort_entries (all_entries 0 (xs ++ r' ∷ ys))))
+    ∙ up-to-close (end_after n items.ending ps) (Packet n p) (sequence_of_entries (sort_entries (all_entries 0 (xs ++ r' ∷ ys))))
     ∙ ap (λ (c : SequenceEnd). with_front (Packet n p ∷ []) (unless_fault c (sequence_of_entries (sort_entries (all_entries 0 (xs ++ r' ∷ ys)))))) (sym left_broken)
 
 -- an input that ends by a fault, where none before it does and it has no packet left: nothing more comes

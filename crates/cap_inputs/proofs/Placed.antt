@@ -7,9 +7,9 @@ use Rattle.cap_inputs.specs.declared.inputs.Schedule.{Schedule}
 use Rattle.cap_inputs.specs.declared.inputs.Schedule.TheVariants.{Turn, Merge}
 use Rattle.cap_inputs.specs.declared.inputs.Next.{Next}
 use Rattle.cap_inputs.specs.declared.inputs.Next.TheVariants as next
-use Rattle.cap_inputs.specs.Cursor.{AreToRead, IsNextAt, IsScheduled, IsTurnOf, first_schedule, ordering_of, schedule_after, schedule_behind}
+use Rattle.cap_inputs.specs.Cursor.{AreToRead, IsNextAt, IsScheduled, IsTurnOf, first_schedule, ordering_of, schedule_after, schedule_after_decided}
 use Rattle.cap_io.specs.Sequence.{PacketOrder, InTurn, ByTime}
-use Rattle.cap_inputs.specs.Inputs.{InputView, AllEnded, AllReady, IsInput, IsNextIn, IsOpen, IsReady, NoneEnded, NoneWaits, input_behind, is_packet_found}
+use Rattle.cap_inputs.specs.Inputs.{InputView, AllEnded, AllReady, IsInput, IsNextIn, IsOpen, IsReady, NoneEnded, NoneWaits, input_after_decided, is_packet_found}
 use Rattle.cap_inputs.proofs.Cursors.{set-here}
 
 -- ---- in turn
@@ -217,24 +217,24 @@ placed-read schedule cursors i h h' r a tells waits phase placed =
 
 -- the current packet of an input is decided
 pub placed-decided : (schedule : Schedule) (cursors : List InputView) (i : ℕ) (h : InputView) → IsInput cursors i h → IsNextAt schedule cursors (next.Decide i)
-    → h.source.phase ≡ Reading → IsScheduled schedule cursors → IsScheduled (schedule_behind schedule i) (slice_set cursors i (input_behind h))
+    → h.source.phase ≡ Reading → IsScheduled schedule cursors → IsScheduled (schedule_after_decided schedule i) (slice_set cursors i (input_after_decided h))
 placed-decided schedule cursors i h a tells phase placed =
-    let S : List InputView → Type 0 = λ l. IsScheduled (schedule_behind schedule i) l in
-    let set : slice_set cursors i (input_behind h) ≡ a.front ++ input_behind h ∷ a.back = ap (λ (l : List InputView). slice_set l i (input_behind h)) a.splits ∙ set-here a.front a.back h (input_behind h) i a.place in
+    let S : List InputView → Type 0 = λ l. IsScheduled (schedule_after_decided schedule i) l in
+    let set : slice_set cursors i (input_after_decided h) ≡ a.front ++ input_after_decided h ∷ a.back = ap (λ (l : List InputView). slice_set l i (input_after_decided h)) a.splits ∙ set-here a.front a.back h (input_after_decided h) i a.place in
     subst S (sym set) (by_schedule schedule tells placed)
   where
-    unended : IsOpen (input_behind h)
-    unended = phase-unended (input_behind h) Reading phase (λ e. (cc))
+    unended : IsOpen (input_after_decided h)
+    unended = phase-unended (input_after_decided h) Reading phase (λ e. (cc))
 
-    by_schedule : (schedule : Schedule) → IsNextAt schedule cursors (next.Decide i) → IsScheduled schedule cursors → IsScheduled (schedule_behind schedule i) (a.front ++ input_behind h ∷ a.back)
+    by_schedule : (schedule : Schedule) → IsNextAt schedule cursors (next.Decide i) → IsScheduled schedule cursors → IsScheduled (schedule_after_decided schedule i) (a.front ++ input_after_decided h ∷ a.back)
     by_schedule (Turn turn) tells placed =
         let P : List InputView → Type 0 = λ l. IsTurnOf turn l in
         let at = turn-split a.front a.back h turn (a.place ∙ tells.0) (subst P a.splits placed) in
-        turn-join a.front (input_behind h ∷ a.back) turn (a.place ∙ tells.0) at.0 (unended, at.1.1)
+        turn-join a.front (input_after_decided h ∷ a.back) turn (a.place ∙ tells.0) at.0 (unended, at.1.1)
     by_schedule (Merge n u) tells placed =
         let R : List InputView → Type 0 = λ l. AllReady l in
         let ready = ready-front a.front a.back h (subst R a.splits (all-ready n u cursors tells.0 placed)) in
-        read-again a.front a.back (input_behind h) i a.place ready.0 ready.1 refl unended
+        read-again a.front a.back (input_after_decided h) i a.place ready.0 ready.1 refl unended
 
 -- ---- new inputs
 

@@ -22,7 +22,7 @@ abbrev pub first_schedule : PacketOrder → ℕ → Schedule
 first_schedule InTurn count = Turn 0
 first_schedule ByTime count = Merge 0 count
 
--- behind an input that was read on; where that failed nothing changes
+-- after an input that was read on; where that failed nothing changes
 abbrev pub schedule_after : Schedule → ℕ → Result Bool Fault → Schedule
 schedule_after (Turn turn) i (Ok true) = Turn turn
 schedule_after (Turn turn) i (Ok false) = Turn (i + 1)
@@ -30,14 +30,14 @@ schedule_after (Turn turn) i (Err fault) = Turn turn
 schedule_after (Merge next last) i (Ok found) = Merge (i + 1) last
 schedule_after (Merge next last) i (Err fault) = Merge next last
 
--- behind a packet that is decided
-abbrev pub schedule_behind : Schedule → ℕ → Schedule
-schedule_behind (Turn turn) i = Turn turn
-schedule_behind (Merge next last) i = Merge i (i + 1)
+-- after a packet that is decided
+abbrev pub schedule_after_decided : Schedule → ℕ → Schedule
+schedule_after_decided (Turn turn) i = Turn turn
+schedule_after_decided (Merge next last) i = Merge i (i + 1)
 
 -- ---- what holds
 
--- so many inputs, the first ones, are at their clean ends, and the others aren't
+-- the first n inputs are at their clean ends, and the others aren't
 abbrev pub IsTurnOf : ℕ → List InputView → Type 0
 IsTurnOf turn [] = Unit {0}
 IsTurnOf zero (h ∷ hs) = NoneEnded (h ∷ hs)
@@ -87,7 +87,7 @@ is_merge (Merge next last) = true
 abbrev pub HasPlaceFor : Queue → ℕ → Type 0
 HasPlaceFor q input = (length q.waiting < q.room) × All (λ w. w.input ≢ input) q.waiting
 
--- an entry came to the others, or not
+-- an entry was added to the others, or not
 abbrev pub EntersQueue : Bool → Waiting → Queue → Queue → Type 0
 EntersQueue true entry old new =
     IsPermutation (entry ∷ old.waiting) new.waiting × (old.room ≤ new.room)

@@ -31,7 +31,7 @@ is_in_turn ByTime = false
 
 -- ---- what is left
 
--- what comes behind the current packet: the items, and the number of bytes of the whole input
+-- what comes after the current packet: the items, and the number of bytes of the whole input
 pub record Future : Type 0 where
   pub items : Items
   pub size : ℕ
@@ -74,7 +74,7 @@ abbrev pub ended_count : List InputView → ℕ
 ended_count [] = 0
 ended_count (h ∷ hs) = one_more_if_ended h.source.phase (ended_count hs)
 
--- the order of what is left: in turn, of the first input that isn't at its end and of those behind
+-- the order of what is left: in turn, of the first input that isn't at its end and of those after
 -- it
 abbrev pub sequence_left : PacketOrder → List InputView → List InputItems → Sequence
 sequence_left InTurn cursors rs =
@@ -103,13 +103,13 @@ inputs_with [] hs fs = []
 inputs_with (s ∷ ss) [] fs = []
 inputs_with (s ∷ ss) (h ∷ hs) [] = []
 
--- each cursor is behind what is done of its capture
-abbrev pub AreInputsBehind : List InputPast → List InputView → Type 0
-AreInputsBehind [] [] = Unit {0}
-AreInputsBehind (s ∷ ss) (h ∷ hs) =
-    IsAt s.text s.done s.packets h.waiting h.source × AreInputsBehind ss hs
-AreInputsBehind [] (h ∷ hs) = ⊥
-AreInputsBehind (s ∷ ss) [] = ⊥
+-- each cursor is past what is done of its capture
+abbrev pub AreInputsAfter : List InputPast → List InputView → Type 0
+AreInputsAfter [] [] = Unit {0}
+AreInputsAfter (s ∷ ss) (h ∷ hs) =
+    IsAt s.text s.done s.packets h.waiting h.source × AreInputsAfter ss hs
+AreInputsAfter [] (h ∷ hs) = ⊥
+AreInputsAfter (s ∷ ss) [] = ⊥
 
 -- the greatest time of packets; 0 of none
 abbrev pub greatest_of : List Placed → ℕ
@@ -133,7 +133,7 @@ AreFutures (h ∷ hs) (f ∷ fs) = (h.source.phase ≡ Ended → f ≡ no_future
 AreFutures [] (f ∷ fs) = ⊥
 AreFutures (h ∷ hs) [] = ⊥
 
--- These events came: whatever comes behind the current packets, the job's order has them in front
+-- These events came: whatever comes after the current packets, the job's order has them in front
 -- of what is left.
 abbrev pub AreSettled : List InputPast → InputsView → List Event → Type 0
 AreSettled ss inputs es = (fs : List Future) → AreFutures inputs.cursors fs
@@ -273,7 +273,7 @@ AllReady [] = Unit {0}
 AllReady (h ∷ hs) = IsReady h × AllReady hs
 
 -- In turn, it is this input's turn: those in front of it are at their clean ends, it and those
--- behind it aren't.
+-- after it aren't.
 pub record IsAtTurn (cursors : List InputView) (i : ℕ) (waiting : Bool) : Type 0 where
   pub cursor : InputView
   pub among : IsInput cursors i cursor
@@ -312,8 +312,8 @@ IsNext inputs r = IsNextIn inputs.order inputs.cursors r
 -- ---- a packet is decided
 
 -- the current packet is decided
-abbrev pub input_behind : InputView → InputView
-input_behind h =
+abbrev pub input_after_decided : InputView → InputView
+input_after_decided h =
     record {
       source = h.source;
       waiting = false;
@@ -323,7 +323,7 @@ input_behind h =
 pub record MarksDecided (old : InputsView) (i : ℕ) (new : InputsView) : Type 0 where
   pub cursor : InputView
   pub among : IsInput old.cursors i cursor
-  pub is : new ≡ with_cursor old i (input_behind cursor)
+  pub is : new ≡ with_cursor old i (input_after_decided cursor)
 
 abbrev pub first_declared_link : List InputView → Option ℕ
 first_declared_link [] = None

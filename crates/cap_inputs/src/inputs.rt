@@ -5,7 +5,7 @@ ghost use Rattle.std.specs.Option.{IfSome};
 ghost use Rattle.cap_inputs.specs.Cursor.{EntersQueue, HasPlaceFor, IsAtCursor, IsNextOfMerge};
 ghost use Rattle.cap_inputs.specs.Cursor.{IsQueued};
 ghost use Rattle.cap_inputs.specs.Cursor.{Leaves, first_schedule, is_merge, schedule_after};
-ghost use Rattle.cap_inputs.specs.Cursor.{schedule_behind};
+ghost use Rattle.cap_inputs.specs.Cursor.{schedule_after_decided};
 ghost use Rattle.cap_inputs.specs.Fresh.{fresh_view};
 ghost use Rattle.cap_io.specs.Sequence.{order_of};
 ghost use Rattle.cap_octet.specs.Views.{fresh_input};
@@ -47,7 +47,7 @@ impl<I: Input, A: Allocator> Model for InputCursor<I, A> {
 /// Which input is next, by the order of the packets.
 #[derive(Clone, Copy)]
 pub enum Schedule {
-    /// The inputs come one behind another, and this one is the current one.
+    /// The inputs come one after another, and this one is the current one.
     Turn(usize),
     /// By the greatest times; first the inputs from one up to another are read on.
     Merge(usize, usize),
@@ -73,7 +73,7 @@ fn time_in<I: Input, A: Allocator>(source: &Source<I, A>) -> u64
 
 impl<I: Input, A: Allocator> InputCursor<I, A> {
     ghost use Rattle.cap_inputs.specs.Inputs.{InputView, input_after, is_packet_found};
-    ghost use Rattle.cap_inputs.specs.Inputs.{input_behind};
+    ghost use Rattle.cap_inputs.specs.Inputs.{input_after_decided};
     ghost use Rattle.cap_io.specs.Source.{SourceView, Advances, SectionFits, Reading, Steps};
     ghost use Rattle.cap_io.specs.Source.{phase_after};
     ghost use Rattle.std.specs.Option.{option_map};
@@ -121,7 +121,7 @@ impl<I: Input, A: Allocator> InputCursor<I, A> {
 
     /// The current packet is decided.
     fn mark_decided(&mut self)
-        ensures behind { self.new ≡ input_behind self.old }
+        ensures following { self.new ≡ input_after_decided self.old }
         ensures reading { self.old.waiting ≡ true → self.old.source.phase ≡ Reading }
     {
         self.greatest = self.greatest.max(self.time);
@@ -201,7 +201,7 @@ impl<I: Input, A: Allocator> Inputs<I, A> {
     ghost use Rattle.cap_inputs.specs.Inputs.{ReadSteps, ReadsInput, first_declared_link};
     ghost use Rattle.cap_inputs.specs.Inputs.{is_in_turn};
 
-    /// The inputs, one behind another or merged; `None` where there is no memory.
+    /// The inputs, one after another or merged; `None` where there is no memory.
     pub fn new(alloc: A, inputs: Vec<I, A>, merges: bool) -> Option<Self>
     where
         I: Drop,
@@ -229,7 +229,7 @@ impl<I: Input, A: Allocator> Inputs<I, A> {
         cursors
     }
 
-    /// Whether the inputs come one behind another.
+    /// Whether the inputs come one after another.
     pub fn is_in_turn(&self) -> bool
         ensures { result ≡ is_in_turn self.now.order }
     {
@@ -346,7 +346,7 @@ fn next_in_turn<I: Input, A: Allocator>(cursors: &[InputCursor<I, A>], turn: usi
     }
 }
 
-/// The queue of so many inputs; `None` where there is no memory. Inputs that aren't merged need
+/// The queue of `count` inputs; `None` where there is no memory. Inputs that aren't merged need
 /// none.
 fn queue_for<A: Allocator>(alloc: A, merges: bool, count: usize) -> Option<Queue<A>>
 where
@@ -357,7 +357,7 @@ where
     Queue::new(alloc, room).ok()
 }
 
-/// Goes on behind an input that was read on. If the inputs are merged, it waits where it has a
+/// Goes on after an input that was read on. If the inputs are merged, it waits where it has a
 /// packet; if not, the next one comes where this one is closed. Where the read failed, nothing is
 /// next but to read it again.
 fn go_on<A: Allocator>(
@@ -396,7 +396,7 @@ fn go_on<A: Allocator>(
 fn go_back<A: Allocator>(queue: &mut Queue<A>, schedule: &mut Schedule, input: usize)
     requires { input < 2 ^ 64 - 1 }
     ensures queue { Leaves (is_merge schedule.old) queue.old queue.new }
-    ensures schedule { schedule.new ≡ schedule_behind schedule.old input }
+    ensures schedule { schedule.new ≡ schedule_after_decided schedule.old input }
 {
     if let Schedule::Merge(next, last) = schedule {
         *next = input;

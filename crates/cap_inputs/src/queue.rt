@@ -37,7 +37,7 @@ impl<A: Allocator> Queue<A> {
     ghost use Rattle.std.specs.List.Sorted.{IsPermutation};
     ghost use Rattle.cap_inputs.specs.Queue.{queue, IsFirstWaiting, Precedes};
 
-    /// A queue with room for so many inputs. It takes its memory here.
+    /// A queue with room for `room` inputs. It takes its memory here.
     pub fn new(alloc: A, room: usize) -> Result<Self, AllocError>
         ensures { IfOk result (λ q. q ≡ queue [] room) }
     {

@@ -44,9 +44,9 @@ reads-back text ps holds =
       ending = ap (λ (i : Items). i.ending) all;
     }
 
--- what holds of each packet behind those before it holds of those behind some
-pub each-behind : (Q : Captured → Type 0) (all : List Captured) → ((earlier : List Captured) (p : Captured) (later : List Captured) → all ≡ earlier ++ p ∷ later → Q p)
+-- what holds of each packet after those before it holds of those after some
+pub each-following : (Q : Captured → Type 0) (all : List Captured) → ((earlier : List Captured) (p : Captured) (later : List Captured) → all ≡ earlier ++ p ∷ later → Q p)
     → (earlier ps : List Captured) → all ≡ earlier ++ ps → AllByRecursion Q ps
-each-behind Q all each earlier [] is = tt
-each-behind Q all each earlier (p ∷ ps) is =
-    (each earlier p ps is, each-behind Q all each (earlier ++ p ∷ []) ps (is ∙ sym (append_assoc earlier (p ∷ []) ps)))
+each-following Q all each earlier [] is = tt
+each-following Q all each earlier (p ∷ ps) is =
+    (each earlier p ps is, each-following Q all each (earlier ++ p ∷ []) ps (is ∙ sym (append_assoc earlier (p ∷ []) ps)))

@@ -11,7 +11,7 @@ use Rattle.cap_octet.proofs.Checks.{checked_ok, checked_err}
 use Rattle.cap_pcapng.specs.Block.{Parts, SectionParts, InterfaceParts, EnhancedParts, SimpleParts, SkippedParts, block_checks, parts_in}
 use Rattle.cap_pcapng.specs.Frame.{frame_checks, frame_fault, frame_in, most_block}
 use Rattle.cap_pcapng.specs.Interface.{Described}
-use Rattle.cap_pcapng.specs.Unit.{IsBlock, Section, block_size, checks_among, frame_behind, interfaces_before, order_before, packet_by, packets_in, parts_behind, section_after, section_by, unit_fault}
+use Rattle.cap_pcapng.specs.Unit.{IsBlock, Section, block_size, checks_among, frame_after, interfaces_before, order_before, packet_by, packets_in, parts_after, section_after, section_by, unit_fault}
 use Rattle.cap_pcapng.proofs.Units.{passes, frame_checks-append, frame_in-append, unit_fault-frame, unit_fault-short, unit_fault-block, unit_fault-among, parts_in-append, block_checks-append}
 use Rattle.cap_pcapng.specs.declared.frames.Frame.{Frame}
 use Rattle.cap_pcapng.specs.Effect.{AddsInterface, Enters, IsEntryFault, PacketIfAny, held_packet, section_of}
@@ -39,7 +39,7 @@ pub record BlockMissing (before : Option Section) (text unread' : List ℕ) (fau
   pub there : count ≤ length text
   pub rest : unread' ≡ drop count text
 
--- the packet of a block behind others
+-- the packet of a block after others
 pub record BlockPacket (order : Order) (before : Option Section) (block : List ℕ) (spans : PacketSpans) : Type 0 where
   pub packet : Captured
   pub stands : packets_in before block ≡ packet ∷ []
@@ -70,16 +70,16 @@ front_says section front answer frame is ok =
     record { passes = both.0; says = both.1 }
 
 -- the same of a text that begins with them
-pub says_behind : (before : Option Section) (section : Option Order) (front more : List ℕ) (frame : Frame) → order_before before ≡ section → 12 ≤ length front → FrontSays section front frame
-    → (first_failing (frame_checks (order_before before) (front ++ more)) ≡ None) × (frame_behind before (front ++ more) ≡ frame)
-says_behind before section front more frame is enough said = (
+pub says_after : (before : Option Section) (section : Option Order) (front more : List ℕ) (frame : Frame) → order_before before ≡ section → 12 ≤ length front → FrontSays section front frame
+    → (first_failing (frame_checks (order_before before) (front ++ more)) ≡ None) × (frame_after before (front ++ more) ≡ frame)
+says_after before section front more frame is enough said = (
   ap (λ o. first_failing (frame_checks o (front ++ more))) is ∙ ap first_failing (frame_checks-append section front more enough) ∙ said.passes,
   ap (λ o. frame_in o (front ++ more)) is ∙ frame_in-append section front more enough ∙ said.says,
 )
 
--- so many bytes were taken, the front among them
-taken_behind : (front unread unread' : List ℕ) (count : ℕ) → unread' ≡ drop count unread → unread' ≡ drop (length front + count) (front ++ unread)
-taken_behind front unread unread' count rest =
+-- a given number of bytes were taken, the front among them
+taken_after : (front unread unread' : List ℕ) (count : ℕ) → unread' ≡ drop count unread → unread' ≡ drop (length front + count) (front ++ unread)
+taken_after front unread unread' count rest =
     rest ∙ ap (drop count) (sym (drop_at front unread (length front) refl)) ∙ drop-drop count (length front) (front ++ unread)
 
 block_missing : (before : Option Section) (front unread unread' : List ℕ) (fault : Fault) (count : ℕ) → length front ≡ 12
@@ -94,7 +94,7 @@ block_missing before front unread unread' fault count upper_bound why within unf
   upper_bound = rw upper_bound small;
   unfinished = λ failed. rw upper_bound (unfinished failed);
   there = omega (arith, length-append front unread, there);
-  rest = taken_behind front unread unread' count rest;
+  rest = taken_after front unread unread' count rest;
 }
 
 pub frame_refused : (before : Option Section) (section : Option Order) (front unread : List ℕ) (answer : Result Frame Fault) (fault : Fault) → order_before before ≡ section → length front ≡ 12
@@ -116,7 +116,7 @@ no_room_for_block before front unread upper_bound =
 pub block-exceeds : (before : Option Section) (section : Option Order) (front unread : List ℕ) (frame : Frame) (room : ℕ) → order_before before ≡ section → length front ≡ 12
     → FrontSays section front frame → room < frame.length → room < block_length before (front ++ unread)
 block-exceeds before section front unread frame room is upper_bound said less =
-    let both = says_behind before section front unread frame is (omega arith) said in
+    let both = says_after before section front unread frame is (omega arith) said in
     let size : block_size before (front ++ unread) ≡ frame.length = ap (λ (f : Frame). f.length) both.1 in
     let long : block_length before (front ++ unread) ≡ block_size before (front ++ unread) = ap (λ (f : Option Fault). length_by_front f 0 (block_size before (front ++ unread))) both.0 in
     omega (arith, less, size, long)
@@ -129,7 +129,7 @@ pub rest_of_block : (before : Option Section) (section : Option Order) (front un
     → FrontSays section front frame → frame.length ≤ most_block → RestMissing (length front) frame.length unread unread' fault
     → BlockMissing before (front ++ unread) unread' fault
 rest_of_block before section front unread unread' frame fault is upper_bound said small missing =
-    let both = says_behind before section front unread frame is (omega arith) said in
+    let both = says_after before section front unread frame is (omega arith) said in
     let size : block_size before (front ++ unread) ≡ frame.length = ap (λ (f : Frame). f.length) both.1 in
     let reads : decisive_block_length before (front ++ unread) ≡ block_size before (front ++ unread) = ap (λ (f : Option Fault). length_by_front f 12 (block_size before (front ++ unread))) both.0 in
     let long : length (front ++ unread) ≡ length front + length unread = length-append front unread in
@@ -156,14 +156,14 @@ whole_came section front unread unread' unit buffer frame upper_bound said there
 -- the frame of a block is that of the text that begins with it
 record IsFramed (before : Option Section) (block more : List ℕ) (frame : Frame) : Type 0 where
   framed : first_failing (frame_checks (order_before before) (block ++ more)) ≡ None
-  behind : frame_behind before (block ++ more) ≡ frame
-  alone : frame_behind before block ≡ frame
+  following : frame_after before (block ++ more) ≡ frame
+  alone : frame_after before block ≡ frame
 
 framed_block : (before : Option Section) (section : Option Order) (block more : List ℕ) (frame : Frame) → order_before before ≡ section → 12 ≤ length block
     → frame_fault section block ≡ None → frame_in section block ≡ frame → IsFramed before block more frame
 framed_block before section block more frame is enough none says = record {
   framed = ap (λ o. first_failing (frame_checks o (block ++ more))) is ∙ ap first_failing (frame_checks-append section block more enough) ∙ none;
-  behind = ap (λ o. frame_in o (block ++ more)) is ∙ frame_in-append section block more enough ∙ says;
+  following = ap (λ o. frame_in o (block ++ more)) is ∙ frame_in-append section block more enough ∙ says;
   alone = ap (λ o. frame_in o block) is ∙ says;
 }
 
@@ -176,12 +176,12 @@ entry_refused before section interfaces text unread' block buffer frame fault is
     let size : length block ≡ frame.length = ap length block_is ∙ length-take-le frame.length buffer room in
     let splits : text ≡ block ++ unread' = came.splits ∙ ap (λ (l : List ℕ). l ++ unread') (sym block_is) in
     let f = framed_block before section block unread' frame is (omega arith) (ap (frame_fault section) block_is ∙ came.passes) (ap (frame_in section) block_is ∙ came.says) in
-    let whole : block_size before (block ++ unread') ≡ frame.length = ap (λ (g : Frame). g.length) f.behind in
+    let whole : block_size before (block ++ unread') ≡ frame.length = ap (λ (g : Frame). g.length) f.following in
     let long : length (block ++ unread') ≡ length block + length unread' = length-append block unread' in
-    let blocked : first_failing (block_checks (frame_behind before (block ++ unread')) (block ++ unread')) ≡ first_failing (block_checks frame block) =
-    ap (λ (g : Frame). first_failing (block_checks g (block ++ unread'))) f.behind ∙ ap first_failing (block_checks-append frame block unread' least (omega arith)) in
-    let parts : parts_behind before (block ++ unread') ≡ parts_in frame block =
-    ap (λ (g : Frame). parts_in g (block ++ unread')) f.behind ∙ parts_in-append frame block unread' least (omega arith) in
+    let blocked : first_failing (block_checks (frame_after before (block ++ unread')) (block ++ unread')) ≡ first_failing (block_checks frame block) =
+    ap (λ (g : Frame). first_failing (block_checks g (block ++ unread'))) f.following ∙ ap first_failing (block_checks-append frame block unread' least (omega arith)) in
+    let parts : parts_after before (block ++ unread') ≡ parts_in frame block =
+    ap (λ (g : Frame). parts_in g (block ++ unread')) f.following ∙ parts_in-append frame block unread' least (omega arith) in
     let P : List ℕ → Type 0 = λ t. BlockMissing before t unread' fault in
     subst P (sym splits) (record {
       why = elim entry [
@@ -203,7 +203,7 @@ entry_refused before section interfaces text unread' block buffer frame fault is
 -- what holds of a block that has an interface holds of the text that begins with it
 pub record Describes (before : Option Section) (text : List ℕ) : Type 0 where
   pub passes : unit_fault before text ≡ None
-  pub is : is_interface (parts_behind before text) ≡ true
+  pub is : is_interface (parts_after before text) ≡ true
 
 pub adds-describes : (before : Option Section) (section : Option Order) (interfaces : List Described) (text unread' block buffer : List ℕ) (frame : Frame)
     → order_before before ≡ section → interfaces_before before ≡ interfaces → 12 ≤ frame.length → frame.length ≤ length buffer
@@ -212,12 +212,12 @@ adds-describes before section interfaces text unread' block buffer frame is same
     let size : length block ≡ frame.length = ap length block_is ∙ length-take-le frame.length buffer room in
     let splits : text ≡ block ++ unread' = came.splits ∙ ap (λ (l : List ℕ). l ++ unread') (sym block_is) in
     let f = framed_block before section block unread' frame is (omega arith) (ap (frame_fault section) block_is ∙ came.passes) (ap (frame_in section) block_is ∙ came.says) in
-    let whole : block_size before (block ++ unread') ≡ frame.length = ap (λ (g : Frame). g.length) f.behind in
+    let whole : block_size before (block ++ unread') ≡ frame.length = ap (λ (g : Frame). g.length) f.following in
     let long : length (block ++ unread') ≡ length block + length unread' = length-append block unread' in
-    let blocked : first_failing (block_checks (frame_behind before (block ++ unread')) (block ++ unread')) ≡ first_failing (block_checks frame block) =
-    ap (λ (g : Frame). first_failing (block_checks g (block ++ unread'))) f.behind ∙ ap first_failing (block_checks-append frame block unread' least (omega arith)) in
-    let parts : parts_behind before (block ++ unread') ≡ parts_in frame block =
-    ap (λ (g : Frame). parts_in g (block ++ unread')) f.behind ∙ parts_in-append frame block unread' least (omega arith) in
+    let blocked : first_failing (block_checks (frame_after before (block ++ unread')) (block ++ unread')) ≡ first_failing (block_checks frame block) =
+    ap (λ (g : Frame). first_failing (block_checks g (block ++ unread'))) f.following ∙ ap first_failing (block_checks-append frame block unread' least (omega arith)) in
+    let parts : parts_after before (block ++ unread') ≡ parts_in frame block =
+    ap (λ (g : Frame). parts_in g (block ++ unread')) f.following ∙ parts_in-append frame block unread' least (omega arith) in
     let P : List ℕ → Type 0 = λ t. Describes before t in
     subst P (sym splits) (record {
       passes = unit_fault-among before (block ++ unread') (omega arith) f.framed (omega arith) (blocked ∙ adds.passes)
@@ -236,7 +236,7 @@ section_same before order interfaces (EnhancedParts number ticks captured orig o
 section_same before order interfaces (SimpleParts orig rest) same = rw same refl
 section_same before order interfaces SkippedParts same = rw same refl
 
-packet_if_any : (order : Order) (before : Option Section) (interfaces : List Described) (block : List ℕ) (parts : Parts) (spans : Option PacketSpans) → interfaces_before before ≡ interfaces → parts_behind before block ≡ parts
+packet_if_any : (order : Order) (before : Option Section) (interfaces : List Described) (block : List ℕ) (parts : Parts) (spans : Option PacketSpans) → interfaces_before before ≡ interfaces → parts_after before block ≡ parts
     → PacketIfAny order interfaces parts block spans → BlockPacketIfAny order before block spans
 packet_if_any order before interfaces block parts None same is none = ap₂ (λ (i : List Described) (p : Parts). option_to_list (packet_by i p)) same is ∙ ap option_to_list none
 packet_if_any order before interfaces block parts (Some spans) same is stands = record {
@@ -254,8 +254,8 @@ block_came before section interfaces interfaces' text unread' block buffer frame
     let f = framed_block before section block [] frame is (omega arith) (ap (frame_fault section) block_is ∙ came.passes) (ap (frame_in section) block_is ∙ came.says) in
     let framed : first_failing (frame_checks (order_before before) block) ≡ None = ap (λ o. frame_fault o block) is ∙ ap (frame_fault section) block_is ∙ came.passes in
     let whole : block_size before block ≡ frame.length = ap (λ (g : Frame). g.length) f.alone in
-    let parts : parts_behind before block ≡ parts_in frame block = ap (λ (g : Frame). parts_in g block) f.alone in
-    let blocked : first_failing (block_checks (frame_behind before block) block) ≡ None = ap (λ (g : Frame). first_failing (block_checks g block)) f.alone ∙ enters.passes in
+    let parts : parts_after before block ≡ parts_in frame block = ap (λ (g : Frame). parts_in g block) f.alone in
+    let blocked : first_failing (block_checks (frame_after before block) block) ≡ None = ap (λ (g : Frame). first_failing (block_checks g block)) f.alone ∙ enters.passes in
     let among : unit_fault before block ≡ None =
     unit_fault-among before block (omega arith) framed (omega arith) blocked
     ∙ ap₂ (λ (i : List Described) (p : Parts). first_failing (checks_among i p)) same parts ∙ enters.among in

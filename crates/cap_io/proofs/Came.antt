@@ -20,10 +20,10 @@ use Rattle.cap_io.specs.Reading.{most_in_unit, most_taken, length_by_front, deci
 use Rattle.cap_io.proofs.Fronts.{front_of-no_header, front_of-no_record, front_of-pcapng, is_section-append, is_pcapng-append, most_taken-block, most_taken-header, most_taken-record, most_taken-front, decisive_length-header}
 use Rattle.cap_io.proofs.OwnFaults.{fields-not_failed, fields-not_memory, header-not_failed, header-not_memory}
 
--- bytes that came, and some more behind them
-pub Taken-behind : (declared : Declared) (unread unread1 unread2 front : List ℕ) (fault : Fault) (count : ℕ) → unread ≡ front ++ unread1 → count ≤ length unread1 → unread2 ≡ drop count unread1
+-- bytes that came, and some more after them
+pub Taken-following : (declared : Declared) (unread unread1 unread2 front : List ℕ) (fault : Fault) (count : ℕ) → unread ≡ front ++ unread1 → count ≤ length unread1 → unread2 ≡ drop count unread1
     → length front + count ≤ most_taken (front_of declared unread) → (fault ≡ ReadFailed → length front + count < decisive_length declared unread) → IsTaken declared unread unread2 fault
-Taken-behind declared unread unread1 unread2 front fault count splits there rest within unfinished = record {
+Taken-following declared unread unread1 unread2 front fault count splits there rest within unfinished = record {
   count = length front + count;
   within = within;
   unfinished = unfinished;
@@ -39,7 +39,7 @@ filled unread buf unread' buf' n came full =
 
 -- ---- the first four bytes
 
--- so many bytes are no more than the first unit of any file
+-- a given number of bytes are no more than the first unit of any file
 pub most_taken-file : (text : List ℕ) (count : ℕ) → count ≤ 12 → count ≤ most_taken (front_of Nothing text)
 most_taken-file text count upper_bound = by_kind (is_pcapng text) refl
   where
@@ -52,9 +52,9 @@ most_taken-file text count upper_bound = by_kind (is_pcapng text) refl
         (most_taken-block None None text count (λ none. omega (arith, upper_bound, (block.passes None text none).least)) (omega (arith, upper_bound)))
     by_kind false is = most_taken-header text count is (omega (arith, upper_bound))
 
--- what is refused behind the first four bytes is refused with them
-pub NoUnitCame-behind : (unread unread1 unread2 first : List ℕ) (fault : Fault) → unread ≡ first ++ unread1 → NoUnitCame Nothing (first ++ unread1) unread2 fault → NoUnitCame Nothing unread unread2 fault
-NoUnitCame-behind unread unread1 unread2 first fault splits refuses = let P : List ℕ → Type 0 = λ t. NoUnitCame Nothing t unread2 fault in subst P (sym splits) refuses
+-- what is refused after the first four bytes is refused with them
+pub NoUnitCame-following : (unread unread1 unread2 first : List ℕ) (fault : Fault) → unread ≡ first ++ unread1 → NoUnitCame Nothing (first ++ unread1) unread2 fault → NoUnitCame Nothing unread unread2 fault
+NoUnitCame-following unread unread1 unread2 first fault splits refuses = let P : List ℕ → Type 0 = λ t. NoUnitCame Nothing t unread2 fault in subst P (sym splits) refuses
 
 -- ---- the file header
 
@@ -67,7 +67,7 @@ no_magic unread unread' magic splits size other none =
     let kind : is_pcapng unread ≡ false = other_kind unread unread' magic splits size other in
     record {
       why = inl (front_of-no_header unread NotACaptureFile kind (header_fault-no_magic unread whole));
-      taken = Taken-behind Nothing unread unread' unread' magic NotACaptureFile 0 splits (omega arith) refl (most_taken-header unread (length magic + 0) kind (omega arith)) (λ failed. (cc));
+      taken = Taken-following Nothing unread unread' unread' magic NotACaptureFile 0 splits (omega arith) refl (most_taken-header unread (length magic + 0) kind (omega arith)) (λ failed. (cc));
     }
 
 pub rest_of_header : (unread unread1 unread2 magic : List ℕ) (fault : Fault) (whole : ℕ) → whole ≡ 24 → unread ≡ magic ++ unread1 → length magic ≡ 4 → is_section magic ≡ false → is_some (form_in magic) ≡ true
@@ -81,11 +81,11 @@ rest_of_header unread unread1 unread2 magic fault whole is splits size other som
         | inl short ↦ inl (rw short.0 (front_of-no_header unread Truncated kind (header_fault-short unread form (omega arith) (omega (arith, short.1)))))
         | inr failed ↦ inr (inl failed)
       ];
-      taken = Taken-behind Nothing unread unread1 unread2 magic fault missing.count splits missing.there missing.rest (most_taken-header unread (length magic + missing.count) kind (omega (arith, missing.within)))
+      taken = Taken-following Nothing unread unread1 unread2 magic fault missing.count splits missing.there missing.rest (most_taken-header unread (length magic + missing.count) kind (omega (arith, missing.within)))
           (λ failed. rw (decisive_length-header unread kind form) (omega (arith, missing.within)));
     }
 
--- bytes that came whole behind their first ones, which are still there
+-- bytes that came whole after their first ones, which are still there
 pub first_of : (first bytes : List ℕ) (size : ℕ) → length bytes ≡ size → take (length first) (take size bytes) ≡ first → take (length first) bytes ≡ first
 first_of first bytes size whole came = ap (take (length first)) (sym (take_all size bytes (omega arith))) ∙ came
 
@@ -94,8 +94,8 @@ pub joined_front : (unread unread1 unread2 first bytes : List ℕ) (size : ℕ) 
 joined_front unread unread1 unread2 first bytes size whole splits front rest =
     let n = length first in
     let same : take size bytes ≡ bytes = take_all size bytes (omega arith) in
-    let behind : unread1 ≡ drop n bytes ++ unread2 = rest ∙ ap (λ (l : List ℕ). drop n l ++ unread2) same in
-    splits ∙ ap (λ (l : List ℕ). first ++ l) behind ∙ sym (append_assoc first (drop n bytes) unread2)
+    let following : unread1 ≡ drop n bytes ++ unread2 = rest ∙ ap (λ (l : List ℕ). drop n l ++ unread2) same in
+    splits ∙ ap (λ (l : List ℕ). first ++ l) following ∙ sym (append_assoc first (drop n bytes) unread2)
     ∙ ap (λ (l : List ℕ). l ++ unread2) (ap (λ (l : List ℕ). l ++ drop n bytes) (sym (first_of first bytes size whole front)) ∙ take-append-drop n bytes)
 
 header_says : (unread unread2 bytes : List ℕ) (head : Head) → unread ≡ bytes ++ unread2 → length bytes ≡ 24 → Ok head ≡ checked (header_fault bytes) (header_in bytes) → HeaderCame unread head unread2
@@ -110,7 +110,7 @@ header_wrong unread unread2 bytes fault splits size other is =
     let whole : header_fault unread ≡ Some fault = ap header_fault splits ∙ header_fault-append bytes unread2 (omega arith) ∙ fails in
     record {
       why = inl (front_of-no_header unread fault kind whole);
-      taken = Taken-behind Nothing unread unread2 unread2 bytes fault 0 splits (omega arith) refl (most_taken-header unread (length bytes + 0) kind (omega arith))
+      taken = Taken-following Nothing unread unread2 unread2 bytes fault 0 splits (omega arith) refl (most_taken-header unread (length bytes + 0) kind (omega arith))
           (λ failed. absurd (header-not_failed bytes fault fails failed));
     }
 
@@ -151,14 +151,14 @@ fields_refused head unread unread1 front answer fault splits size is err =
     let long : length unread ≡ length front + length unread1 = ap length splits ∙ length-append front unread1 in
     record {
       why = inl (front_of-no_record head unread fault (omega arith) (record_fault-fields head unread fault (omega arith) whole));
-      taken = Taken-behind (PcapFile head) unread unread1 unread1 front fault 0 splits (omega arith) refl (most_taken-front head unread (length front + 0) (omega arith))
+      taken = Taken-following (PcapFile head) unread unread1 unread1 front fault 0 splits (omega arith) refl (most_taken-front head unread (length front + 0) (omega arith))
           (λ failed. absurd (fields-not_failed head front fault fails failed));
     }
 
 pub error_is : {X : Type 0} {fault other : Fault} → (let r : Result X Fault = Err fault in r ≡ Err other) → fault ≡ other
 error_is e = (cc)
 
--- a check of a record's header tells no want of memory
+-- a check of a record's header doesn't report that memory ran out
 pub fields-has_memory : (head : Head) (front : List ℕ) (answer : Result RecordHead Fault) (fault : Fault) → answer ≡ checked (first_failing (field_checks head front)) (record_header_in head front) → answer ≡ Err fault
     → fault ≡ NoMemory → ⊥
 fields-has_memory head front answer fault is err =
@@ -182,7 +182,7 @@ record-takes head unread unread1 front found size room is splits upper_bound fie
 pub no_room : (head : Head) (unread unread1 front : List ℕ) → unread ≡ front ++ unread1 → length front ≡ 16 → NoUnitCame (PcapFile head) unread unread1 NoMemory
 no_room head unread unread1 front splits size = record {
   why = inr (inr refl);
-  taken = Taken-behind (PcapFile head) unread unread1 unread1 front NoMemory 0 splits (omega arith) refl (most_taken-front head unread (length front + 0) (omega arith)) (λ failed. (cc));
+  taken = Taken-following (PcapFile head) unread unread1 unread1 front NoMemory 0 splits (omega arith) refl (most_taken-front head unread (length front + 0) (omega arith)) (λ failed. (cc));
 }
 
 pub data_missing : (head : Head) (unread unread1 unread2 front : List ℕ) (found : RecordHead) (fault : Fault) (size : ℕ) → size ≡ 16 + found.captured → unread ≡ front ++ unread1 → length front ≡ 16 → FieldsCame head front found
@@ -198,16 +198,16 @@ data_missing head unread unread1 unread2 front found fault size is splits upper_
         | inl short ↦ inl (rw short.0 (front_of-no_record head unread Truncated (omega arith) (record_fault-short head unread (omega arith) none (omega (arith, short.1)))))
         | inr failed ↦ inr (inl failed)
       ];
-      taken = Taken-behind (PcapFile head) unread unread1 unread2 front fault missing.count splits missing.there missing.rest
+      taken = Taken-following (PcapFile head) unread unread1 unread2 front fault missing.count splits missing.there missing.rest
           (most_taken-record head unread (length front + missing.count) (omega (arith, missing.within)) (omega (arith, missing.within))) (λ failed. rw reads (omega (arith, missing.within)));
     }
 
 pub record_came : (head : Head) (unread unread1 unread2 front unit buffer : List ℕ) (found : RecordHead) (size : ℕ) → unread ≡ front ++ unread1 → length front ≡ 16 → FieldsCame head front found
     → size ≡ 16 + found.captured → length unit ≡ size → take (length front) unit ≡ front → unread1 ≡ drop (length front) unit ++ unread2 → take size buffer ≡ unit
     → PacketCame (PcapFile head) unread buffer (record { size = size; bytes = record { start = 16; length = found.captured }; options = record { start = 16; length = 0 }; interface = 0; time = found.time; orig = found.orig }) (PcapFile head) unread2
-record_came head unread unread1 unread2 front unit buffer found size splits upper_bound fields e whole came behind there =
+record_came head unread unread1 unread2 front unit buffer found size splits upper_bound fields e whole came following there =
     let same : take 16 unit ≡ front = ap (λ (n : ℕ). take n unit) (sym upper_bound) ∙ came in
-    let rest : unread1 ≡ drop 16 unit ++ unread2 = behind ∙ ap (λ (n : ℕ). drop n unit ++ unread2) upper_bound in
+    let rest : unread1 ≡ drop 16 unit ++ unread2 = following ∙ ap (λ (n : ℕ). drop n unit ++ unread2) upper_bound in
     let said : found.captured ≡ captured_len head front = ap (λ (h : RecordHead). h.captured) fields.says in
     let joined : front ++ drop 16 unit ≡ unit = ap (λ (l : List ℕ). l ++ drop 16 unit) (sym same) ∙ take-append-drop 16 unit in
     let says : record_header_in head unit ≡ found = ap (record_header_in head) (sym joined) ∙ record_header_in-append head front (drop 16 unit) (omega arith) ∙ sym fields.says in

@@ -16,7 +16,7 @@ use Rattle.cap_pcap.specs.declared.header.Head.{Head}
 use Rattle.cap_pcapng.specs.Block.{Parts, SectionParts, InterfaceParts, EnhancedParts, SimpleParts, SkippedParts, body_in, parts_in, parts_in_body}
 use Rattle.cap_pcapng.specs.Frame.{frame_in, is_section, magic_order, order_in, type_in, type_of_block}
 use Rattle.cap_pcapng.specs.Interface.{Described, FitSection}
-use Rattle.cap_pcapng.specs.Unit.{IsBlock, Section, frame_behind, interfaces_before, order_before, packet_by, packets_in, parts_behind, section_after, section_by, unit_fault}
+use Rattle.cap_pcapng.specs.Unit.{IsBlock, Section, frame_after, interfaces_before, order_before, packet_by, packets_in, parts_after, section_after, section_by, unit_fault}
 use Rattle.cap_pcapng.specs.declared.frames.BlockType.TheVariants as type
 use Rattle.cap_pcapng.proofs.Units.{passes, unit_fault-few}
 use Rattle.cap_octet.specs.declared.device.Input.{Ghosts}
@@ -32,8 +32,8 @@ use Rattle.cap_io.specs.Capture.{Declared, Nothing, PcapFile, PcapngFile, Front,
 use Rattle.cap_io.specs.Reading.{BeginsBlock, FrontMissing, HasInterface, HeaderCame, IsSized, IsConsistent, PacketCame, ReadsUnit, NoUnitCame, RestMissing, TakesMemory, UnitCame, UnitPassed, declared_by, read_failures, known_first_link, known_order, most_taken, packet_in_unit, decisive_length, block_length, decisive_block_length, section_before, unit_size}
 use Rattle.cap_pcapng.specs.Effect.{span_bytes, is_interface}
 use Rattle.cap_io.proofs.BlocksCame.{BlockCame, BlockMissing, Describes}
-use Rattle.cap_io.proofs.Came.{Taken-behind, most_taken-file}
-use Rattle.cap_io.proofs.Fronts.{front_of-behind, front_of-pcapng, front_of_block-none, is_pcapng-append, most_taken-block, decisive_length-pcapng, decisive_block_length-few, is_section-append}
+use Rattle.cap_io.proofs.Came.{Taken-following, most_taken-file}
+use Rattle.cap_io.proofs.Fronts.{front_of-following, front_of-pcapng, front_of_block-none, is_pcapng-append, most_taken-block, decisive_length-pcapng, decisive_block_length-few, is_section-append}
 use Rattle.cap_io.proofs.Units.{and_second, first-section}
 
 -- ---- no block
@@ -70,7 +70,7 @@ stands_at state.Unknown interfaces front more enough begins =
     record { front = front_of-pcapng (front ++ more) kind; reads = decisive_length-pcapng (front ++ more) kind }
 stands_at (state.Pcap head) interfaces front more enough begins = absurd begins
 stands_at (state.Pcapng order first) interfaces front more enough begins =
-    record { front = front_of-behind first (section_of order interfaces) (front ++ more) (omega (arith, length-append front more)); reads = refl }
+    record { front = front_of-following first (section_of order interfaces) (front ++ more) (omega (arith, length-append front more)); reads = refl }
 
 pub refused-block : (file : FileState) (interfaces : List Described) (front unread unread' : List ℕ) (fault : Fault) → length front ≡ 12 → BeginsBlock file front
     → BlockMissing (section_before file interfaces) (front ++ unread) unread' fault → NoUnitCame (declared_by file interfaces) (front ++ unread) unread' fault
@@ -79,11 +79,11 @@ refused-block file interfaces front unread unread' fault upper_bound begins m =
     missing-refuses (declared_by file interfaces) (known_first_link file) (section_before file interfaces) (front ++ unread) unread' fault stands.front stands.reads m
 
 -- a section header holds no packet
-section-parts : (before : Option Section) (block : List ℕ) → is_section block ≡ true → parts_behind before block ≡ SectionParts
+section-parts : (before : Option Section) (block : List ℕ) → is_section block ≡ true → parts_after before block ≡ SectionParts
 section-parts before block is =
     let kind : type_in (order_before before) block ≡ type.Section =
     ap (λ (b : Bool). if b then type.Section else type_of_block (u32_in (order_in (order_before before) block) block 0)) is in
-    ap (λ k. parts_in_body k (frame_behind before block).order (body_in (frame_behind before block) block)) kind
+    ap (λ k. parts_in_body k (frame_after before block).order (body_in (frame_after before block) block)) kind
 
 -- where a block would stand, it takes memory if it is longer, or describes an interface
 pub block-takes : (file : FileState) (interfaces : List Described) (front unread : List ℕ) (room : ℕ) → 12 ≤ length front → BeginsBlock file front
@@ -97,7 +97,7 @@ block-takes (state.Pcapng order first) interfaces front unread room enough begin
 pub interface-takes : (file : FileState) (interfaces : List Described) (front unread : List ℕ) (room : ℕ) → 12 ≤ length front → BeginsBlock file front
     → Describes (section_before file interfaces) (front ++ unread) → TakesMemory room (declared_by file interfaces) (front ++ unread)
 interface-takes state.Unknown interfaces front unread room enough begins d =
-    let none : is_interface (parts_behind None (front ++ unread)) ≡ false = ap is_interface (section-parts None (front ++ unread) (is_section-append front unread (omega arith) ∙ begins)) in
+    let none : is_interface (parts_after None (front ++ unread)) ≡ false = ap is_interface (section-parts None (front ++ unread) (is_section-append front unread (omega arith) ∙ begins)) in
     absurd (let both : true ≡ false = sym d.is ∙ none in cc)
 interface-takes (state.Pcap head) interfaces front unread room enough begins d = absurd begins
 interface-takes (state.Pcapng order first) interfaces front unread room enough begins d = inr (d.passes, d.is)
@@ -114,7 +114,7 @@ rest_of_front first unread unread' fault size twelve four is missing =
             ∙ front_of_block-none None None (first ++ unread) Truncated (unit_fault-few None (first ++ unread) (omega (arith, short.1)))))
         | inr failed ↦ inr (inl failed)
       ];
-      taken = Taken-behind Nothing (first ++ unread) unread unread' first fault missing.count refl missing.there missing.rest
+      taken = Taken-following Nothing (first ++ unread) unread unread' first fault missing.count refl missing.there missing.rest
           (most_taken-file (first ++ unread) (length first + missing.count) (omega (arith, missing.within)))
           (λ failed. rw (decisive_length-pcapng (first ++ unread) kind) (decisive_block_length-few None (first ++ unread) (length first + missing.count) (omega (arith, missing.within))));
     }
@@ -129,7 +129,7 @@ block_front : (link : Option ℕ) (section : Section) (unread unread' : List ℕ
     → NoUnitCame (PcapngFile link section) unread unread' fault
 block_front link section unread unread' fault m =
     elim m.some [
-      | inl some ↦ missing-refuses (PcapngFile link section) link (Some section) unread unread' fault (front_of-behind link section unread some) refl (record {
+      | inl some ↦ missing-refuses (PcapngFile link section) link (Some section) unread unread' fault (front_of-following link section unread some) refl (record {
         why = elim m.missing.why [
           | inl short ↦ inl (rw short.0 (unit_fault-few (Some section) unread (omega (arith, short.1))))
           | inr failed ↦ inr (inl failed)
@@ -176,7 +176,7 @@ section-kept section block packet is = by_kind (is_section block) refl
     by_kind true kind =
         let none : [] ≡ packet ∷ [] = sym (ap (λ p. option_to_list (packet_by section.interfaces p)) (section-parts (Some section) block kind)) ∙ is in absurd (cc)
     by_kind false kind =
-        kept_by section (order_in (Some section.order) block) (parts_behind (Some section) block) packet
+        kept_by section (order_in (Some section.order) block) (parts_after (Some section) block) packet
         (ap (λ (b : Bool). unwrap_or (if b then magic_order block else Some section.order) Little) kind) is
 
 -- what is first stays first
@@ -193,12 +193,12 @@ first-again link section = by_link link (option_map (λ (i : Described). i.link)
 pub header_passed : (unread unread' : List ℕ) (head : Head) → HeaderCame unread head unread' → UnitPassed Nothing unread 24 (PcapFile head) unread'
 header_passed unread unread' head came = record { bytes = came.bytes; unit = a_pcap_header came.bytes head came.header; sized = came.header.whole; splits = came.splits }
 
--- the same units behind equal bytes
-pub UnitPassed-behind : (unread unread1 unread' first : List ℕ) (size : ℕ) (declared : Declared) → unread ≡ first ++ unread1 → UnitPassed Nothing (first ++ unread1) size declared unread' → UnitPassed Nothing unread size declared unread'
-UnitPassed-behind unread unread1 unread' first size declared splits came =
+-- the same units after equal bytes
+pub UnitPassed-following : (unread unread1 unread' first : List ℕ) (size : ℕ) (declared : Declared) → unread ≡ first ++ unread1 → UnitPassed Nothing (first ++ unread1) size declared unread' → UnitPassed Nothing unread size declared unread'
+UnitPassed-following unread unread1 unread' first size declared splits came =
     record { bytes = came.bytes; unit = came.unit; sized = came.sized; splits = splits ∙ came.splits }
 
--- a packet whose unit has so many bytes
+-- a packet whose unit has a given number of bytes
 packet_at_size : (link : Option ℕ) (section : Section) (unread buffer : List ℕ) (spans : PacketSpans) (packet : Captured) (declared' : Declared) (size : ℕ) (unread' : List ℕ) → spans.size ≡ size
     → packet_in_unit (PcapngFile link section) spans (take size buffer) ≡ Some packet
     → IsUnit (PcapngFile link section) (take size buffer) (packet ∷ []) (PcapngFile link section)
@@ -215,7 +215,7 @@ packet_at_size link section unread buffer spans packet declared' size unread' wh
       splits = splits ∙ ap (λ n. take n buffer ++ unread') (sym whole);
     }
 
--- what is known of a file behind a block without a packet
+-- what is known of a file after a block without a packet
 pub passed-block : (file : FileState) (interfaces interfaces' : List Described) (front unread buffer unread' : List ℕ) (order : Order) (size : ℕ) → BeginsBlock file front → size ≤ length buffer
     → BlockCame (section_before file interfaces) (front ++ unread) buffer order size None interfaces' unread'
     → UnitPassed (declared_by file interfaces) (front ++ unread) size (PcapngFile (first_link_after (known_first_link file) (section_of order interfaces')) (section_of order interfaces')) unread'
@@ -242,7 +242,7 @@ passed-block (state.Pcapng own link) interfaces interfaces' front unread buffer 
       splits = came.splits;
     }
 
--- behind a block with a packet the same is known
+-- after a block with a packet the same is known
 pub packet-block : (file : FileState) (interfaces interfaces' : List Described) (front unread buffer unread' : List ℕ) (order : Order) (size : ℕ) (spans : PacketSpans) → BeginsBlock file front → size ≤ length buffer
     → IsConsistent file interfaces → spans.size ≡ size → interfaces' ≡ interfaces
     → BlockCame (section_before file interfaces) (front ++ unread) buffer order size (Some spans) interfaces' unread'
@@ -293,11 +293,11 @@ section-fits state.Unknown interfaces front begins none = rw none none-fit
 section-fits (state.Pcap head) interfaces front begins known = absurd begins
 section-fits (state.Pcapng order first) interfaces front begins known = known.1
 
--- the bytes that a device gave stay few behind a block, though it be no longer than its front
-pub small-behind : (before behind front size : ℕ) → front ≡ 12 → behind + front ≡ before + size → 12 ≤ size → (front < size → behind < 2 ^ 63) → before < 2 ^ 63 → behind < 2 ^ 63
-small-behind before behind front size twelve counted least longer small = by_size (nat_lt front size) refl
+-- the bytes that a device gave stay few after a block, though it be no longer than its front
+pub small-following : (before following front size : ℕ) → front ≡ 12 → following + front ≡ before + size → 12 ≤ size → (front < size → following < 2 ^ 63) → before < 2 ^ 63 → following < 2 ^ 63
+small-following before following front size twelve counted least longer small = by_size (nat_lt front size) refl
   where
-    by_size : (b : Bool) → nat_lt front size ≡ b → behind < 2 ^ 63
+    by_size : (b : Bool) → nat_lt front size ≡ b → following < 2 ^ 63
     by_size true e = longer (ltb-true front size e)
     by_size false e = let most = ltb-false front size e in omega (arith, twelve, counted, least, most, small)
 
@@ -319,14 +319,14 @@ begun-front state.Unknown interfaces unread unread' fault begun m = absurd (cc)
 begun-front (state.Pcap head) interfaces unread unread' fault begun m = absurd (cc)
 begun-front (state.Pcapng order first) interfaces unread unread' fault begun m = block_front first (section_of order interfaces) unread unread' fault m
 
--- what reading behind the first bytes of a unit did is what reading it all did
-pub ReadsUnit-behind : {I A : Type 0} (device : Ghosts I) (old : UnitReader I A) (mid : I) (front : List ℕ) (r : Result NextUnit Fault) (new : UnitReader I A)
+-- what reading after the first bytes of a unit did is what reading it all did
+pub ReadsUnit-following : {I A : Type 0} (device : Ghosts I) (old : UnitReader I A) (mid : I) (front : List ℕ) (r : Result NextUnit Fault) (new : UnitReader I A)
     → device.given mid ≡ device.given old.input + length front → device.failures mid ≡ device.failures old.input → device.sure mid ≡ device.sure old.input
     → (IsTrue device.tells → device.given mid + length (device.unread mid) ≡ device.given old.input + length (device.unread old.input))
     → (0 < length front → device.given mid < 2 ^ 63)
     → (IsTrue device.tells → device.unread old.input ≡ front ++ device.unread mid)
     → ReadsUnit device (record { input = mid; file = old.file; buffer = old.buffer; table = old.table; spans = old.spans }) front r new → ReadsUnit device old [] r new
-ReadsUnit-behind device old mid front (Ok c) new given failed sure told small splits reads =
+ReadsUnit-following device old mid front (Ok c) new given failed sure told small splits reads =
     let m = reads.moves in
     let P : List ℕ → Type 0 = λ t. UnitCame (declared_by old.file old.table) t new.buffer.items new.spans c (declared_by new.file new.table) (device.unread new.input) in
     record {
@@ -356,7 +356,7 @@ ReadsUnit-behind device old mid front (Ok c) new given failed sure told small sp
     is_small (next_unit.Other size) sized some = sized.1
     is_small next_unit.Packet sized some = sized.1
     is_small next_unit.End sized some = absurd (omega arith)
-ReadsUnit-behind device old mid front (Err fault) new given failed sure told small splits reads =
+ReadsUnit-following device old mid front (Err fault) new given failed sure told small splits reads =
     let m = reads.moves in
     let P : List ℕ → Type 0 = λ t. NoUnitCame (declared_by old.file old.table) t (device.unread new.input) fault in
     record {

@@ -23,9 +23,9 @@ stops_for declared rest (Whole size packets after) is last =
 
 -- ---- one
 
-record Same {X : Type 0} (one other behind behind' : List ℕ) (ps qs : List X) (c d : Declared) : Type 0 where
+record Same {X : Type 0} (one other following following' : List ℕ) (ps qs : List X) (c d : Declared) : Type 0 where
   bytes : one ≡ other
-  rest : behind ≡ behind'
+  rest : following ≡ following'
   packets : ps ≡ qs
   declared : c ≡ d
 
@@ -89,10 +89,10 @@ record Units (declared : Declared) (at : ℕ) (text : List ℕ) : Type 0 where
   units : AreUnits declared at done packets after
   last : Last after rest
 
--- given the units behind the first
+-- given the units after the first
 units_by : (most : ℕ) (declared : Declared) (at : ℕ) (text : List ℕ) (front : Front) → front_of declared text ≡ front → length text ≤ most
     → ((after : Declared) (at' : ℕ) (more : List ℕ) → length more < most → Units after at' more) → Units declared at text
-units_by most declared at text (Stops why) is enough behind = record {
+units_by most declared at text (Stops why) is enough following = record {
   done = [];
   rest = text;
   packets = [];
@@ -101,9 +101,9 @@ units_by most declared at text (Stops why) is enough behind = record {
   units = no_unit;
   last = no_unit_in declared text why is;
 }
-units_by most declared at text (Whole size packets after) is enough behind =
+units_by most declared at text (Whole size packets after) is enough following =
     let f = front_of-is declared text size packets after is in
-    let more = behind after (at + length (take size text)) (drop size text) (simp length-drop (omega (arith, f.some, f.there))) in
+    let more = following after (at + length (take size text)) (drop size text) (simp length-drop (omega (arith, f.some, f.there))) in
     record {
       done = take size text ++ more.done;
       rest = more.rest;

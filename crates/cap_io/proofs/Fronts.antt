@@ -53,11 +53,11 @@ pub front_of-record : (head : Head) (text : List ℕ) → record_fault head text
 front_of-record head [] none = absurd (let p = passes head [] none in omega (arith, p.enough))
 front_of-record head (b ∷ bytes) none = ap (λ (f : Option Fault). front_of_record f head (b ∷ bytes)) none
 
--- what stands behind a section, where anything does
-pub front_of-behind : (first : Option ℕ) (section : Section) (text : List ℕ) → 0 < length text
+-- what follows a section, where anything does
+pub front_of-following : (first : Option ℕ) (section : Section) (text : List ℕ) → 0 < length text
     → front_of (PcapngFile first section) text ≡ front_of_block (unit_fault (Some section) text) first (Some section) text
-front_of-behind first section [] some = absurd (omega arith)
-front_of-behind first section (b ∷ bytes) some = refl
+front_of-following first section [] some = absurd (omega arith)
+front_of-following first section (b ∷ bytes) some = refl
 
 -- a block
 pub front_of_block-whole : (first : Option ℕ) (before : Option Section) (text : List ℕ) → unit_fault before text ≡ None

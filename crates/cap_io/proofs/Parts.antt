@@ -32,8 +32,8 @@ stops-front written part more written' stops =
       stops.2 ∙ ap (λ (l : List ℕ). written ++ l) (sym (take-append-le stops.0 part more (omega (arith, less)))),
     )
 
-pub stops-behind : (written done part mid written' : List ℕ) → mid ≡ written ++ done → Stops mid part written' → Stops written (done ++ part) written'
-stops-behind written done part mid written' first stops =
+pub stops-following : (written done part mid written' : List ℕ) → mid ≡ written ++ done → Stops mid part written' → Stops written (done ++ part) written'
+stops-following written done part mid written' first stops =
     let less : stops.0 < length part = stops.1 in (
       length done + stops.0,
       omega (arith, less, length-append done part),
@@ -43,11 +43,11 @@ stops-behind written done part mid written' first stops =
           ∙ ap (λ (l : List ℕ). written ++ l) (sym (take-append-add done part stops.0)),
     )
 
--- a part behind one that was written
-pub appends-behind : {E : Type 0} (r : Result (Unit {0}) E) (written done part mid written' : List ℕ) → mid ≡ written ++ done → AppendsOrStops r mid part written' → AppendsOrStops r written (done ++ part) written'
-appends-behind (Ok value) written done part mid written' first appends =
+-- a part after one that was written
+pub appends-following : {E : Type 0} (r : Result (Unit {0}) E) (written done part mid written' : List ℕ) → mid ≡ written ++ done → AppendsOrStops r mid part written' → AppendsOrStops r written (done ++ part) written'
+appends-following (Ok value) written done part mid written' first appends =
     appends ∙ ap (λ (l : List ℕ). l ++ part) first ∙ append_assoc written done part
-appends-behind (Err fault) written done part mid written' first stops = stops-behind written done part mid written' first stops
+appends-following (Err fault) written done part mid written' first stops = stops-following written done part mid written' first stops
 
 -- ---- what a device did
 
@@ -75,7 +75,7 @@ appends-stopped d old new part more fault appends = record {
 
 pub appends-then : {Device : Type 0} (d : Ghosts Device) (old mid new : Device) (done part : List ℕ) (r : Result (Unit {0}) DeviceFault) → Appends d old done (Ok tt) mid → Appends d mid part r new → Appends d old (done ++ part) r new
 appends-then d old mid new done part r first second = record {
-  appended = λ tells. appends-behind r (d.written old) done part (d.written mid) (d.written new) (first.appended tells) (second.appended tells);
+  appended = λ tells. appends-following r (d.written old) done part (d.written mid) (d.written new) (first.appended tells) (second.appended tells);
   failed = omega arith;
   room = second.room ∙ first.room;
 }

@@ -21,7 +21,7 @@ use Rattle.cap_pcapng.proofs.Numerals.{number_at}
 use Rattle.cap_io.specs.Capture.{PcapFile, a_pcap_header, a_pcap_record}
 use Rattle.cap_io.specs.RoundTrip.{Back, InRange, IsPlain, ReadsBack}
 use Rattle.cap_io.specs.Text.{has_first_link, packets_text, record_text}
-use Rattle.cap_io.proofs.Backs.{Holds, each-behind, holds-none, holds-unit, reads-back}
+use Rattle.cap_io.proofs.Backs.{Holds, each-following, holds-none, holds-unit, reads-back}
 
 -- ---- a record
 
@@ -157,14 +157,14 @@ kept-of r first p rest earlier later is in_range plain whole none =
 
 pub pcap-back : Back Pcap
 pcap-back p ps carries =
-    let kept = each-behind (IsKept Microseconds p.link) (p ∷ ps)
+    let kept = each-following (IsKept Microseconds p.link) (p ∷ ps)
     (λ earlier q later is. let one = carries.each earlier q later is in kept-of Microseconds p q ps earlier later is one.in_range one.kept.0 one.kept.1 one.taken) [] (p ∷ ps) refl in
     let one = carries.each [] p ps refl in
     rw (← text-pcap [] (p ∷ ps)) at (file-back Microseconds p.link (p ∷ ps) one.in_range.link kept)
 
 pub nanoseconds-back : Back NsecPcap
 nanoseconds-back p ps carries =
-    let kept = each-behind (IsKept Nanoseconds p.link) (p ∷ ps)
+    let kept = each-following (IsKept Nanoseconds p.link) (p ∷ ps)
     (λ earlier q later is. let one = carries.each earlier q later is in kept-of Nanoseconds p q ps earlier later is one.in_range one.kept tt one.taken) [] (p ∷ ps) refl in
     let one = carries.each [] p ps refl in
     rw (← text-nanoseconds [] (p ∷ ps)) at (file-back Nanoseconds p.link (p ∷ ps) one.in_range.link kept)

@@ -16,7 +16,7 @@ use Rattle.cap_pcapng.proofs.WrittenBack.{section_back, interface_back, packet_b
 use Rattle.cap_io.specs.Capture.{Nothing, PcapngFile, IsUnit, a_first_block, a_block, first_link_after}
 use Rattle.cap_io.specs.RoundTrip.{Back, InRange, IsCarried}
 use Rattle.cap_io.specs.Text.{Interface, interface_of, is_same, is_among, new_among, first_uses, interfaces_of, number_among, descriptions, packets_text, put_checks, text}
-use Rattle.cap_io.proofs.Backs.{Holds, each-behind, holds-none, holds-unit, reads-back}
+use Rattle.cap_io.proofs.Backs.{Holds, each-following, holds-none, holds-unit, reads-back}
 use Rattle.cap_io.proofs.Interfaces.{first_uses-append, interfaces_of-push, new-interfaces_of, same_interface}
 
 -- ---- an interface has its number
@@ -59,13 +59,13 @@ record IsKept (p : Captured) : Type 0 where
   in_range : InRange p
   fits : first_failing (pcapng.block_fit_checks p) ≡ None
 
--- what is held behind a place, whatever link type was declared first
-abbrev HoldsBehind : List Interface → List ℕ → List Captured → Type 0
-HoldsBehind interfaces more ps = (first : Option ℕ) (at : ℕ) → Holds (PcapngFile first (section_of interfaces)) at more ps
+-- what is held after a place, whatever link type was declared first
+abbrev HoldsAfter : List Interface → List ℕ → List Captured → Type 0
+HoldsAfter interfaces more ps = (first : Option ℕ) (at : ℕ) → Holds (PcapngFile first (section_of interfaces)) at more ps
 
 -- a packet whose interface has this number
 packet-holds : (interfaces : List Interface) (number : ℕ) (p : Captured) (more : List ℕ) (ps : List Captured) → slice_get interfaces number ≡ Some (interface_of p)
-    → length interfaces ≤ most_interfaces → IsKept p → HoldsBehind interfaces more ps → HoldsBehind interfaces (pcapng.packet_block number p ++ more) (p ∷ ps)
+    → length interfaces ≤ most_interfaces → IsKept p → HoldsAfter interfaces more ps → HoldsAfter interfaces (pcapng.packet_block number p ++ more) (p ∷ ps)
 packet-holds interfaces number p more ps known upper_bound kept later first at =
     let within : number < length interfaces = slice_get_within interfaces number (interface_of p) known in
     let exact : slice_get (map described interfaces) number ≡ Some (written_interface p.link p.snap p.name) =
@@ -76,7 +76,7 @@ packet-holds interfaces number p more ps known upper_bound kept later first at =
 
 -- the description of a new interface
 interface-holds : (interfaces : List Interface) (p : Captured) (more : List ℕ) (ps : List Captured) → length interfaces < most_interfaces → InRange p
-    → HoldsBehind (interfaces ++ interface_of p ∷ []) more ps → HoldsBehind interfaces (pcapng.interface_text p.link p.snap p.name ++ more) ps
+    → HoldsAfter (interfaces ++ interface_of p ∷ []) more ps → HoldsAfter interfaces (pcapng.interface_text p.link p.snap p.name ++ more) ps
 interface-holds interfaces p more ps room in_range later first at =
     let one = interface_back (map described interfaces) p.link p.snap p.name (omega (arith, length-map interfaces described)) in_range.link in_range.snap in_range.name in
     let same : written_section (map described interfaces ++ written_interface p.link p.snap p.name ∷ []) ≡ section_of (interfaces ++ interface_of p ∷ []) =
@@ -85,19 +85,19 @@ interface-holds interfaces p more ps room in_range later first at =
     let unit = unit-of first (section_of interfaces) (section_of (interfaces ++ interface_of p ∷ [])) (pcapng.interface_text p.link p.snap p.name) [] (subst R same one) in
     holds-unit unit at more ps (later _ _)
 
--- a packet, behind the description of its interface where that is new
+-- a packet, after the description of its interface where that is new
 described-holds : (b : Bool) (interfaces : List Interface) (number : ℕ) (p : Captured) (more : List ℕ) (ps : List Captured)
     → slice_get (interfaces ++ (if b then [] else interface_of p ∷ [])) number ≡ Some (interface_of p)
     → length (interfaces ++ (if b then [] else interface_of p ∷ [])) ≤ most_interfaces → IsKept p
-    → HoldsBehind (interfaces ++ (if b then [] else interface_of p ∷ [])) more ps
-    → HoldsBehind interfaces ((descriptions (if b then [] else interface_of p ∷ []) ++ pcapng.packet_block number p) ++ more) (p ∷ ps)
+    → HoldsAfter (interfaces ++ (if b then [] else interface_of p ∷ [])) more ps
+    → HoldsAfter interfaces ((descriptions (if b then [] else interface_of p ∷ []) ++ pcapng.packet_block number p) ++ more) (p ∷ ps)
 described-holds true interfaces number p more ps known upper_bound kept later =
     packet-holds interfaces number p more ps (rw (append-nil interfaces) at known) (rw (append-nil interfaces) at upper_bound) kept (rw (append-nil interfaces) at later)
 described-holds false interfaces number p more ps known upper_bound kept later =
     let bytes : List ℕ = pcapng.interface_text p.link p.snap p.name in
     let split : ((bytes ++ []) ++ pcapng.packet_block number p) ++ more ≡ bytes ++ (pcapng.packet_block number p ++ more) =
     ap (λ (l : List ℕ). (l ++ pcapng.packet_block number p) ++ more) (append-nil bytes) ∙ append_assoc bytes (pcapng.packet_block number p) more in
-    let H : List ℕ → Type 0 = λ l. HoldsBehind interfaces l (p ∷ ps) in
+    let H : List ℕ → Type 0 = λ l. HoldsAfter interfaces l (p ∷ ps) in
     subst H (sym split)
     (interface-holds interfaces p (pcapng.packet_block number p ++ more) (p ∷ ps) (omega (arith, upper_bound, length-append interfaces (interface_of p ∷ []))) kept.in_range
     (packet-holds (interfaces ++ interface_of p ∷ []) number p more ps known upper_bound kept later))
@@ -113,21 +113,21 @@ few-front xs ys n upper_bound =
     omega (arith, upper_bound, ap length all, size)
 
 packets-hold : (earlier ps : List Captured) → AllByRecursion IsKept ps → length (interfaces_of (earlier ++ ps)) ≤ most_interfaces
-    → HoldsBehind (interfaces_of earlier) (packets_text Pcapng earlier ps) ps
+    → HoldsAfter (interfaces_of earlier) (packets_text Pcapng earlier ps) ps
 packets-hold earlier [] kept upper_bound = λ first at. holds-none (PcapngFile first (section_of (interfaces_of earlier))) at refl
 packets-hold earlier (p ∷ ps) kept upper_bound =
     let i : Interface = interface_of p in
     let is : List Interface = interfaces_of earlier in
     let more : List ℕ = packets_text Pcapng (earlier ++ p ∷ []) ps in
-    let behind : length (interfaces_of ((earlier ++ p ∷ []) ++ ps)) ≤ most_interfaces =
+    let following : length (interfaces_of ((earlier ++ p ∷ []) ++ ps)) ≤ most_interfaces =
     let L : List Captured → Type 0 = λ l. length (interfaces_of l) ≤ most_interfaces in subst L (sym (append_assoc earlier (p ∷ []) ps)) upper_bound in
     let grown : interfaces_of (earlier ++ p ∷ []) ≡ is ++ new_among is i =
     interfaces_of-push earlier p ∙ ap (λ (l : List Interface). is ++ l) (sym (new-interfaces_of earlier i)) in
-    let later : HoldsBehind (is ++ new_among is i) more ps =
-    let H : List Interface → Type 0 = λ l. HoldsBehind l more ps in subst H grown (packets-hold (earlier ++ p ∷ []) ps kept.1 behind) in
+    let later : HoldsAfter (is ++ new_among is i) more ps =
+    let H : List Interface → Type 0 = λ l. HoldsAfter l more ps in subst H grown (packets-hold (earlier ++ p ∷ []) ps kept.1 following) in
     let within : length (is ++ new_among is i) ≤ most_interfaces =
-    let L : List Interface → Type 0 = λ l. length l ≤ most_interfaces in subst L grown (few-front (earlier ++ p ∷ []) ps most_interfaces behind) in
-    let T : List Interface → Type 0 = λ l. HoldsBehind is ((descriptions l ++ pcapng.packet_block (number_among is i) p) ++ more) (p ∷ ps) in
+    let L : List Interface → Type 0 = λ l. length l ≤ most_interfaces in subst L grown (few-front (earlier ++ p ∷ []) ps most_interfaces following) in
+    let T : List Interface → Type 0 = λ l. HoldsAfter is ((descriptions l ++ pcapng.packet_block (number_among is i) p) ++ more) (p ∷ ps) in
     subst T (new-interfaces_of earlier i) (described-holds (is_among is i) is (number_among is i) p more ps (found is i) within kept.0 later)
 
 -- ---- a file
@@ -140,7 +140,7 @@ kept-of earlier p carried = record {
 
 pub pcapng-back : Back Pcapng
 pcapng-back p ps carries =
-    let kept = each-behind IsKept (p ∷ ps) (λ earlier q later is. kept-of earlier q (carries.each earlier q later is)) [] (p ∷ ps) refl in
+    let kept = each-following IsKept (p ∷ ps) (λ earlier q later is. kept-of earlier q (carries.each earlier q later is)) [] (p ∷ ps) refl in
     let unit = first-unit (written_section []) pcapng.section_text [] (section_back None) in
     reads-back (text Pcapng (p ∷ ps)) (p ∷ ps)
     (holds-unit unit 0 (packets_text Pcapng [] (p ∷ ps)) (p ∷ ps) (packets-hold [] (p ∷ ps) kept carries.interfaces _ _))

@@ -38,13 +38,13 @@ number-stays : (old : List Interface) (i : Interface) → number_among (old ++ n
 number-stays [] i = ap (λ (b : Bool). cond (not b) 1 0) (same-self i)
 number-stays (x ∷ xs) i = number-by (is_same i x) i xs (number-stays xs i)
 
-pub first-behind : (old new : List Interface) (i : Interface) (place : InterfaceNumber) → HasNumber old i place new → IsFirst place.number new
-first-behind old new i place has j there =
+pub first-following : (old new : List Interface) (i : Interface) (place : InterfaceNumber) → HasNumber old i place new → IsFirst place.number new
+first-following old new i place has j there =
     let at : slice_get new place.number ≡ Some i = rw (has.interfaces, has.number) (at-place old i) in
     let same : j ≡ i = some_is j i (sym there ∙ at) in
     rw (same, has.interfaces, has.number) (number-stays old i)
 
--- ---- the bounds behind one more
+-- ---- the bounds after one more
 
 IsShort : Interface → Type 0
 IsShort i = length i.name ≤ 255
@@ -54,10 +54,10 @@ unfolding IsShort
 new-short true i short = All-nil IsShort
 new-short false i short = All-push IsShort [] i (All-nil IsShort) short
 
-pub few-behind : (old new : List Interface) (i : Interface) (place : InterfaceNumber) → FitFile old → length (old ++ new_among old i) ≤ most_output_interfaces → length i.name ≤ 255
+pub few-following : (old new : List Interface) (i : Interface) (place : InterfaceNumber) → FitFile old → length (old ++ new_among old i) ≤ most_output_interfaces → length i.name ≤ 255
     → HasNumber old i place new → FitFile new
 unfolding IsShort
-few-behind old new i place upper_bound room short has =
+few-following old new i place upper_bound room short has =
     let names : All IsShort (old ++ new_among old i) = All-append IsShort old (new_among old i) upper_bound.names (new-short (is_among old i) i short) in
     rw has.interfaces (record { count = room; names = names })
 

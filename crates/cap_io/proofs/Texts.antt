@@ -37,7 +37,7 @@ packets_text-append format earlier (x ∷ xs) ys =
     ∙ sym (append_assoc (packet_text format earlier x) (packets_text format (earlier ++ x ∷ []) xs) (packets_text format ((earlier ++ x ∷ []) ++ xs) ys))
     ∙ ap (λ (b : List Captured). (packet_text format earlier x ++ packets_text format (earlier ++ x ∷ []) xs) ++ packets_text format b ys) (append_assoc earlier (x ∷ []) xs)
 
--- a packet adds its part behind the text of those before it
+-- a packet adds its part after the text of those before it
 pub text-more : (format : Format) (ps : List Captured) (p : Captured) (xs : List Captured)
     → text format (ps ++ p ∷ xs) ≡ text format ps ++ (added_text format ps p ++ packets_text format (ps ++ p ∷ []) xs)
 text-more format [] p xs = sym (append_assoc (file_start format p.link) (packet_text format [] p) (packets_text format (p ∷ []) xs))

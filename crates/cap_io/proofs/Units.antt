@@ -19,7 +19,7 @@ use Rattle.cap_pcapng.specs.Frame.{frame_checks, is_section, section_type}
 use Rattle.cap_pcapng.specs.Unit.{IsBlock, Section, block_size, packets_in, unit_fault}
 use Rattle.cap_pcapng.proofs.Units as block
 use Rattle.cap_io.specs.Capture.{Declared, Nothing, PcapFile, PcapngFile, IsUnit, a_pcap_header, a_pcap_record, a_first_block, a_block, file_after, front_of_block, is_pcapng, placed_at, AreUnits, no_unit, unit_then, Whole, front_of, front_of_file, front_of_header, front_of_record}
-use Rattle.cap_io.proofs.Fronts.{front_of-header, front_of-record, front_of-pcapng, front_of-behind, front_of_block-whole}
+use Rattle.cap_io.proofs.Fronts.{front_of-header, front_of-record, front_of-pcapng, front_of-following, front_of_block-whole}
 
 -- ---- which kind of file
 
@@ -102,7 +102,7 @@ front_of-unit (a_pcap_record head bytes is) more = record-front head bytes more 
 front_of-unit (a_first_block bytes is) more =
     front_of-pcapng (bytes ++ more) (first-section (bytes ++ more) (block.IsBlock-front None bytes more is).0) ∙ block-front None None bytes more is
 front_of-unit (a_block first section bytes is) more =
-    front_of-behind first section (bytes ++ more) (omega (arith, length-append bytes more, block-sized (Some section) bytes is))
+    front_of-following first section (bytes ++ more) (omega (arith, length-append bytes more, block-sized (Some section) bytes is))
     ∙ block-front first (Some section) bytes more is
 
 -- a text that begins with a whole unit

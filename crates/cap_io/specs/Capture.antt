@@ -18,20 +18,20 @@ use Rattle.cap_io.specs.declared.source.Kind.TheVariants.{Pcap, NsecPcap, Pcapng
 
 -- ---- units
 
--- what the units so far declare of those behind them
+-- what the units so far declare of those after them
 pub data Declared : Type 0 where
   Nothing : Declared
   PcapFile : (head : Head) → Declared
   -- the first link type that an interface of the file declared, and the current section
   PcapngFile : (first : Option ℕ) → (section : Section) → Declared
 
--- the first link type of a file behind a block: the one before it, else that of the section's first
+-- the first link type of a file after a block: the one before it, else that of the section's first
 -- interface
 abbrev pub first_link_after : Option ℕ → Section → Option ℕ
 first_link_after first section =
     option_or first (option_map (λ (i : Described). i.link) (slice_get section.interfaces 0))
 
--- what is declared behind a block
+-- what is declared after a block
 abbrev pub file_after : Option ℕ → Option Section → List ℕ → Declared
 file_after first before bytes =
     PcapngFile (first_link_after first (section_after before bytes)) (section_after before bytes)
@@ -43,7 +43,7 @@ pub data IsUnit : Declared → List ℕ → List Captured → Declared → Type 
       → IsUnit Nothing bytes [] (PcapFile head)
   a_pcap_record : (head : Head) (bytes : List ℕ) → IsRecord head bytes
       → IsUnit (PcapFile head) bytes (record_packet head bytes ∷ []) (PcapFile head)
-  -- behind nothing a block is a section header
+  -- after nothing a block is a section header
   a_first_block : (bytes : List ℕ) → IsBlock None bytes
       → IsUnit Nothing bytes (packets_in None bytes) (file_after None None bytes)
   a_block : (first : Option ℕ) (section : Section) (bytes : List ℕ) → IsBlock (Some section) bytes
@@ -77,7 +77,7 @@ pub record IsCut (text done rest : List ℕ) (packets : List Placed)
 
 -- ---- what a text begins with
 
--- a unit of so many bytes, its packets, and what is declared after it; or no unit, by the end or by
+-- a unit of this size, its packets, and what is declared after it; or no unit, by the end or by
 -- a fault
 pub data Front : Type 0 where
   Whole : (size : ℕ) → (packets : List Captured) → (declared : Declared) → Front
@@ -107,7 +107,7 @@ abbrev pub front_of_file : Bool → List ℕ → Front
 front_of_file true text = front_of_block (unit_fault None text) None None text
 front_of_file false text = front_of_header (header_fault text) text
 
--- An empty rest is an end only behind a unit.
+-- An empty rest is an end only after a unit.
 abbrev pub front_of : Declared → List ℕ → Front
 front_of Nothing text = front_of_file (is_pcapng text) text
 front_of (PcapFile head) [] = Stops None
@@ -143,11 +143,11 @@ abbrev pub after_packets : List Placed → Items → Items
 after_packets ps items =
     record { packets = ps ++ items.packets; declared = items.declared; ending = items.ending }
 
--- the items of a text with this in front, given those behind a unit
+-- the items of a text with this in front, given those after a unit
 abbrev pub items_with : Front → Declared → ℕ → (ℕ → Declared → Items) → Items
-items_with (Stops why) declared offset behind = no_items declared why offset
-items_with (Whole size packets after) declared offset behind =
-    after_packets (placed_at offset packets) (behind size after)
+items_with (Stops why) declared offset following = no_items declared why offset
+items_with (Whole size packets after) declared offset following =
+    after_packets (placed_at offset packets) (following size after)
 
 -- from a place on; the number is fuel that isn't used up, since a unit has a byte at least
 unfoldable pub items_within : ℕ → Declared → ℕ → List ℕ → Items

@@ -26,7 +26,7 @@ pub record IsOver (s : SourceView) : Type 0 where
   pub block : s.block ≡ []
   pub packet : s.packet ≡ None
 
--- A source is behind these done bytes of the text, and perhaps has a current packet. No fault was
+-- A source is past these done bytes of the text, and perhaps has a current packet. No fault was
 -- met.
 pub record IsAt (text done : List ℕ) (packets : List Placed) (waiting : Bool)
     (s : SourceView) : Type 0 where
@@ -56,7 +56,7 @@ pub record IsCutShort (text : List ℕ) (fault : Fault) (items : Items) : Type 0
 abbrev pub given_in_all : SourceView → ℕ
 given_in_all s = s.given + length s.unread
 
--- A read failed behind these whole units of a text, of which `rest` is left: the device had given
+-- A read failed after these whole units of a text, of which `rest` is left: the device had given
 -- as many bytes as it was sure to, and fewer than decide what is there.
 pub record ReadFailsAt (old new : SourceView) (text done rest : List ℕ)
     (declared : Declared) : Type 0 where
@@ -65,7 +65,7 @@ pub record ReadFailsAt (old new : SourceView) (text done rest : List ℕ)
   pub few : new.given + length text
       < given_in_all old + length done + decisive_length declared rest
 
--- Behind these whole units memory is taken: the next unit is longer than the block that held each
+-- After these whole units memory is taken: the next unit is longer than the block that held each
 -- of them, or describes an interface.
 pub record MemoryEndsAt (done rest : List ℕ) (declared : Declared) : Type 0 where
   pub room : ℕ

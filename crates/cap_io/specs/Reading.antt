@@ -14,7 +14,7 @@ use Rattle.cap_octet.specs.Device.{HasGiven}
 use Rattle.cap_pcapng.specs.Comment.{comment_in}
 use Rattle.cap_pcapng.specs.Frame.{frame_checks, is_section, most_block}
 use Rattle.cap_pcapng.specs.Interface.{Described, FitSection}
-use Rattle.cap_pcapng.specs.Unit.{Section, block_size, order_before, packet_of, parts_behind, unit_fault}
+use Rattle.cap_pcapng.specs.Unit.{Section, block_size, order_before, packet_of, parts_after, unit_fault}
 use Rattle.cap_pcap.specs.declared.header.Head.{Head}
 use Rattle.cap_pcap.specs.declared.header.RecordHead.{RecordHead}
 use Rattle.cap_io.specs.declared.file_state.NextUnit.{NextUnit}
@@ -84,7 +84,7 @@ pub record IsTaken (declared : Declared) (unread unread' : List ℕ) (fault : Fa
   pub count : ℕ
   pub within : count ≤ most_taken (front_of declared unread)
   -- A failed read is reported only of a unit that was not complete: fewer bytes came than decide
-  -- what is there. Want of memory may be met behind a whole unit.
+  -- what is there. Memory may run out after a whole unit.
   pub unfinished : fault ≡ ReadFailed → count < decisive_length declared unread
   pub there : count ≤ length unread
   pub rest : unread' ≡ drop count unread
@@ -110,14 +110,14 @@ DescribesInterface Nothing text = ⊥
 DescribesInterface (PcapFile head) text = ⊥
 DescribesInterface (PcapngFile first section) text =
     (unit_fault (Some section) text ≡ None)
-    × (is_interface (parts_behind (Some section) text) ≡ true)
+    × (is_interface (parts_after (Some section) text) ≡ true)
 
 -- The next unit is longer than the block has room for, or describes an interface.
 abbrev pub TakesMemory : ℕ → Declared → List ℕ → Type 0
 TakesMemory room declared unread =
     (room < unit_length declared unread) ⊎ DescribesInterface declared unread
 
--- how much of a unit of so many bytes the block holds: none of the file header of pcap
+-- how much of a unit of this size the block holds: none of the file header of pcap
 abbrev pub held_length : (before after : Declared) → ℕ → ℕ
 held_length Nothing Nothing size = size
 held_length Nothing (PcapFile head) size = 0
@@ -125,7 +125,7 @@ held_length Nothing (PcapngFile first section) size = size
 held_length (PcapFile head) after size = size
 held_length (PcapngFile first section) after size = size
 
--- These bytes are whole units, and a block of so many bytes has room for each of them.
+-- These bytes are whole units, and a block of this size has room for each of them.
 pub data FitUnits (room : ℕ) : Declared → List ℕ → Declared → Type 0 where
   no_unit_fits : {d : Declared} → FitUnits room d [] d
   unit_fits : {b c d : Declared} {u more : List ℕ} {qs : List Captured} → IsUnit b u qs c
@@ -144,7 +144,7 @@ pub record NoUnitCame (declared : Declared) (unread unread' : List ℕ) (fault :
 
 -- ---- the bytes of a unit
 
--- Bytes behind the first `from` of a buffer of `size` didn't all come: with those in front of them
+-- Bytes after the first `from` of a buffer of `size` didn't all come: with those in front of them
 -- fewer than `size` did.
 pub record RestMissing (from size : ℕ) (unread unread' : List ℕ) (fault : Fault) : Type 0 where
   pub why : ((fault ≡ Truncated) × (from + length unread < size)) ⊎ (fault ≡ ReadFailed)
@@ -291,7 +291,7 @@ pub record PacketCame (declared : Declared) (unread buffer : List ℕ) (spans : 
   pub same : declared' ≡ declared
   pub splits : unread ≡ take spans.size buffer ++ unread'
 
--- nothing is left behind a unit
+-- nothing is left after a unit
 pub record EndCame (declared : Declared) (unread : List ℕ) (declared' : Declared)
     (unread' : List ℕ) : Type 0 where
   pub ends : front_of declared [] ≡ Stops None
@@ -329,7 +329,7 @@ section_before (state.Pcap head) interfaces = None
 section_before (state.Pcapng order first) interfaces =
     Some (record { order = order; interfaces = interfaces })
 
--- these bytes begin a block: a section header where nothing was read, and any block behind a
+-- these bytes begin a block: a section header where nothing was read, and any block after a
 -- section
 abbrev pub BeginsBlock : FileState → List ℕ → Type 0
 BeginsBlock state.Unknown front = is_section front ≡ true

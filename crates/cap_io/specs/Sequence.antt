@@ -6,7 +6,7 @@ use Rattle.cap_io.specs.Capture.{Placed, Items, Ending, End, FaultAt, kind_of, i
 
 -- ---- what comes
 
--- a packet of an input; or an input, which is of this kind and has so many bytes, was read to its
+-- a packet of an input; or an input, which is of this kind and has this size, was read to its
 -- clean end
 pub data Event : Type 0 where
   Packet : (input : ℕ) → (p : Placed) → Event
@@ -52,7 +52,7 @@ input_sequence input r End more =
 input_sequence input r (FaultAt fault offset) more =
     record { events = packet_events input r.items.packets; end = FaultIn input fault offset }
 
--- the inputs one behind another, up to the first fault; they are numbered on from `input`
+-- the inputs one after another, up to the first fault; they are numbered on from `input`
 abbrev pub sequence_in_turn : ℕ → List InputItems → Sequence
 sequence_in_turn input [] = record { events = []; end = Complete }
 sequence_in_turn input (r ∷ rs) =
@@ -61,7 +61,7 @@ sequence_in_turn input (r ∷ rs) =
 -- ---- by time
 
 -- A packet of an input, and the greatest time in its own input up to and with it. Where it is the
--- last of an input that ends by a fault, the order ends behind it.
+-- last of an input that ends by a fault, the order ends after it.
 pub record Entry : Type 0 where
   pub key : ℕ
   pub input : ℕ
@@ -72,12 +72,12 @@ abbrev pub end_of : ℕ → Ending → SequenceEnd
 end_of input End = Complete
 end_of input (FaultAt fault offset) = FaultIn input fault offset
 
--- how the order ends behind a packet that is followed by these in its input
-abbrev pub end_behind : ℕ → Ending → List Placed → SequenceEnd
-end_behind input ending [] = end_of input ending
-end_behind input ending (p ∷ ps) = Complete
+-- how the order ends after a packet that is followed by these in its input
+abbrev pub end_after : ℕ → Ending → List Placed → SequenceEnd
+end_after input ending [] = end_of input ending
+end_after input ending (p ∷ ps) = Complete
 
--- the packets of an input from a place on, behind the greatest time so far
+-- the packets of an input from a place on, after the greatest time so far
 abbrev pub entries_of : ℕ → Ending → ℕ → List Placed → List Entry
 entries_of input ending greatest [] = []
 entries_of input ending greatest (p ∷ ps) =
@@ -85,7 +85,7 @@ entries_of input ending greatest (p ∷ ps) =
       key = max greatest p.packet.time;
       input = input;
       p = p;
-      last = end_behind input ending ps;
+      last = end_after input ending ps;
     }
     ∷ entries_of input ending (max greatest p.packet.time) ps
 
@@ -114,14 +114,14 @@ end_or_more Complete e more = with_front (e ∷ []) more
 end_or_more (FaultIn input fault offset) e more =
     record { events = e ∷ []; end = FaultIn input fault offset }
 
--- up to and with the first packet behind which the order ends
+-- up to and with the first packet after which the order ends
 abbrev pub sequence_of_entries : List Entry → Sequence
 sequence_of_entries [] = record { events = []; end = Complete }
 sequence_of_entries (e ∷ es) = end_or_more e.last (Packet e.input e.p) (sequence_of_entries es)
 
 -- how the order ends with an input of which these items are left
 abbrev pub end_at : ℕ → InputItems → SequenceEnd
-end_at input r = end_behind input r.items.ending r.items.packets
+end_at input r = end_after input r.items.ending r.items.packets
 
 abbrev pub first_end : SequenceEnd → SequenceEnd → SequenceEnd
 first_end Complete later = later

@@ -58,7 +58,7 @@ pub record HasPut (sink : SinkView) (packets : List Captured) : Type 0 where
   pub state : sink.state ≡ state_after packets
   pub interfaces : sink.interfaces ≡ kept_interfaces sink.format packets
 
--- Their text was written behind what the output held before.
+-- Their text was written after what the output held before.
 pub record HasPackets (before : List ℕ) (sink : SinkView) (packets : List Captured) : Type 0 where
   pub written : sink.written ≡ before ++ text sink.format packets
   pub put : HasPut sink packets
@@ -158,15 +158,15 @@ IsPutAnswer None takes (Err fault) = (fault ≡ WriteFailed) ⊎ ((fault ≡ NoM
 IsPutAnswer (Some refusal) takes (Ok done) = ⊥
 IsPutAnswer (Some refusal) takes (Err fault) = fault ≡ refusal
 
--- The interfaces that are left of those before a packet and those behind it: it is numbered before
--- its bytes are written, so where the device fails they are those behind it.
-abbrev pub interfaces_after_put : Result (Unit {0}) Fault → (before behind : List Interface)
+-- The interfaces that are left of those before a packet and those after it: it is numbered before
+-- its bytes are written, so where the device fails they are those after it.
+abbrev pub interfaces_after_put : Result (Unit {0}) Fault → (before following : List Interface)
     → List Interface
-interfaces_after_put (Ok done) before behind = behind
-interfaces_after_put (Err WriteFailed) before behind = behind
-interfaces_after_put (Err fault) before behind = before
+interfaces_after_put (Ok done) before following = following
+interfaces_after_put (Err WriteFailed) before following = following
+interfaces_after_put (Err fault) before following = before
 
--- the state and the interfaces behind a packet
+-- the state and the interfaces after a packet
 abbrev pub state_after_packet : SinkState → Captured → SinkState
 state_after_packet Empty p = Started p.link
 state_after_packet (Started link) p = Started link

@@ -181,7 +181,7 @@ phase_after (Ok true) = Reading
 phase_after (Ok false) = Ended
 phase_after (Err fault) = Failed fault
 
--- the offset behind the current unit
+-- the offset past the current unit
 abbrev pub end_offset : SourceView → ℕ
 end_offset s = s.offset + length s.block
 

@@ -10,7 +10,7 @@ use cap_pcap::Head;
 use cap_pcapng::{Options, PacketSpans, Table};
 use std::alloc::Allocator;
 
-/// What the units that were read declare of those behind them, beside the interfaces of a section.
+/// What the units that were read declare of those after them, beside the interfaces of a section.
 #[derive(Clone, Copy)]
 pub enum FileState {
     /// Nothing was read.
@@ -88,7 +88,7 @@ impl FileState {
 /// What came of a read of one unit.
 #[derive(Clone, Copy)]
 pub(crate) enum NextUnit {
-    /// A unit of so many bytes, without a packet.
+    /// A unit of this size, without a packet.
     Other(usize),
     /// A packet; where it lies was written.
     Packet,

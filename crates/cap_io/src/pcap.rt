@@ -22,7 +22,7 @@ const RECORD_HEAD: usize = 16;
 /// Where a record says how many bytes of its packet it holds.
 const CAPTURED: usize = 8;
 
-/// Reads the file header of pcap behind its first four bytes.
+/// Reads the file header of pcap after its first four bytes.
 pub(crate) fn read_header<I: Input>(input: &mut I, first: &[u8; 4]) -> Result<Head, Fault>
     requires { is_section first.now ≡ false }
     ensures moves { Moves I.Input input.old input.new 4 (λ _. 24) 24 result }

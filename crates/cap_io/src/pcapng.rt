@@ -13,11 +13,11 @@ use cap_octet::{Fault, Input, Order};
 use cap_pcapng::{BlockEffect, BlockType, Frame, PacketSpans, Table, block_effect, frame};
 use std::alloc::Allocator;
 
-/// The bytes of a block in front of its body, and as many behind them as tell a section header's
+/// The bytes of a block in front of its body, and as many after them as tell a section header's
 /// byte order.
 pub(crate) const BLOCK_FRONT: usize = 12;
 
-/// Makes the checks of a whole block of this frame, and brings the table of interfaces behind it. A
+/// Makes the checks of a whole block of this frame, and brings the table of interfaces after it. A
 /// fault leaves it unchanged.
 fn apply_block<A: Allocator>(
     table: &mut Table<A>,
@@ -46,7 +46,7 @@ fn apply_block<A: Allocator>(
     }
 }
 
-/// The first link type of a file behind a block, given that before it and the interfaces behind it.
+/// The first link type of a file after a block, given that before it and the interfaces after it.
 fn first_link_type<A: Allocator>(first: Option<u16>, table: &Table<A>) -> Option<u16>
     ensures { (order : Order) → result ≡ first_link_after first (section_of order table.now) }
 {
@@ -75,8 +75,8 @@ pub(crate) fn holds_packet(order: Order, bytes: &[u8]) -> bool {
 }
 
 impl<I: Input, A: Allocator> UnitReader<I, A> {
-    /// Reads a block behind its first 12 bytes to the start of the buffer, and brings the table of
-    /// interfaces behind it. Its limits are looked at before the buffer grows.
+    /// Reads a block after its first 12 bytes to the start of the buffer, and brings the table of
+    /// interfaces after it. Its limits are looked at before the buffer grows.
     pub(crate) fn read_block(&mut self, front: &[u8; 12]) -> Result<NextUnit, Fault>
         requires consistent { IsConsistent self.old.file self.old.table }
         requires begins { BeginsBlock self.old.file front.now }

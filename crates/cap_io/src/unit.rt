@@ -10,7 +10,7 @@ use std::alloc::Allocator;
 /// many.
 const SHORT_UNIT: usize = 256;
 
-/// Reads the first bytes of a unit that is behind others; `false` is the end of the
+/// Reads the first bytes of a unit that follows others; `false` is the end of the
 /// file.
 #[inline(always)]
 pub(crate) fn read_front<I: Input>(input: &mut I, front: &mut [u8]) -> Result<bool, Fault>
@@ -36,7 +36,7 @@ pub(crate) fn read_front<I: Input>(input: &mut I, front: &mut [u8]) -> Result<bo
     Ok(true)
 }
 
-/// Makes room for a unit of so many bytes. What is in the buffer already is of no use.
+/// Makes room for a unit of `size` bytes. What is in the buffer already is of no use.
 pub(crate) fn make_room<A: Allocator>(buffer: &mut Vec<u8, A>, size: usize) -> Result<(), Fault>
     ensures room { OnOk result (size ≤ vec_len buffer.new) }
     ensures grown { length buffer.old.items ≤ length buffer.new.items }
@@ -51,7 +51,7 @@ pub(crate) fn make_room<A: Allocator>(buffer: &mut Vec<u8, A>, size: usize) -> R
     Ok(())
 }
 
-/// Reads what is left of a unit of so many bytes to the start of the buffer, behind the part of it
+/// Reads what is left of a unit of `size` bytes to the start of the buffer, after the part of it
 /// that came.
 #[inline(always)]
 pub(crate) fn read_rest<I: Input>(

@@ -73,7 +73,7 @@ pub(crate) fn write_file_start<O: Output>(
     }
 }
 
-/// Writes a packet as a record of a pcap form, the first one behind the file header.
+/// Writes a packet as a record of a pcap form, the first one after the file header.
 pub(crate) fn write_record<O: Output>(
     output: &mut O,
     format: Format,
@@ -89,7 +89,7 @@ pub(crate) fn write_record<O: Output>(
     write_parts(output, &[&record_bytes(format, packet), packet.bytes])
 }
 
-/// Writes a packet as a block, the first one behind the section header, behind the description of
+/// Writes a packet as a block, the first one after the section header, after the description of
 /// its interface where that is new.
 pub(crate) fn write_block<O: Output>(
     output: &mut O,

@@ -27,7 +27,7 @@ pub record IsFor (text : List ℕ) (link_type : ℕ) (prog : List Insn) : Type 0
   pub read : link_of (file_link_type link_type) ≡ Some link
   pub compiled : IsCompiled text link prog
 
--- so many instructions at the start are such a program, and those behind them are as they were
+-- the first `count` instructions are such a program, and those after them are as they were
 pub record WritesProgram (text : List ℕ) (link_type : ℕ) (old new : List Insn)
     (count : ℕ) : Type 0 where
   pub program : IsFor text link_type (take count new)

@@ -37,25 +37,25 @@ operation_alike _ k small = true
 abbrev pub runs_alike : Bool → Insn → Bool
 runs_alike small i = operation_alike (operation_of i.code) i.k small
 
--- of the places behind an instruction, whether the n-th may read a word first; past the last one
+-- of the places after an instruction, whether the n-th may read a word first; past the last one
 -- none does
 abbrev pub is_live_at : List Bool → ℕ → Bool
-is_live_at behind n = slice_index_or behind n false
+is_live_at following n = slice_index_or following n false
 
 -- whether a run may read M[w] before it writes it, from an instruction on, by its operation and by
 -- what holds of the places after it
 abbrev pub operation_wants : Option Operation → ℕ → Insn → List Bool → Bool
-operation_wants (Some (Load register Memory)) w i behind = (i.k == w) || is_live_at behind 0
-operation_wants (Some (Store register)) w i behind = not (i.k == w) && is_live_at behind 0
-operation_wants (Some Jump) w i behind = is_live_at behind i.k
-operation_wants (Some (JumpIf test operand)) w i behind =
-    is_live_at behind i.jt || is_live_at behind i.jf
-operation_wants (Some ReturnConstant) w i behind = false
-operation_wants (Some ReturnAccumulator) w i behind = false
-operation_wants _ w i behind = is_live_at behind 0
+operation_wants (Some (Load register Memory)) w i following = (i.k == w) || is_live_at following 0
+operation_wants (Some (Store register)) w i following = not (i.k == w) && is_live_at following 0
+operation_wants (Some Jump) w i following = is_live_at following i.k
+operation_wants (Some (JumpIf test operand)) w i following =
+    is_live_at following i.jt || is_live_at following i.jf
+operation_wants (Some ReturnConstant) w i following = false
+operation_wants (Some ReturnAccumulator) w i following = false
+operation_wants _ w i following = is_live_at following 0
 
 abbrev pub is_live_before : ℕ → Insn → List Bool → Bool
-is_live_before w i behind = operation_wants (operation_of i.code) w i behind
+is_live_before w i following = operation_wants (operation_of i.code) w i following
 
 -- the same of each place of a program
 abbrev pub live_places : ℕ → List Insn → List Bool

@@ -23,7 +23,7 @@ pub enum Failure {
     NotUtf8(usize),
     /// Expressions aren't read on packets of this link type.
     LinkType,
-    /// The program has so many instructions, more than there is room for.
+    /// How many instructions the program has: more than there is room for.
     NoRoom(usize),
 }
 
@@ -125,7 +125,7 @@ impl Failure {
 /// Compiles the expression that a text is, for packets of a link type, into the caller's
 /// instructions.
 ///
-/// By 0 `number` is the count of instructions, which stand at the start of `insns`; what is behind
+/// By 0 `number` is the count of instructions, which stand at the start of `insns`; what is after
 /// them stays. By any other status `insns` is unchanged, and `number` says where the text is wrong
 /// or how many instructions there are.
 #[unsafe(no_mangle)]

@@ -56,29 +56,29 @@ fn all_run_alike(insns: &[Insn], small: bool) -> bool
 }
 
 /// What is noted of the place after this number of others; `false` past the last one.
-fn is_live_at(behind: &[bool], place: usize) -> bool
-    ensures { result ≡ is_live_at behind.now place }
+fn is_live_at(following: &[bool], place: usize) -> bool
+    ensures { result ≡ is_live_at following.now place }
 {
-    match behind.get(place) {
+    match following.get(place) {
         Some(is_wanted) => *is_wanted,
         None => false,
     }
 }
 
 /// Whether a run may read a word of memory before it writes it, from an instruction on, by what
-/// holds of the places behind it.
-fn is_live_before(insn: &Insn, word: u32, behind: &[bool]) -> bool
-    ensures { result ≡ is_live_before word insn.now behind.now }
+/// holds of the places after it.
+fn is_live_before(insn: &Insn, word: u32, following: &[bool]) -> bool
+    ensures { result ≡ is_live_before word insn.now following.now }
 {
     match decode(insn.code) {
-        Some(Operation::Load(_, Source::Memory)) => insn.k == word || is_live_at(behind, 0),
-        Some(Operation::Store(_)) => insn.k != word && is_live_at(behind, 0),
-        Some(Operation::Jump) => is_live_at(behind, insn.k as usize),
+        Some(Operation::Load(_, Source::Memory)) => insn.k == word || is_live_at(following, 0),
+        Some(Operation::Store(_)) => insn.k != word && is_live_at(following, 0),
+        Some(Operation::Jump) => is_live_at(following, insn.k as usize),
         Some(Operation::JumpIf(_, _)) => {
-            is_live_at(behind, insn.jt as usize) || is_live_at(behind, insn.jf as usize)
+            is_live_at(following, insn.jt as usize) || is_live_at(following, insn.jf as usize)
         }
         Some(Operation::ReturnConstant | Operation::ReturnAccumulator) => false,
-        _ => is_live_at(behind, 0),
+        _ => is_live_at(following, 0),
     }
 }
 

@@ -7,10 +7,10 @@ use cap_octet::Fault;
 use flt_bpf::CheckFault;
 use flt_words::ExprFault;
 
-/// The numbers of rules begin behind this one.
+/// The numbers of rules begin after this one.
 pub(crate) const RULES: u32 = 100;
 
-/// The numbers of readings and writes begin behind this one.
+/// The numbers of readings and writes begin after this one.
 pub(crate) const FOUND: u32 = 200;
 
 /// The version of the library.
@@ -41,7 +41,7 @@ fn status_text(status: u32) -> &'static str
     }
 }
 
-/// What the rule is called that has this number behind `RULES`.
+/// What the rule is called that has this number after `RULES`.
 fn rule_text(rule: u32) -> &'static str
     ensures { result.now ≡ rule_text rule }
 {
@@ -71,7 +71,7 @@ pub(crate) fn put(bytes: &[u8], buffer: &mut [u8]) -> usize
     bytes.len()
 }
 
-/// Puts bytes into a buffer that has room for them, and a NUL behind them.
+/// Puts bytes into a buffer that has room for them, and a NUL after them.
 fn put_front(bytes: &[u8], buffer: &mut [u8])
     requires { length bytes.now < length buffer.old }
     ensures { buffer.new ≡ bytes.now ++ 0 ∷ drop (length bytes.now + 1) buffer.old }
@@ -81,7 +81,7 @@ fn put_front(bytes: &[u8], buffer: &mut [u8])
     buffer[count] = 0;
 }
 
-/// What a number behind `FOUND` is called, of a reading or a write.
+/// What a number after `FOUND` is called, of a reading or a write.
 fn found_text(number: u32) -> &'static str
     ensures { result.now ≡ found_text number }
 {

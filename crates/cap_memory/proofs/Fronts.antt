@@ -18,9 +18,9 @@ use Rattle.cap_pcapng.specs.Unit.{Section, packet_of, packets_in}
 use Rattle.cap_pcapng.specs.Effect.{section_of}
 use Rattle.cap_io.specs.Capture.{Declared, Nothing, PcapFile, PcapngFile, IsUnit, Whole, a_block, a_first_block, file_after, first_link_after, front_of, is_pcapng}
 use Rattle.cap_io.proofs.CapturesCame.{first-packets, section-kept}
-use Rattle.cap_io.proofs.Fronts.{front_of-behind, front_of-pcapng, front_of-record, front_of_block-none, is_pcapng-append}
+use Rattle.cap_io.proofs.Fronts.{front_of-following, front_of-pcapng, front_of-record, front_of_block-none, is_pcapng-append}
 use Rattle.cap_io.proofs.Units.{front_of-unit}
-use Rattle.cap_memory.specs.Blocks.{Behind, BlockStands, IsNoBlock, IsOfIfAny}
+use Rattle.cap_memory.specs.Blocks.{Following, BlockStands, IsNoBlock, IsOfIfAny}
 use Rattle.cap_io.specs.Reading.{declared_by}
 use Rattle.cap_memory.specs.Units.{ArePlaced, Begins, IsNoUnit, BeginsWithUnit}
 use Rattle.cap_memory.specs.declared.block.UnitPacket.{UnitPacket}
@@ -114,11 +114,11 @@ block_front declared first before text order size interfaces' packet b unit =
     ∙ ap (λ n. Whole n (packets_in before (take size text)) (file_after first before (take size text))) (length-take-le size text b.there)
     ∙ ap (λ (s : Section). Whole size (packets_in before (take size text)) (PcapngFile (first_link_after first s) s)) b.section
 
-placed_behind : (section : Section) (link : Option ℕ) (text : List ℕ) (order : Order) (size : ℕ) (interfaces' : List Described) (packet : Option UnitPacket)
+placed_after : (section : Section) (link : Option ℕ) (text : List ℕ) (order : Order) (size : ℕ) (interfaces' : List Described) (packet : Option UnitPacket)
     → BlockStands (Some section) text order size interfaces' packet → IsOfIfAny section.interfaces packet
     → ArePlaced (PcapngFile link (section_of order interfaces')) text size packet (packets_in (Some section) (take size text))
-placed_behind section link text order size interfaces' None b of = b.carries
-placed_behind section link text order size interfaces' (Some p) b of =
+placed_after section link text order size interfaces' None b of = b.carries
+placed_after section link text order size interfaces' (Some p) b of =
     let c = b.carries in
     let kept : section_of order interfaces' ≡ section = sym b.section ∙ section-kept section (take size text) c.packet c.stands in
     let same : interfaces' ≡ section.interfaces = ap (λ (s : Section). s.interfaces) kept in
@@ -146,7 +146,7 @@ placed_first link text order size interfaces' None b = b.carries
 placed_first link text order size interfaces' (Some p) b =
     let none : [] ≡ b.carries.packet ∷ [] = sym (first-packets (take size text) b.is_block) ∙ b.carries.stands in absurd (cc)
 
--- what a text begins with, behind what is declared
+-- what a text begins with, after what is declared
 pub record BlockUnit (declared : Declared) (first : Option ℕ) (text : List ℕ) (order : Order) (size : ℕ) (interfaces' : List Described) (packet : Option UnitPacket) : Type 0 where
   pub packets : List Captured
   pub front : front_of declared text ≡ Whole size packets (PcapngFile (first_link_after first (section_of order interfaces')) (section_of order interfaces'))
@@ -155,7 +155,7 @@ pub record BlockUnit (declared : Declared) (first : Option ℕ) (text : List ℕ
   pub some : 0 < size
 
 pub block_unit : (f : FileState) (section : Option Order) (first : Option ℕ) (interfaces : List Described) (text : List ℕ) (order : Order) (size : ℕ) (interfaces' : List Described) (packet : Option UnitPacket)
-    → Begins f section first interfaces text → Behind section interfaces (λ before. BlockStands before text order size interfaces' packet) → IsOfIfAny interfaces packet
+    → Begins f section first interfaces text → Following section interfaces (λ before. BlockStands before text order size interfaces' packet) → IsOfIfAny interfaces packet
     → BlockUnit (declared_by f interfaces) first text order size interfaces' packet
 block_unit form.Unknown section first interfaces text order size interfaces' packet begins stands of =
     let b = stands None (sym begins.0) (sym begins.2) in
@@ -174,7 +174,7 @@ block_unit (form.Pcapng own link) section first interfaces text order size inter
     subst P (sym begins.1) (record {
       packets = packets_in (Some (section_of own interfaces)) (take size text);
       front = block_front (PcapngFile link (section_of own interfaces)) link (Some (section_of own interfaces)) text order size interfaces' packet b (a_block link (section_of own interfaces) (take size text) b.is_block);
-      placed = placed_behind (section_of own interfaces) _ text order size interfaces' packet b of;
+      placed = placed_after (section_of own interfaces) _ text order size interfaces' packet b of;
       there = b.there;
       some = b.some;
     })
@@ -186,7 +186,7 @@ no_unit form.Unknown section first interfaces text room (refusal.Fault fault) be
     front_of-pcapng text begins.3 ∙ front_of_block-none None None text fault (r None (sym begins.0) (sym begins.2))
 no_unit (form.Pcap head) section first interfaces text room (refusal.Fault fault) begins r = absurd begins
 no_unit (form.Pcapng own link) section first interfaces text room (refusal.Fault fault) begins r =
-    front_of-behind link (section_of own interfaces) text begins.2 ∙ front_of_block-none link (Some (section_of own interfaces)) text fault (r (Some (section_of own interfaces)) (sym begins.0) refl)
+    front_of-following link (section_of own interfaces) text begins.2 ∙ front_of_block-none link (Some (section_of own interfaces)) text fault (r (Some (section_of own interfaces)) (sym begins.0) refl)
 no_unit form.Unknown section first interfaces text room refusal.NoRoom begins r =
     let d = r.1 None (sym begins.0) (sym begins.2) in
     let b = d.stands in (

@@ -29,9 +29,9 @@ declared_as (form.Pcap head) r table count is counts = ap (λ g. declared_by g (
 declared_as (form.Pcapng order link) r table count is counts =
     ap (λ n. declared_by (form.Pcapng order link) (first_interfaces n table)) counts ∙ ap (λ g. declared_by g (first_interfaces (most_known r (length table)) table)) is
 
-pub declared_behind : (f : FileState) (r : Reader) (table : List Interface) (count : ℕ) → reader_form r ≡ f → r.interfaces ≡ count → count ≤ length table → count ≤ 256
+pub declared_after : (f : FileState) (r : Reader) (table : List Interface) (count : ℕ) → reader_form r ≡ f → r.interfaces ≡ count → count ≤ length table → count ≤ 256
     → declared_by f (first_interfaces count table) ≡ declared_in r table
-declared_behind f r table count is counts fits upper_bound =
+declared_after f r table count is counts fits upper_bound =
     let most : most_known r (length table) ≡ count =
     ap (λ n. min (min n (length table)) 256) counts ∙ ap (λ n. min n 256) (min_left count (length table) fits) ∙ min_left count 256 upper_bound in
     ap (λ n. declared_by f (first_interfaces n table)) (sym most) ∙ ap (λ g. declared_by g (first_interfaces (most_known r (length table)) table)) (sym is)
@@ -49,14 +49,14 @@ read : (capture text : List ℕ) (r r' : Reader) (t t' : List Interface) (f : Fi
     → BeginsWithUnit f (first_interfaces count t) text t' s → reader_form r' ≡ s.form → r'.interfaces ≡ s.interfaces → Read capture r r' t t' s
 read capture text r r' t t' f count s is counts same steps form' interfaces' =
     let before = declared_as f r t count is counts in
-    let behind = declared_behind s.form r' t' s.interfaces form' interfaces' steps.known steps.upper_bound in
+    let following = declared_after s.form r' t' s.interfaces form' interfaces' steps.known steps.upper_bound in
     let Q : List ℕ → Type 0 = λ u. ArePlaced (declared_in r' t') u s.size s.packet steps.packets in
     let R : Declared → Type 0 = λ d. ArePlaced d text s.size s.packet steps.packets in
     let S : List ℕ → Type 0 = λ u. s.size ≤ length u in
     record {
       packets = steps.packets;
-      front = ap (front_of (declared_in r t)) (sym same) ∙ ap (λ d. front_of d text) (sym before) ∙ steps.front ∙ ap (λ d. Whole s.size steps.packets d) behind;
-      placed = subst Q same (subst R behind steps.placed);
+      front = ap (front_of (declared_in r t)) (sym same) ∙ ap (λ d. front_of d text) (sym before) ∙ steps.front ∙ ap (λ d. Whole s.size steps.packets d) following;
+      placed = subst Q same (subst R following steps.placed);
       there = subst S same steps.there;
     }
 

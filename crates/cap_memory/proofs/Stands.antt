@@ -10,12 +10,12 @@ use Rattle.cap_octet.proofs.Checks.{checked_err}
 use Rattle.cap_pcapng.specs.Block.{block_checks, parts_in}
 use Rattle.cap_pcapng.specs.Frame.{frame_checks, frame_fault, frame_in}
 use Rattle.cap_pcapng.specs.Interface.{Described}
-use Rattle.cap_pcapng.specs.Unit.{Section, block_size, checks_among, frame_behind, interfaces_before, order_before, parts_behind, unit_fault}
+use Rattle.cap_pcapng.specs.Unit.{Section, block_size, checks_among, frame_after, interfaces_before, order_before, parts_after, unit_fault}
 use Rattle.cap_pcapng.specs.declared.frames.Frame.{Frame}
 use Rattle.cap_pcapng.proofs.Units.{frame_checks-append, frame_in-append, block_checks-append, parts_in-append, unit_fault-frame, unit_fault-short, unit_fault-block, unit_fault-among}
 use Rattle.cap_pcapng.specs.Effect.{Enters, IsBlockFault}
 use Rattle.cap_pcapng.specs.declared.effect.PacketSpans.{PacketSpans}
-use Rattle.cap_io.proofs.BlocksCame.{BlockCame, FrontSays, WholeCame, block_came, front_says, says_behind}
+use Rattle.cap_io.proofs.BlocksCame.{BlockCame, FrontSays, WholeCame, block_came, front_says, says_after}
 use Rattle.cap_io.proofs.BlocksCame as came
 use Rattle.cap_memory.specs.Blocks.{BlockPacketIfAny, BlockStands, IsNoBlock, IsRefusal, spans_of}
 use Rattle.cap_memory.specs.declared.block.Refusal.{Refusal}
@@ -40,7 +40,7 @@ frame_fails before section text front fault is enough same exact =
 -- what they say is what the text says
 pub record IsFramed (before : Option Section) (text : List ℕ) (frame : Frame) : Type 0 where
   pub passes : first_failing (frame_checks (order_before before) text) ≡ None
-  pub says : frame_behind before text ≡ frame
+  pub says : frame_after before text ≡ frame
 
 pub framed : (before : Option Section) (section : Option Order) (text front : List ℕ) (frame : Frame) → order_before before ≡ section → 12 ≤ length text → front ≡ take 12 text
     → Ok frame ≡ checked (frame_fault section front) (frame_in section front) → IsFramed before text frame
@@ -48,7 +48,7 @@ framed before section text front frame is enough same exact =
     let joined : take 12 text ++ drop 12 text ≡ text = take-append-drop 12 text in
     let upper_bound : length (take 12 text) ≡ 12 = front_fits text enough in
     let P : List ℕ → Type 0 = λ f. Ok frame ≡ checked (frame_fault section f) (frame_in section f) in
-    let both = says_behind before section (take 12 text) (drop 12 text) frame is (omega (arith, upper_bound)) (front_says section (take 12 text) (Ok frame) frame (subst P same exact) refl) in
+    let both = says_after before section (take 12 text) (drop 12 text) frame is (omega (arith, upper_bound)) (front_says section (take 12 text) (Ok frame) frame (subst P same exact) refl) in
     let Q : List ℕ → Type 0 = λ t. IsFramed before t frame in
     subst Q joined (record { passes = both.0; says = both.1 })
 
@@ -66,10 +66,10 @@ entry_fails before interfaces text frame fault same enough least room f fails =
     let joined : take frame.length text ++ drop frame.length text ≡ text = take-append-drop frame.length text in
     let size : length (take frame.length text) ≡ frame.length = length-take-le frame.length text room in
     let whole : block_size before text ≡ frame.length = ap (λ (g : Frame). g.length) f.says in
-    let blocked : first_failing (block_checks (frame_behind before text) text) ≡ first_failing (block_checks frame block) =
+    let blocked : first_failing (block_checks (frame_after before text) text) ≡ first_failing (block_checks frame block) =
     ap (λ (g : Frame). first_failing (block_checks g text)) f.says ∙ ap (λ t. first_failing (block_checks frame t)) (sym joined)
     ∙ ap first_failing (block_checks-append frame (take frame.length text) (drop frame.length text) least (omega (arith, size))) in
-    let parts : parts_behind before text ≡ parts_in frame block =
+    let parts : parts_after before text ≡ parts_in frame block =
     ap (λ (g : Frame). parts_in g text) f.says ∙ ap (parts_in frame) (sym joined)
     ∙ parts_in-append frame (take frame.length text) (drop frame.length text) least (omega (arith, size)) in
     elim fails [

@@ -18,7 +18,7 @@ use Rattle.cap_memory.specs.declared.block.UnitPacket.{UnitPacket}
 use Rattle.cap_memory.specs.declared.block.Refusal.{Refusal}
 use Rattle.cap_memory.specs.declared.block.Refusal.TheVariants as refusal
 
--- what is held of a packet in a unit of so many bytes
+-- what is held of a packet in a unit of `size` bytes
 abbrev pub spans_of : ℕ → UnitPacket → PacketSpans
 spans_of size p = record {
   size = size;
@@ -48,7 +48,7 @@ IsRefusal frame interfaces block room refusal.NoRoom =
     (room ≤ length interfaces)
     × ((i : Described) × Enters frame interfaces block None (interfaces ++ i ∷ []))
 
--- a block passes all of its checks; behind it these are the interfaces, and this is its packet
+-- a block passes all of its checks; after it these are the interfaces, and this is its packet
 pub record EntersTable (frame : Frame) (interfaces : List Described) (block : List ℕ)
     (table' : List Interface) (effect : BlockEffect) : Type 0 where
   pub enters : Enters frame interfaces block (option_map (spans_of frame.length) effect.packet)
@@ -60,8 +60,8 @@ pub record EntersTable (frame : Frame) (interfaces : List Described) (block : Li
 -- ---- a block that a text begins with
 
 -- given the section before it, as its byte order and its interfaces
-abbrev pub Behind : Option Order → List Described → (Option Section → Type 0) → Type 0
-Behind section interfaces P =
+abbrev pub Following : Option Order → List Described → (Option Section → Type 0) → Type 0
+Following section interfaces P =
     (before : Option Section) → order_before before ≡ section
     → interfaces_before before ≡ interfaces → P before
 
@@ -77,7 +77,7 @@ abbrev pub BlockPacketIfAny : Order → Option Section → List ℕ → Option P
 BlockPacketIfAny order before block None = packets_in before block ≡ []
 BlockPacketIfAny order before block (Some held) = BlockPacket order before block held
 
--- it passes all of its checks; behind it these are the interfaces, and this is its packet
+-- it passes all of its checks; after it these are the interfaces, and this is its packet
 pub record BlockStands (before : Option Section) (text : List ℕ) (order : Order) (size : ℕ)
     (interfaces' : List Described) (packet : Option UnitPacket) : Type 0 where
   pub is_block : IsBlock before (take size text)
@@ -89,7 +89,7 @@ pub record BlockStands (before : Option Section) (text : List ℕ) (order : Orde
 
 pub record BlockIs (section : Option Order) (interfaces : List Described) (text : List ℕ)
     (table' : List Interface) (read : BlockRead) : Type 0 where
-  pub stands : Behind section interfaces
+  pub stands : Following section interfaces
       (λ before. BlockStands before text read.order read.size
       (first_interfaces read.effect.interfaces table') read.effect.packet)
   pub known : read.effect.interfaces ≤ length table'
@@ -108,7 +108,7 @@ pub record Declares (before : Option Section) (text : List ℕ)
 -- interface
 abbrev pub IsNoBlock : Option Order → List Described → List ℕ → ℕ → Refusal → Type 0
 IsNoBlock section interfaces text room (refusal.Fault fault) =
-    Behind section interfaces (λ before. unit_fault before text ≡ Some fault)
+    Following section interfaces (λ before. unit_fault before text ≡ Some fault)
 IsNoBlock section interfaces text room refusal.NoRoom =
     (room ≤ length interfaces)
-    × Behind section interfaces (λ before. Declares before text interfaces)
+    × Following section interfaces (λ before. Declares before text interfaces)

@@ -36,7 +36,7 @@ name_by (PcapFile head) number = Some []
 name_by (PcapngFile first section) number =
     option_map (λ (i : Described). i.name) (slice_get section.interfaces number)
 
--- a packet of a unit of so many bytes, which begins a text, and where its parts are in the unit
+-- a packet of a unit of this size, which begins a text, and where its parts are in the unit
 pub record IsPlaced (declared : Declared) (text : List ℕ) (size : ℕ) (p : UnitPacket)
     (q : Captured) : Type 0 where
   pub link : q.link ≡ p.link_type
@@ -94,7 +94,7 @@ Begins (form.Pcap head) section first interfaces text = ⊥
 Begins (form.Pcapng order link) section first interfaces text =
     (section ≡ Some order) × (first ≡ link) × (0 < length text)
 
--- behind a unit something is left
+-- after a unit something is left
 abbrev pub IsSomeFor : FileState → List ℕ → Type 0
 IsSomeFor form.Unknown text = Unit {0}
 IsSomeFor (form.Pcap head) text = 0 < length text
@@ -163,13 +163,13 @@ placed_packet at p = record {
   link_type = p.link_type;
 }
 
--- so many interfaces are known
+-- `count` interfaces are known
 abbrev pub Counts : FileState → Reader → ℕ → ℕ → Type 0
 Counts form.Unknown r room count = Unit {0}
 Counts (form.Pcap head) r room count = count ≡ most_known r room
 Counts (form.Pcapng order link) r room count = count ≡ most_known r room
 
--- behind a unit nothing is left
+-- after a unit nothing is left
 abbrev pub IsAtEnd : FileState → List ℕ → Type 0
 IsAtEnd form.Unknown text = ⊥
 IsAtEnd (form.Pcap head) text = text ≡ []

@@ -39,7 +39,7 @@ written_block_checks number p =
 abbrev pub interface_checks : (name : List ℕ) → List (Bool × Fault)
 interface_checks name = (nat_le (length name) 255, BadOption) ∷ []
 
--- they stand whole at the start of the buffer, and what is behind them is as it was
+-- they stand whole at the start of the buffer, and what is after them is as it was
 pub record StandWhole (bytes old new : List ℕ) (count : ℕ) : Type 0 where
   pub counted : count ≡ length bytes
   pub fits : length bytes ≤ length old

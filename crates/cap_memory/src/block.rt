@@ -38,7 +38,7 @@ pub(crate) enum Refusal {
     NoRoom,
 }
 
-/// A block that passed all of its checks: how many interfaces there are behind it, and its packet.
+/// A block that passed all of its checks: how many interfaces there are after it, and its packet.
 #[derive(Clone, Copy)]
 pub(crate) struct BlockEffect {
     pub(crate) interfaces: usize,
@@ -57,7 +57,7 @@ fn get(table: &[Interface], count: usize, number: u32) -> Option<&Interface>
     table.get(number as usize)
 }
 
-/// Puts an interface behind the first of a table.
+/// Puts an interface after the first of a table.
 fn put(table: &mut [Interface], count: usize, interface: &ReadInterface<'_>)
     requires { count < length table.old }
     ensures put { first_interfaces (count + 1) table.new
@@ -111,7 +111,7 @@ fn unit_packet(table: &[Interface], count: usize, spans: &PacketSpans) -> UnitPa
     }
 }
 
-/// Makes the checks of a whole block of this frame, and brings the table of interfaces behind it. A
+/// Makes the checks of a whole block of this frame, and brings the table of interfaces after it. A
 /// refusal leaves the table unchanged.
 fn apply_block(
     table: &mut [Interface],
@@ -170,8 +170,8 @@ pub(crate) struct BlockRead {
     pub(crate) effect: BlockEffect,
 }
 
-/// Reads the block that a text begins with, behind a section of this byte order or behind none, and
-/// brings the table of interfaces behind it. A refusal leaves the table unchanged.
+/// Reads the block that a text begins with, after a section of this byte order or after none, and
+/// brings the table of interfaces after it. A refusal leaves the table unchanged.
 pub(crate) fn read_block(
     section: Option<Order>,
     table: &mut [Interface],

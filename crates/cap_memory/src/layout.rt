@@ -14,7 +14,7 @@ const MOST_INTERFACES: usize = 256;
 /// The most bytes of an interface's name.
 const MOST_NAME: usize = 255;
 
-/// How far a capture is read, and what its units declare of those behind them. All zeros is the
+/// How far a capture is read, and what its units declare of those after them. All zeros is the
 /// start of a capture.
 #[repr(C)]
 #[derive(Clone, Copy)]

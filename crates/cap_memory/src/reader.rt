@@ -60,7 +60,7 @@ fn is_pcapng(text: &[u8]) -> bool
     }
 }
 
-/// The first link type of a file behind a block, given that before it and the interfaces behind it.
+/// The first link type of a file after a block, given that before it and the interfaces after it.
 fn first_link_type(first: Option<u16>, table: &[Interface], count: usize) -> Option<u16>
     requires { count ≤ length table.now }
     ensures { (order : Order) → result ≡ first_link_after first
@@ -101,7 +101,7 @@ fn record_step(head: &Head, text: &[u8], interfaces: usize) -> Result<Step, Refu
     }
 }
 
-/// The block that a text begins with, behind what is declared.
+/// The block that a text begins with, after what is declared.
 fn block_step(
     form: FileState,
     section: Option<Order>,
@@ -215,7 +215,7 @@ fn is_over(form: FileState, text: &[u8]) -> bool
     }
 }
 
-/// Reads the unit at the reader's place. By `Unit` and `Packet` the reader is behind it, and by
+/// Reads the unit at the reader's place. By `Unit` and `Packet` the reader is after it, and by
 /// `Packet` the packet is where `packet` says; by the others nothing is written.
 pub fn next_unit(
     reader: &mut Reader,
@@ -250,7 +250,7 @@ pub fn next_unit(
     }
 }
 
-/// So many bytes from a place on, as far as they are there.
+/// A given number of bytes from a place on, as far as they are there.
 fn part_of(text: &[u8], at: usize, length: u32) -> &[u8]
     ensures { result.now ≡ take length (drop at text.now) }
 {

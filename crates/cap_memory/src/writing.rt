@@ -15,7 +15,7 @@ use cap_octet::date::TIME_END;
 use cap_octet::{Fault, Format, Packet};
 use cap_pcap::{head_bytes, record_bytes};
 use cap_pcapng::{
-    interface_end, interface_header, option_header, packet_end, packet_header, padding_behind,
+    interface_end, interface_header, option_header, packet_end, packet_header, padding_after,
     section_bytes,
 };
 
@@ -37,15 +37,15 @@ const MOST_INTERFACES: u32 = 4096;
 /// What became of bytes that were to be put into a buffer.
 #[derive(Clone, Copy)]
 pub enum Written {
-    /// They are at its start, so many.
+    /// This many bytes are at its start.
     Whole(usize),
-    /// They are so many, more than it has room for.
+    /// They are this many bytes, more than it has room for.
     NoRoom(usize),
     /// The first check that fails.
     Refused(Fault),
 }
 
-/// Puts parts, so many bytes in all, one after another at the start of a buffer, if it has room.
+/// Puts parts, `size` bytes in all, one after another at the start of a buffer, if it has room.
 fn put_parts(parts: &[&[u8]], size: usize, buffer: &mut [u8]) -> Written
     requires { size ≡ length (flat_map (λ part. part.now) parts.now) }
     ensures { WriteLeaves None (flat_map (λ part. part.now) parts.now) buffer.old buffer.new
@@ -155,7 +155,7 @@ fn put_interface(packet: &Packet<'_>, buffer: &mut [u8]) -> Written
         result }
 {
     let name = packet.name;
-    let padding = padding_behind(name.len());
+    let padding = padding_after(name.len());
     let option = option_header(NAME, name);
     let start = if name.is_empty() { 7 } else { 3 };
     let option = &option[start..];
@@ -165,7 +165,7 @@ fn put_interface(packet: &Packet<'_>, buffer: &mut [u8]) -> Written
     put_parts(&[&head, option, name, &end[3 - padding..]], size, buffer)
 }
 
-/// Puts the block of a packet of this interface, behind its section and the descriptions of its
+/// Puts the block of a packet of this interface, after its section and the descriptions of its
 /// interfaces. It is refused where its time is 2^63 nanoseconds or more, its comment has over
 /// 65,535 bytes (`BadOption`), as `cap_pcapng::fits` says, and where the interface isn't among the
 /// first 4,096.
@@ -210,7 +210,7 @@ fn put_packet(number: u32, packet: &Packet<'_>, buffer: &mut [u8]) -> Written
     ensures { WriteLeaves None (packet_block number (captured packet.now)) buffer.old buffer.new
         result }
 {
-    let padding = padding_behind(packet.bytes.len());
+    let padding = padding_after(packet.bytes.len());
     if packet.comment.is_empty() {
         let size = 32 + packet.bytes.len() + padding;
         let head = packet_header(size as u32, number, packet);
@@ -220,7 +220,7 @@ fn put_packet(number: u32, packet: &Packet<'_>, buffer: &mut [u8]) -> Written
     let comment = packet.comment;
     let option = option_header(COMMENT, comment);
     let option = &option[3 - padding..];
-    let zeros = padding_behind(comment.len()) + 4;
+    let zeros = padding_after(comment.len()) + 4;
     let size = 32 + packet.bytes.len() + option.len() + comment.len() + zeros;
     let head = packet_header(size as u32, number, packet);
     let end = packet_end(size as u32);

@@ -8,9 +8,9 @@ use Rattle.std.proofs.Math.ListN.{drop_of_length-le}
 use borrow.Rule.Slice.PartMut.{put_mid, mid_of}
 use Rattle.cap_octet.specs.Device.{Takes, TakesSome, TakesFull, TakesFront}
 
--- what is behind the first c bytes of the buffer after the first c came
-behind : (u b : List ℕ) (c : ℕ) → c ≤ length u → drop c (take c u ++ drop c b) ≡ drop c b
-behind u b c h = drop_at (take c u) (drop c b) c (length-take c u ∙ omega arith)
+-- what is after the first c bytes of the buffer after the first c came
+following : (u b : List ℕ) (c : ℕ) → c ≤ length u → drop c (take c u ++ drop c b) ≡ drop c b
+following u b c h = drop_at (take c u) (drop c b) c (length-take c u ∙ omega arith)
 
 front : (u b : List ℕ) (c : ℕ) → c ≤ length u → take c (take c u ++ drop c b) ≡ take c u
 front u b c h = take_at (take c u) (drop c b) c (length-take c u ∙ omega arith)
@@ -18,13 +18,13 @@ front u b c h = take_at (take c u) (drop c b) c (length-take c u ∙ omega arith
 pub joined : (u b : List ℕ) (c k n : ℕ) → c ≤ length u → length (drop c b) ≤ k
     → put_mid c k (take c u ++ drop c b) (take n (drop c u) ++ drop n (mid_of c k (take c u ++ drop c b))) ≡ take (c + n) u ++ drop (c + n) b
 joined u b c k n h l =
-    rw (front u b c h, behind u b c h, drop_of_length-le (drop c b) l, take_all k (drop c b) l, drop-drop n c b, take-add c n u)
+    rw (front u b c h, following u b c h, drop_of_length-le (drop c b) l, take_all k (drop c b) l, drop-drop n c b, take-add c n u)
     (grind (arith, append_assoc, append-nil))
 
 -- what came into the rest of a buffer came into the buffer
-Takes-behind : (u b u1 b1 : List ℕ) (c k n : ℕ) (u2 p : List ℕ) → Takes u b c u1 b1 → Takes u1 (mid_of c k b1) n u2 p
+Takes-following : (u b u1 b1 : List ℕ) (c k n : ℕ) (u2 p : List ℕ) → Takes u b c u1 b1 → Takes u1 (mid_of c k b1) n u2 p
     → c + k ≡ length b → c ≤ length b → Takes u b (c + n) u2 (put_mid c k b1 p)
-Takes-behind u b u1 b1 c k n u2 p first next e h =
+Takes-following u b u1 b1 c k n u2 p first next e h =
     let l : length (drop c b) ≤ k = simp length-drop (omega arith) in
     record {
       there = let r : n ≤ length u1 = next.there in let q : length u1 ≡ length u - c = ap length first.rest ∙ length-drop c u in omega (arith, first.there);
@@ -34,29 +34,29 @@ Takes-behind u b u1 b1 c k n u2 p first next e h =
 
 pub Takes-again : (u b u1 b1 : List ℕ) (c k n : ℕ) (u2 p : List ℕ) → Takes u b c u1 b1 → TakesSome u1 (mid_of c k b1) n u2 p
     → c + k ≡ length b → c ≤ length b → Takes u b (c + n) u2 (put_mid c k b1 p)
-Takes-again u b u1 b1 c k n u2 p first next e h = Takes-behind u b u1 b1 c k n u2 p first next.taken e h
+Takes-again u b u1 b1 c k n u2 p first next e h = Takes-following u b u1 b1 c k n u2 p first next.taken e h
 
 -- a first read, and then reads until the rest is full or the end is met
-pub full-behind : (u b u1 b1 : List ℕ) (c k n : ℕ) (u2 p : List ℕ) → Takes u b c u1 b1 → TakesFull u1 (mid_of c k b1) n u2 p
+pub full-following : (u b u1 b1 : List ℕ) (c k n : ℕ) (u2 p : List ℕ) → Takes u b c u1 b1 → TakesFull u1 (mid_of c k b1) n u2 p
     → c + k ≡ length b → c ≤ length b → length b1 ≡ length b → TakesFull u b (c + n) u2 (put_mid c k b1 p)
-full-behind u b u1 b1 c k n u2 p first next e h same =
+full-following u b u1 b1 c k n u2 p first next e h same =
     let mid : length (mid_of c k b1) ≡ k = length-take k (drop c b1) ∙ (simp length-drop (omega arith)) in
     let q : length u1 ≡ length u - c = ap length first.rest ∙ length-drop c u in
     record {
-      taken = Takes-behind u b u1 b1 c k n u2 p first next.taken e h;
+      taken = Takes-following u b u1 b1 c k n u2 p first next.taken e h;
       full = let f : n ≡ min (length (mid_of c k b1)) (length u1) = next.full in omega (arith, first.there, mid, q);
     }
 
 -- the same where the device failed
-pub front-behind : (u b u1 b1 : List ℕ) (c k given : ℕ) (u2 p : List ℕ) (given1 given2 : ℕ) → Takes u b c u1 b1 → TakesFront u1 (mid_of c k b1) given1 u2 p given2
+pub front-following : (u b u1 b1 : List ℕ) (c k given : ℕ) (u2 p : List ℕ) (given1 given2 : ℕ) → Takes u b c u1 b1 → TakesFront u1 (mid_of c k b1) given1 u2 p given2
     → c + k ≡ length b → c ≤ length b → length b1 ≡ length b → given1 ≡ given + c → TakesFront u b given u2 (put_mid c k b1 p) given2
-front-behind u b u1 b1 c k given u2 p given1 given2 first next e h same counts =
+front-following u b u1 b1 c k given u2 p given1 given2 first next e h same counts =
     let mid : length (mid_of c k b1) ≡ k = length-take k (drop c b1) ∙ (simp length-drop (omega arith)) in
     record {
       k = c + next.k;
       short = omega (arith, mid, next.short);
       counted = omega (arith, next.counted);
-      taken = Takes-behind u b u1 b1 c k next.k u2 p first next.taken e h;
+      taken = Takes-following u b u1 b1 c k next.k u2 p first next.taken e h;
     }
 
 -- the end of a full read: the buffer is full, or nothing came

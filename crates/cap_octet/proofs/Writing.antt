@@ -7,7 +7,7 @@ use Rattle.std.proofs.lemmas.List.{append_assoc, take-append-le, take-append-dro
 use Rattle.cap_octet.specs.declared.device.Stopped.{Stopped}
 use Rattle.cap_octet.specs.Device.{Stops, WritesAll}
 
--- a part that stopped behind others, and that more would have followed
+-- a part that stopped after others, and that more would have followed
 pub stops-part : (old mid new done part more : List ℕ) (stopped : Stopped) → mid ≡ old ++ done
     → stopped.written < length part → WritesAll mid part (Err stopped) new → Stops old (done ++ (part ++ more)) new
 stops-part old mid new done part more stopped first less second = (
@@ -20,7 +20,7 @@ stops-part old mid new done part more stopped first less second = (
       ∙ ap (λ (x : List ℕ). old ++ x) (sym (take-append-add done (part ++ more) stopped.written)),
 )
 
--- the parts before, at and behind a place
+-- the parts before, at and after a place
 pub parts_at : {X : Type 0} (f : X → List ℕ) (parts : List X) (i : ℕ) (d : X) → i < length parts
     → flat_map f parts ≡ flat_map f (take i parts) ++ (f (get_or parts i d) ++ flat_map f (drop (i + 1) parts))
 parts_at f parts i d within =
@@ -28,7 +28,7 @@ parts_at f parts i d within =
     ∙ flat_map-append f (take i parts) (drop i parts)
     ∙ ap (λ l. flat_map f (take i parts) ++ flat_map f l) (drop_more parts i d within)
 
--- a part that stopped behind the ones before it
+-- a part that stopped after the ones before it
 pub parts-stop : {X : Type 0} (f : X → List ℕ) (parts : List X) (i : ℕ) (d : X) (old mid new : List ℕ) (stopped : Stopped)
     → i < length parts → mid ≡ old ++ flat_map f (take i parts)
     → stopped.written < length (f (get_or parts i d)) → WritesAll mid (f (get_or parts i d)) (Err stopped) new → Stops old (flat_map f parts) new

@@ -27,7 +27,7 @@ ETHERTYPE_ARP = 0x0806
 abbrev pub ETHERTYPE_RARP : ℕ
 ETHERTYPE_RARP = 0x8035
 
--- protocols behind a header of IP (IANA's list of protocol numbers)
+-- protocols after a header of IP (IANA's list of protocol numbers)
 
 abbrev pub IPPROTO_ICMP : ℕ
 IPPROTO_ICMP = 1

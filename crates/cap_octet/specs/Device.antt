@@ -13,7 +13,7 @@ abbrev pub failures_of : {X E : Type 0} → Result X E → ℕ
 failures_of (Ok value) = 0
 failures_of (Err fault) = 1
 
--- A device that may fail once it gave so many bytes, or never, gave enough to fail.
+-- A device that may fail once it gave `sure` bytes, or never, gave enough to fail.
 abbrev pub HasGiven : Option ℕ → ℕ → Type 0
 HasGiven None given = ⊥
 HasGiven (Some sure) given = sure ≤ given
@@ -34,7 +34,7 @@ abbrev pub Reads : List ℕ → List ℕ → Result ℕ DeviceFault → List ℕ
 Reads unread buf (Ok n) unread' buf' = TakesSome unread buf n unread' buf'
 Reads unread buf (Err fault) unread' buf' = (unread' ≡ unread) × (buf' ≡ buf)
 
--- so many unread bytes are taken, or none
+-- `count` unread bytes are taken, or none
 abbrev pub Passes : List ℕ → ℕ → Bool → List ℕ → Type 0
 Passes unread count true unread' = (count ≤ length unread) × (unread' ≡ drop count unread)
 Passes unread count false unread' = unread' ≡ unread

@@ -4,7 +4,7 @@ use Rattle.std.specs.Option.{option_and_then}
 use Rattle.cap_octet.specs.Date.{NANOS_PER_SECOND, TIME_END}
 use Rattle.cap_octet.specs.Digits.{number_of}
 
--- the nanoseconds that 1 to 9 digits behind the point write
+-- the nanoseconds that 1 to 9 digits after the point write
 abbrev pub fraction_of : List ℕ → Option ℕ
 fraction_of ds =
     if nat_le (length ds) 9 then option_and_then (λ n. Some (n * 10 ^ (9 - length ds)))

@@ -8,7 +8,7 @@ use Rattle.std.specs.declared.io.ErrorKind.{ErrorKind}
 use Rattle.std.specs.declared.io.ErrorKind.TheVariants.{WriteZero}
 use Rattle.cap_octet.specs.declared.device.DeviceFault.{DeviceFault}
 
--- The reader's answer, where so many bytes were given before: but a read that would reach 2^63
+-- The reader's answer, where `given` bytes were given before: but a read that would reach 2^63
 -- bytes in all is a failure.
 abbrev pub HandsOver : ℕ → Result ℕ Error → Result ℕ DeviceFault → Type 0
 HandsOver given (Ok n) (Ok count) = count ≡ n
@@ -35,7 +35,7 @@ pub record IsOneRead (held : List ℕ) (remaining : Option (List ℕ)) (given ca
   pub bytes : ReadConsumes remaining remaining' answer buf'
   pub hands : HandsOver given answer result
 
--- So many bytes that a reader's buffer holds are consumed, as of a read that gave them; or the
+-- `count` bytes that a reader's buffer holds are consumed, as of a read that gave them; or the
 -- reader gives what it gave.
 abbrev pub IsPassed : (held : List ℕ) (remaining : Option (List ℕ)) (count : ℕ) → Bool
     → (remaining' : Option (List ℕ)) → Type 0

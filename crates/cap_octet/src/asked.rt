@@ -49,7 +49,7 @@ impl<R: Read> AskedReader<R> {
         self.reader.buffer()
     }
 
-    /// Takes so many bytes of what its buffer holds, without a read.
+    /// Takes `count` bytes of what its buffer holds, without a read.
     #[inline(always)]
     pub(crate) fn consume(&mut self, count: usize)
         ensures bytes { DropsConsumable (reader_remaining R.remaining self.old.reader)
@@ -107,7 +107,7 @@ impl<W: Write + Drop> AskedWriter<W> {
         self.writer.flush()
     }
 
-    /// Whether its buffer has room for so many bytes and one more.
+    /// Whether its buffer has room for `count` bytes and one more.
     #[inline(always)]
     pub(crate) fn has_room(&self, count: usize) -> bool {
         count < self.writer.capacity() - self.writer.buffer().len()

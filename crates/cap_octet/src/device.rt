@@ -56,7 +56,7 @@ pub trait Input {
         &[]
     }
 
-    /// Takes so many bytes as a read of them would; or none, and returns `false`. Where a device
+    /// Takes `count` bytes as a read of them would; or none, and returns `false`. Where a device
     /// doesn't give this it takes none.
     fn pass(&mut self, count: usize) -> bool
         ensures counted { given self.new ≡ given self.old + (if result then count else 0) }

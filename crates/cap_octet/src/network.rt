@@ -17,7 +17,7 @@ pub enum NetworkKind {
     Rarp,
 }
 
-/// What a packet has behind its link header.
+/// What a packet has after its link header.
 #[derive(Clone, Copy)]
 pub enum NetworkHeader {
     /// A header of this kind, as far as it is captured.

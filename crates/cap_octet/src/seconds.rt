@@ -5,7 +5,7 @@ ghost use Rattle.cap_octet.specs.Seconds.{fraction_of, span_with, span_value, ti
 use crate::date::{NANOS_PER_SECOND, TIME_END};
 use crate::digits::number_of;
 
-/// The nanoseconds that 1 to 9 digits behind the point write.
+/// The nanoseconds that 1 to 9 digits after the point write.
 pub fn fraction_of(text: &[u8]) -> Option<u64>
     ensures { result ≡ fraction_of text.now }
 {
@@ -38,7 +38,7 @@ fn point_in(text: &[u8]) -> Option<usize>
     text.iter().position(|byte| *byte == b'.')
 }
 
-/// The nanoseconds of an unsigned decimal number of seconds, with a point and 1 to 9 digits behind
+/// The nanoseconds of an unsigned decimal number of seconds, with a point and 1 to 9 digits after
 /// it or without both.
 ///
 /// `None` for every other text, and from 2^63 nanoseconds on. There may be leading zeros; a digit

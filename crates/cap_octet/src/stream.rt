@@ -105,7 +105,7 @@ impl<R: Read> Input for StdInput<R> {
             self.given = given;
             return Ok(room);
         }
-        // Taken apart, since LLVM follows no branch behind a result that two ways hand over whole.
+        // Taken apart, since LLVM follows no branch after a result that two ways hand over whole.
         match self.read_through(buf) {
             Ok(count) => Ok(count),
             Err(fault) => Err(fault),

@@ -115,7 +115,7 @@ fn date_time_value(text: &[u8]) -> Option<u64>
 
 /// The time of a timestamp, in nanoseconds since 1970-01-01 00:00:00 UTC.
 ///
-/// A timestamp is `YYYY-MM-DDThh:mm:ss`, with a point and 1 to 9 digits behind it or without, then
+/// A timestamp is `YYYY-MM-DDThh:mm:ss`, with a point and 1 to 9 digits after it or without, then
 /// `Z` (a `date-time` of RFC 3339 in UTC); or a number of seconds as [`span_of`] reads it. `None`
 /// for every other text, for a day that the calendar hasn't, for leap seconds, before 1970, and
 /// from 2^63 nanoseconds on.

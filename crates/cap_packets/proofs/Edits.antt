@@ -1,4 +1,4 @@
--- What an edit makes of packets that come one behind another.
+-- What an edit makes of packets that come one after another.
 use Rattle.std.proofs.Common.{◌≡◌, ℕ, zero, suc, drop, ◌+◌, ◌-◌, ◌^◌, ◌<◌, Bool, true, false, if◌then◌else◌, List, [], ◌∷◌, ◌++◌, length, Option, None, Some, refl, sym, ◌∙◌, ap, arith}
 use Rattle.std.proofs.lemmas.List.{append_assoc, append-nil}
 use Rattle.cap_octet.specs.Packet.{Captured}
@@ -11,7 +11,7 @@ use Rattle.cap_window.proofs.Marks.{last-last}
 use Rattle.cap_io.specs.Sequence.{Packet, FaultIn}
 use Rattle.cap_packets.specs.Verdict.{Judgement, Edit, EditRule, SelectorState, initial_state, edited_packet_with, is_selected, shifted_time, passes, refuses, selects, skip_judgement, unique, with_mark}
 use Rattle.cap_packets.specs.Outcome.{Form, AsReports, JobProgress, apply_verdict, next_progress, end_with, apply_events}
-use Rattle.cap_packets.specs.Edits.{PassesUnique, coming, is_repeated, packets_selected, unique_behind}
+use Rattle.cap_packets.specs.Edits.{PassesUnique, coming, is_repeated, packets_selected, unique_after}
 use Rattle.cap_packets.proofs.Selectors.{upper_bound}
 
 abbrev reports : Form
@@ -55,9 +55,9 @@ step-is : (s : EditRule) (k : ℕ) (state : SelectorState) (out : List Captured)
 step-is s k state out p j less is = ap (λ (v : Judgement). apply_verdict reports (under_way k state out) 0 (placed p) v.verdict v.state) (upper_bound (Edit s) state (k + 1) p refl less ∙ is)
 
 abbrev Passes : EditRule → ℕ → SelectorState → List Mark → List Captured → List Captured → Type 0
-Passes s k state before out ps = (apply_events (Edit s) reports (under_way k state out) (coming ps)).packets ≡ out ++ unique_behind s.window before (packets_selected s (k + 1) ps)
+Passes s k state before out ps = (apply_events (Edit s) reports (under_way k state out) (coming ps)).packets ≡ out ++ unique_after s.window before (packets_selected s (k + 1) ps)
 
--- one packet, where those behind it pass so
+-- one packet, where those after it pass so
 passes-next : (s : EditRule) (k : ℕ) (state : SelectorState) (before : List Mark) (out : List Captured) (p : Captured) (ps : List Captured) → k + 1 < 2 ^ 63 → IsKept s.window before state.window
     → ((state' : SelectorState) (before' : List Mark) (out' : List Captured) → IsKept s.window before' state'.window → Passes s (k + 1) state' before' out' ps)
     → Passes s k state before out (p ∷ ps)
@@ -68,17 +68,17 @@ passes-next s k state before out p ps near kept next = by_selected (is_selected 
         let q : Captured = edited_packet_with s p time in
         let n : Noted s.window state before q true = noted s.window state before q true kept same in
         let step = step-is s k state out p (skip_judgement n.state') near (rw (is, at_time) n.is) in
-        let rest : unique_behind s.window before (packets_selected s (k + 1) (p ∷ ps)) ≡ unique_behind s.window (before ++ mark_of q.bytes ∷ []) (packets_selected s (k + 1 + 1) ps) = rw (is, at_time, same) refl in
+        let rest : unique_after s.window before (packets_selected s (k + 1) (p ∷ ps)) ≡ unique_after s.window (before ++ mark_of q.bytes ∷ []) (packets_selected s (k + 1 + 1) ps) = rw (is, at_time, same) refl in
         ap (λ (w : JobProgress). (apply_events (Edit s) reports w (coming ps)).packets) step
         ∙ next n.state' (before ++ mark_of q.bytes ∷ []) (out ++ []) n.kept
-        ∙ ap (λ (o : List Captured). o ++ unique_behind s.window (before ++ mark_of q.bytes ∷ []) (packets_selected s (k + 1 + 1) ps)) (append-nil out)
+        ∙ ap (λ (o : List Captured). o ++ unique_after s.window (before ++ mark_of q.bytes ∷ []) (packets_selected s (k + 1 + 1) ps)) (append-nil out)
         ∙ ap (λ (l : List Captured). out ++ l) (sym rest)
     by_unique time is at_time false same =
         let q : Captured = edited_packet_with s p time in
         let n : Noted s.window state before q false = noted s.window state before q false kept same in
-        let u : List Captured = unique_behind s.window (before ++ mark_of q.bytes ∷ []) (packets_selected s (k + 1 + 1) ps) in
+        let u : List Captured = unique_after s.window (before ++ mark_of q.bytes ∷ []) (packets_selected s (k + 1 + 1) ps) in
         let step = step-is s k state out p (passes n.state' q) near (rw (is, at_time) n.is) in
-        let rest : unique_behind s.window before (packets_selected s (k + 1) (p ∷ ps)) ≡ q ∷ u = rw (is, at_time, same) refl in
+        let rest : unique_after s.window before (packets_selected s (k + 1) (p ∷ ps)) ≡ q ∷ u = rw (is, at_time, same) refl in
         ap (λ (w : JobProgress). (apply_events (Edit s) reports w (coming ps)).packets) step
         ∙ next (passes n.state' q).state (before ++ mark_of q.bytes ∷ []) (out ++ q ∷ []) n.kept
         ∙ append_assoc out (q ∷ []) u
@@ -91,7 +91,7 @@ passes-next s k state before out p ps near kept next = by_selected (is_selected 
         ap (λ (w : JobProgress). (apply_events (Edit s) reports w (coming ps)).packets) step
         ∙ ended-stays s (under_way k state out) ps TimeOutOfRange 0
         ∙ sym (append-nil out)
-        ∙ ap (λ (l : List Captured). out ++ unique_behind s.window before l) (sym none)
+        ∙ ap (λ (l : List Captured). out ++ unique_after s.window before l) (sym none)
     by_moved is (Some time) at_time = by_unique time is at_time (is_repeated s.window before (mark_of (edited_packet_with s p time).bytes)) refl
 
     by_selected : (b : Bool) → is_selected s (k + 1) p ≡ b → Passes s k state before out (p ∷ ps)
@@ -101,8 +101,8 @@ passes-next s k state before out p ps near kept next = by_selected (is_selected 
         let rest : packets_selected s (k + 1) (p ∷ ps) ≡ packets_selected s (k + 1 + 1) ps = rw is refl in
         ap (λ (w : JobProgress). (apply_events (Edit s) reports w (coming ps)).packets) step
         ∙ next state before (out ++ []) kept
-        ∙ ap (λ (o : List Captured). o ++ unique_behind s.window before (packets_selected s (k + 1 + 1) ps)) (append-nil out)
-        ∙ ap (λ (l : List Captured). out ++ unique_behind s.window before l) (sym rest)
+        ∙ ap (λ (o : List Captured). o ++ unique_after s.window before (packets_selected s (k + 1 + 1) ps)) (append-nil out)
+        ∙ ap (λ (l : List Captured). out ++ unique_after s.window before l) (sym rest)
 
 passes-unique : (s : EditRule) (k : ℕ) (state : SelectorState) (before : List Mark) (out ps : List Captured) → k + length ps < 2 ^ 63 → IsKept s.window before state.window → Passes s k state before out ps
 passes-unique s k state before out [] less kept = sym (append-nil out)

@@ -1,4 +1,4 @@
--- Packets and reports only come to what a job has.
+-- A job's packets and reports are only added to.
 use Rattle.std.proofs.Common.{◌≡◌, ℕ, ◌+◌, List, [], ◌∷◌, ◌++◌, Option, None, Some, refl, sym, ◌∙◌, ap, subst}
 use Rattle.std.proofs.lemmas.List.{append_assoc, append-nil}
 use Rattle.cap_octet.specs.Packet.{Captured}
@@ -58,7 +58,7 @@ progress-grows policy form w [] = grows-none w w refl refl
 progress-grows policy form w (e ∷ es) =
     grows-on w (next_progress policy form w e) (apply_events policy form (next_progress policy form w e) es) (unless-grows w.end w (apply_event policy form w e) (goes-grows policy form w e)) (progress-grows policy form (next_progress policy form w e) es)
 
--- how far a job comes behind events that come first
+-- how far a job comes after events that come first
 pub course-grows : (policy : Policy) (form : Form) (sequence more : Sequence) (es : List Event) (w : JobProgress) → sequence ≡ with_front es more → apply_events policy form no_progress es ≡ w → Grows w (final_progress policy form sequence)
 course-grows policy form sequence more es w is far =
     let last : JobProgress = apply_events policy form w more.events in

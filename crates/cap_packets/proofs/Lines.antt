@@ -2,14 +2,14 @@
 use Rattle.std.proofs.Common.{◌≡◌, refl, ℕ, List, [], ◌∷◌, ◌++◌, codes, Option, Err}
 use Rattle.std.proofs.lemmas.List.{append_assoc}
 use Rattle.cap_octet.specs.Device.{Stops}
-use Rattle.cap_io.proofs.Parts.{appends-behind}
+use Rattle.cap_io.proofs.Parts.{appends-following}
 use Rattle.cap_io.specs.declared.source.Kind.{Kind}
 use Rattle.cap_packets.specs.Reports.{Tally, lines, size_lines, time_lines, file_report}
 
-lines-append : (xs ys : List (List ℕ × List ℕ)) (behind : List ℕ) → lines xs [] ++ lines ys behind ≡ lines (xs ++ ys) behind
-lines-append [] ys behind = refl
-lines-append ((label, value) ∷ xs) ys behind =
-    rw (append_assoc label (58 ∷ 32 ∷ (value ++ 10 ∷ lines xs [])) (lines ys behind), append_assoc value (10 ∷ lines xs []) (lines ys behind), lines-append xs ys behind) refl
+lines-append : (xs ys : List (List ℕ × List ℕ)) (following : List ℕ) → lines xs [] ++ lines ys following ≡ lines (xs ++ ys) following
+lines-append [] ys following = refl
+lines-append ((label, value) ∷ xs) ys following =
+    rw (append_assoc label (58 ∷ 32 ∷ (value ++ 10 ∷ lines xs [])) (lines ys following), append_assoc value (10 ∷ lines xs []) (lines ys following), lines-append xs ys following) refl
 
 -- a report is its name's line, and then two groups of lines
 pub report-joined : (name : List ℕ) (kind : Option Kind) (size : ℕ) (t : Tally)
@@ -18,6 +18,6 @@ unfolding file_report
 report-joined name kind size t =
     rw (lines-append (size_lines kind size t) (time_lines t) (10 ∷ [])) (lines-append ((codes "File", name) ∷ []) (size_lines kind size t ++ time_lines t) (10 ∷ []))
 
--- a prefix of a part behind one that was written
-pub stops-behind : (written done part mid written' : List ℕ) → mid ≡ written ++ done → Stops mid part written' → Stops written (done ++ part) written'
-stops-behind written done part mid written' first stops = appends-behind {E = ℕ} (Err 0) written done part mid written' first stops
+-- a prefix of a part after one that was written
+pub stops-following : (written done part mid written' : List ℕ) → mid ≡ written ++ done → Stops mid part written' → Stops written (done ++ part) written'
+stops-following written done part mid written' first stops = appends-following {E = ℕ} (Err 0) written done part mid written' first stops

@@ -1,4 +1,4 @@
--- What is counted, kept and searched of packets that come one behind another.
+-- What is counted, kept and searched of packets that come one after another.
 use Rattle.std.proofs.Common.{◌≡◌, ℕ, zero, suc, drop, ◌+◌, ◌-◌, ◌^◌, ◌<◌, ◌==◌, ◌&&◌, Bool, true, false, if◌then◌else◌, nat_le, min, max, Option, None, Some, List, [], ◌∷◌, ◌++◌, length, refl, sym, ◌∙◌, ap, arith, subst}
 use Rattle.std.proofs.lemmas.Bool.Decides.{nat_tests}
 use Rattle.std.proofs.lemmas.List.{append_assoc, append-nil}
@@ -19,7 +19,7 @@ use Rattle.cap_io.specs.Sequence.{Event, Packet, Complete, FaultIn}
 use Rattle.cap_packets.specs.Verdict.{Policy, Count, Filter, Edit, EditRule, Judgement, PassLast, Pass, SelectorState, initial_state, edited_packet_with, filters, is_last, is_selected, judge_by, shifted_time, passes, refuses, selects, skip_judgement, unique, with_mark}
 use Rattle.cap_packets.specs.Reports.{Tally, tally_with}
 use Rattle.cap_packets.specs.Outcome.{Form, AsReports, JobProgress, apply_verdict, next_progress, end_with, apply_events}
-use Rattle.cap_packets.specs.Edits.{coming, is_repeated, packets_selected, unique_behind}
+use Rattle.cap_packets.specs.Edits.{coming, is_repeated, packets_selected, unique_after}
 use Rattle.cap_packets.specs.Selector.{is_count}
 use Rattle.cap_packets.specs.Lists.{CountsAll, EndsWithoutTime, HasLastMarks, PassesFiltered, arriving, ascends, at_most, end_at_time, final, first_without_time, greatest, packets_kept as kept, least, marks, packets_of, tally_of, times}
 use Rattle.cap_packets.proofs.Outcomes.{progress-ended}
@@ -70,9 +70,9 @@ ascends-next (a ∷ b ∷ ts) t = ap (λ (x : Bool). nat_le a b && x) (ascends-n
 not-none : (n : ℕ) → suc n == 0 ≡ false
 not-none n = grind (arith, nat_tests)
 
-least-behind : (ps : List Captured) (p : Captured) → (if length ps == 0 then p.time else min (least (times ps)) p.time) ≡ least (times ps ++ p.time ∷ [])
-least-behind [] p = refl
-least-behind (q ∷ ps) p = rw (not-none (length ps)) (sym (least-next q.time (times ps) p.time))
+least-following : (ps : List Captured) (p : Captured) → (if length ps == 0 then p.time else min (least (times ps)) p.time) ≡ least (times ps ++ p.time ∷ [])
+least-following [] p = refl
+least-following (q ∷ ps) p = rw (not-none (length ps)) (sym (least-next q.time (times ps) p.time))
 
 tally : ℕ → ℕ → ℕ → ℕ → ℕ → ℕ → Bool → Tally
 tally a b c d e f g = record { count = a; data_size = b; captured_size = c; least = d; greatest = e; last = f; strict = g }
@@ -82,7 +82,7 @@ counted-next ps p =
     let a = length-next ps p in
     let b = sum-next (λ (q : Captured). q.orig) ps p in
     let c = sum-next (λ (q : Captured). length q.bytes) ps p in
-    let d = least-behind ps p in
+    let d = least-following ps p in
     let e = greatest-next (times ps) p.time in
     let f = final-next (times ps) p.time in
     let g = ascends-next (times ps) p.time in
@@ -150,15 +150,15 @@ Filtered rule count k state out ps = (apply_events (Filter rule count) reports (
 abbrev one-more : SelectorState → SelectorState
 one-more state = record { passed = state.passed + 1; window = state.window; tally = state.tally }
 
--- one packet, where those behind it are filtered so
+-- one packet, where those after it are filtered so
 filtered-next : (rule : Rule) (count : Option ℕ) (k : ℕ) (state : SelectorState) (out : List Captured) (p : Captured) (ps : List Captured) → k + 1 < 2 ^ 63 → IsBelow count state.passed
     → ((state' : SelectorState) (out' : List Captured) → IsBelow count state'.passed → Filtered rule count (k + 1) state' out' ps) → Filtered rule count k state out (p ∷ ps)
 filtered-next rule count k state out p ps near below next = by_decision (rule_decides rule p) refl
   where
-    behind : Judgement → JobProgress
-    behind j = apply_events (Filter rule count) reports (apply_verdict reports (under_way k state out) 0 (placed p) j.verdict j.state) (coming ps)
+    following : Judgement → JobProgress
+    following j = apply_events (Filter rule count) reports (apply_verdict reports (under_way k state out) 0 (placed p) j.verdict j.state) (coming ps)
 
-    to : (j : Judgement) → filters (rule_decides rule p) count state p ≡ j → (apply_events (Filter rule count) reports (under_way k state out) (coming (p ∷ ps))).packets ≡ (behind j).packets
+    to : (j : Judgement) → filters (rule_decides rule p) count state p ≡ j → (apply_events (Filter rule count) reports (under_way k state out) (coming (p ∷ ps))).packets ≡ (following j).packets
     to j is = ap (λ (w : JobProgress). (apply_events (Filter rule count) reports w (coming ps)).packets) (step-is (Filter rule count) k state out (placed p) j refl near is)
 
     by_count : rule_decides rule p ≡ Keep → (b : Bool) → is_last count (state.passed + 1) ≡ b → Filtered rule count k state out (p ∷ ps)
@@ -237,16 +237,16 @@ noted (Some n) state before p b kept is =
       kept = ap (λ (ms : List Mark). last (n - 1) (ms ++ m ∷ [])) kept ∙ last-last (n - 1) before m;
     }
 
--- how far a job is behind packets, the first with this number, where these passed and these marks came before
+-- how far a job is after packets, the first with this number, where these passed and these marks came before
 record Follows (s : EditRule) (number : ℕ) (before : List Mark) (out : List Captured) (ps : List Placed) (w : JobProgress) : Type 0 where
-  passed : w.packets ≡ out ++ unique_behind s.window before (packets_selected s number (packets_of ps))
+  passed : w.packets ≡ out ++ unique_after s.window before (packets_selected s number (packets_of ps))
   kept : IsKept s.window (before ++ marks (packets_selected s number (packets_of ps))) w.state.window
   end : w.end ≡ end_at_time (first_without_time s number ps)
 
 abbrev Goes : EditRule → ℕ → SelectorState → List Mark → List Captured → List Placed → Type 0
 Goes s k state before out ps = Follows s (k + 1) before out ps (apply_events (Edit s) reports (under_way k state out) (arriving ps))
 
--- one packet, where those behind it are followed so
+-- one packet, where those after it are followed so
 follows-next : (s : EditRule) (k : ℕ) (state : SelectorState) (before : List Mark) (out : List Captured) (p : Placed) (ps : List Placed) → k + 1 < 2 ^ 63 → IsKept s.window before state.window
     → ((state' : SelectorState) (before' : List Mark) (out' : List Captured) → IsKept s.window before' state'.window → Goes s (k + 1) state' before' out' ps) → Goes s k state before out (p ∷ ps)
 follows-next s k state before out p ps near kept next = by_selected (is_selected s (k + 1) p.packet) refl
@@ -254,28 +254,28 @@ follows-next s k state before out p ps near kept next = by_selected (is_selected
     To : JobProgress → Type 0
     To w = Follows s (k + 1) before out (p ∷ ps) w
 
-    behind : Judgement → JobProgress
-    behind j = apply_events (Edit s) reports (apply_verdict reports (under_way k state out) 0 p j.verdict j.state) (arriving ps)
+    following : Judgement → JobProgress
+    following j = apply_events (Edit s) reports (apply_verdict reports (under_way k state out) 0 p j.verdict j.state) (arriving ps)
 
-    to : (j : Judgement) → selects s state (k + 1) p.packet ≡ j → To (behind j) → Goes s k state before out (p ∷ ps)
+    to : (j : Judgement) → selects s state (k + 1) p.packet ≡ j → To (following j) → Goes s k state before out (p ∷ ps)
     to j is follows = subst To (sym (ap (λ (w : JobProgress). apply_events (Edit s) reports w (arriving ps)) (step-is (Edit s) k state out p j refl near is))) follows
 
-    -- what is selected behind the packet
+    -- what is selected after the packet
     more : List Captured
     more = packets_selected s (k + 1 + 1) (packets_of ps)
 
     at_time : (time : ℕ) (u : List Captured) (w : JobProgress) → is_selected s (k + 1) p.packet ≡ true → shifted_time s.shift p.packet.time ≡ Some time
         → Follows s (k + 1 + 1) (before ++ mark_of (edited_packet_with s p.packet time).bytes ∷ []) (out ++ u) ps w
-        → unique_behind s.window before (edited_packet_with s p.packet time ∷ more) ≡ u ++ unique_behind s.window (before ++ mark_of (edited_packet_with s p.packet time).bytes ∷ []) more → To w
+        → unique_after s.window before (edited_packet_with s p.packet time ∷ more) ≡ u ++ unique_after s.window (before ++ mark_of (edited_packet_with s p.packet time).bytes ∷ []) more → To w
     at_time time u w is timed f same =
         let q : Captured = edited_packet_with s p.packet time in
         let rest : packets_selected s (k + 1) (packets_of (p ∷ ps)) ≡ q ∷ more = rw (is, timed) refl in
         let after : List Mark = before ++ mark_of q.bytes ∷ [] in
         record {
           passed = f.passed
-              ∙ append_assoc out u (unique_behind s.window after more)
+              ∙ append_assoc out u (unique_after s.window after more)
               ∙ ap (λ (l : List Captured). out ++ l) (sym same)
-              ∙ ap (λ (l : List Captured). out ++ unique_behind s.window before l) (sym rest);
+              ∙ ap (λ (l : List Captured). out ++ unique_after s.window before l) (sym rest);
           kept = kept-as s.window (after ++ marks more) (before ++ marks (packets_selected s (k + 1) (packets_of (p ∷ ps)))) w.state.window
               (append_assoc before (mark_of q.bytes ∷ []) (marks more) ∙ ap (λ (l : List Captured). before ++ marks l) (sym rest)) f.kept;
           end = rw (is, timed) f.end;
@@ -287,19 +287,19 @@ follows-next s k state before out p ps near kept next = by_selected (is_selected
         let q : Captured = edited_packet_with s p.packet time in
         let n : Noted s.window state before q true = noted s.window state before q true kept same in
         to (skip_judgement n.state') (rw (is, timed) n.is)
-        (at_time time [] (behind (skip_judgement n.state')) is timed (next n.state' (before ++ mark_of q.bytes ∷ []) (out ++ []) n.kept) (rw same refl))
+        (at_time time [] (following (skip_judgement n.state')) is timed (next n.state' (before ++ mark_of q.bytes ∷ []) (out ++ []) n.kept) (rw same refl))
     by_unique time is timed false same =
         let q : Captured = edited_packet_with s p.packet time in
         let n : Noted s.window state before q false = noted s.window state before q false kept same in
         to (passes n.state' q) (rw (is, timed) n.is)
-        (at_time time (q ∷ []) (behind (passes n.state' q)) is timed (next (passes n.state' q).state (before ++ mark_of q.bytes ∷ []) (out ++ q ∷ []) n.kept) (rw same refl))
+        (at_time time (q ∷ []) (following (passes n.state' q)) is timed (next (passes n.state' q).state (before ++ mark_of q.bytes ∷ []) (out ++ q ∷ []) n.kept) (rw same refl))
 
     by_moved : is_selected s (k + 1) p.packet ≡ true → (o : Option ℕ) → shifted_time s.shift p.packet.time ≡ o → Goes s k state before out (p ∷ ps)
     by_moved is None beyond =
         let none : packets_selected s (k + 1) (packets_of (p ∷ ps)) ≡ [] = rw (is, beyond) refl in
         let ended : JobProgress = end_with (under_way k state out) (FaultIn 0 TimeOutOfRange p.offset) in
         let here : To ended = record {
-          passed = sym (append-nil out) ∙ ap (λ (l : List Captured). out ++ unique_behind s.window before l) (sym none);
+          passed = sym (append-nil out) ∙ ap (λ (l : List Captured). out ++ unique_after s.window before l) (sym none);
           kept = kept-as s.window before (before ++ marks (packets_selected s (k + 1) (packets_of (p ∷ ps)))) state.window
               (sym (append-nil before) ∙ ap (λ (l : List Captured). before ++ marks l) (sym none)) kept;
           end = rw (is, beyond) refl;
@@ -316,9 +316,9 @@ follows-next s k state before out p ps near kept next = by_selected (is_selected
         to (skip_judgement state) (rw is refl)
         record {
           passed = f.passed
-              ∙ ap (λ (o : List Captured). o ++ unique_behind s.window before more) (append-nil out)
-              ∙ ap (λ (l : List Captured). out ++ unique_behind s.window before l) (sym rest);
-          kept = kept-as s.window (before ++ marks more) (before ++ marks (packets_selected s (k + 1) (packets_of (p ∷ ps)))) (behind (skip_judgement state)).state.window
+              ∙ ap (λ (o : List Captured). o ++ unique_after s.window before more) (append-nil out)
+              ∙ ap (λ (l : List Captured). out ++ unique_after s.window before l) (sym rest);
+          kept = kept-as s.window (before ++ marks more) (before ++ marks (packets_selected s (k + 1) (packets_of (p ∷ ps)))) (following (skip_judgement state)).state.window
               (ap (λ (l : List Captured). before ++ marks l) (sym rest)) f.kept;
           end = rw is f.end;
         }

@@ -31,7 +31,7 @@ module _ (f : Captured → ℕ) where
   abbrev Parts : TruthTree → List Captured → Type 0
   Parts a ps = sum_by f (packets_kept (by_reading (truth a)) ps) + (sum_by f (packets_kept (by_reading (truth (denied a))) ps) + sum_by f (packets_rejected a ps)) ≡ sum_by f ps
 
-  -- one packet, where those behind it are parted so
+  -- one packet, where those after it are parted so
   parts-next : (a : TruthTree) (p : Captured) (ps : List Captured) → is_some (link_of p.link) ≡ true → Parts a ps → Parts a (p ∷ ps)
   parts-next a p ps read next = by_link (link_of p.link) refl ∙ sym (first p ps)
     where

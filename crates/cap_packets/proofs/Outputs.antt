@@ -29,7 +29,7 @@ drained-text before names (Lines options bytes failures room) ps rs has = has
 
 -- ---- lines
 
--- a packet adds its line behind those before it
+-- a packet adds its line after those before it
 pub lines-more : (options : Options) (ps : List Captured) (q : Captured) (qs : List Captured)
     → lines_text options ((ps ++ q ∷ []) ++ qs) ≡ lines_text options ps ++ (printed_text options q ++ lines_text options qs)
 lines-more options ps q qs = ap (lines_text options) (append_assoc ps (q ∷ []) qs) ∙ flat_map-append (printed_text options) ps (q ∷ qs)
@@ -152,7 +152,7 @@ reports-append names (r ∷ rs) qs =
     ap (λ (l : List ℕ). report_text names r ++ l) (reports-append names rs qs)
     ∙ sym (append_assoc (report_text names r) (reports_text names rs) (reports_text names qs))
 
--- a report adds its text behind those before it
+-- a report adds its text after those before it
 pub reports-more : (names : List (List ℕ)) (rs : List Report) (r : Report) (qs : List Report)
     → reports_text names ((rs ++ r ∷ []) ++ qs) ≡ reports_text names rs ++ (report_text names r ++ reports_text names qs)
 reports-more names rs r qs =

@@ -15,12 +15,12 @@ use Rattle.cap_io.specs.RoundTrip.{Carries, ItemsBack}
 use Rattle.cap_io.specs.Text.{text}
 use Rattle.cap_print.specs.declared.print.Options.{Options}
 use Rattle.cap_filter.specs.FilterRules.{Rule}
-use Rattle.cap_io.specs.Sequence.{Event, Packet, InputEnd, SequenceEnd, Complete, FaultIn, Sequence, PacketOrder, InTurn, ByTime, InputItems, whole_input, Entry, packet_events, input_sequence, sequence_in_turn, sequence_of, end_of, end_behind, end_at, entries_of, input_entries, comes_before, insert_entry, sort_entries, end_or_more, sequence_of_entries, sequence_by_time, first_end, unless_fault, with_front}
+use Rattle.cap_io.specs.Sequence.{Event, Packet, InputEnd, SequenceEnd, Complete, FaultIn, Sequence, PacketOrder, InTurn, ByTime, InputItems, whole_input, Entry, packet_events, input_sequence, sequence_in_turn, sequence_of, end_of, end_after, end_at, entries_of, input_entries, comes_before, insert_entry, sort_entries, end_or_more, sequence_of_entries, sequence_by_time, first_end, unless_fault, with_front}
 use Rattle.cap_packets.specs.Verdict.{Policy, Edit, Filter, KeepAll, Count, Judgement, SelectorState, initial_state, Verdict, Pass, PassLast, Skip, Refuse, edited_packet_with, judge, judge_by, passes, refuses}
 use Rattle.cap_packets.specs.Reports.{Report, Tally, nothing_counted, tally_with, reports_text}
 use Rattle.cap_packets.specs.Outcome.{Form, AsCapture, AsReports, AsLines, JobProgress, Work, no_progress, form_refuses, decide_unless, decide, end_with, apply_verdict, apply_event, apply_events, next_progress, end_input, unless_ended, end_unless_ended, final_progress, output_text, text_at_end, first_link, lines_text, status, outcome_at, outcome}
 use Rattle.cap_packets.specs.Selector.{is_count}
-use Rattle.cap_packets.specs.Edits.{coming, packets_selected, unique_behind}
+use Rattle.cap_packets.specs.Edits.{coming, packets_selected, unique_after}
 use Rattle.cap_packets.specs.Lists.{at_most, packets_kept, packets_of, tally_of}
 use Rattle.cap_window.specs.declared.mark.Mark.{Mark}
 use Rattle.cap_window.specs.Marks.{mark_of}
@@ -38,7 +38,7 @@ judged_by (PassLast p) rest = p ∷ []
 judged_by Skip rest = rest
 judged_by (Refuse fault) rest = []
 
--- the packets that pass, of these behind so many that were decided
+-- the packets that pass, of these after that many that were decided
 abbrev judged : Policy → ℕ → SelectorState → List Captured → List Captured
 judged a k state [] = []
 judged a k state (p ∷ ps) = judged_by (judge a state (k + 1) p).verdict (judged a (k + 1) (judge a state (k + 1) p).state ps)
@@ -55,7 +55,7 @@ end-stays Count w input kind size judges = (cc)
 abbrev Writes : Policy → Form → ℕ → SelectorState → List Captured → List Report → List Event → Type 0
 Writes a f k state out reports es = (apply_events a f (under_way k state out reports) es).packets ≡ out ++ packets_written f out (judged a k state (event_packets es))
 
--- one packet, where those behind it are written so
+-- one packet, where those after it are written so
 packet-next : (a : Policy) (f : Form) (k : ℕ) (state : SelectorState) (out : List Captured) (reports : List Report) (input : ℕ) (p : Placed) (es : List Event)
     → ((state' : SelectorState) (out' : List Captured) → Writes a f (k + 1) state' out' reports es)
     → Writes a f k state out reports (Packet input p ∷ es)
@@ -70,14 +70,14 @@ packet-next a f k state out reports input p es next = by_verdict (judge a state 
     rest : List Captured
     rest = judged a (k + 1) after (event_packets es)
 
-    behind : Verdict → List Captured
-    behind v = (apply_events a f (apply_verdict f w input p v after) es).packets
+    following : Verdict → List Captured
+    following v = (apply_events a f (apply_verdict f w input p v after) es).packets
 
     whole : Verdict → List Captured
     whole v = out ++ packets_written f out (judged_by v rest)
 
-    between : (v : Verdict) → (judge a state (k + 1) p.packet).verdict ≡ v → behind v ≡ whole v → Writes a f k state out reports (Packet input p ∷ es)
-    between v is same = ap behind is ∙ same ∙ sym (ap whole is)
+    between : (v : Verdict) → (judge a state (k + 1) p.packet).verdict ≡ v → following v ≡ whole v → Writes a f k state out reports (Packet input p ∷ es)
+    between v is same = ap following is ∙ same ∙ sym (ap whole is)
 
     ended : (e : JobProgress) (c : SequenceEnd) → e.end ≡ Some c → (apply_events a f e es).packets ≡ e.packets
     ended e c is = ap (λ (u : JobProgress). u.packets) (progress-ended a f e es c is)
@@ -205,7 +205,7 @@ in-file a file = ap (judged a 0 initial_state) (one-input (whole_input file) (it
 
 pub edit_writes : EditWrites
 edit_writes s format names file less =
-    command-writes (edit_work s format) names (whole_input file ∷ []) (unique_behind s.window [] (packets_selected s 1 (file_packets file))) refl (capture-of-packets format)
+    command-writes (edit_work s format) names (whole_input file ∷ []) (unique_after s.window [] (packets_selected s 1 (file_packets file))) refl (capture-of-packets format)
     (in-file (Edit s) file ∙ judged-is (Edit s) (file_packets file) refl ∙ passes_unique s (file_packets file) less)
 
 printed : (rule : Rule) (count : Option ℕ) (file : List ℕ) → IfSome count (λ (n : ℕ). 0 < n) → length (file_packets file) < 2 ^ 63
@@ -295,18 +295,18 @@ same-reports : (o : Option SequenceEnd) (w : JobProgress) (c : SequenceEnd) → 
 same-reports None w c = refl
 same-reports (Some d) w c = refl
 
-nothing-behind-reports : (names : List (List ℕ)) (link : Option ℕ) (ps : List Captured) (o : Option SequenceEnd) → text_at_end o (AsReports names) link ps ≡ []
-nothing-behind-reports names link [] None = refl
-nothing-behind-reports names link [] (Some Complete) = refl
-nothing-behind-reports names link [] (Some (FaultIn input fault offset)) = refl
-nothing-behind-reports names link (p ∷ ps) None = refl
-nothing-behind-reports names link (p ∷ ps) (Some Complete) = refl
-nothing-behind-reports names link (p ∷ ps) (Some (FaultIn input fault offset)) = refl
+nothing-following-reports : (names : List (List ℕ)) (link : Option ℕ) (ps : List Captured) (o : Option SequenceEnd) → text_at_end o (AsReports names) link ps ≡ []
+nothing-following-reports names link [] None = refl
+nothing-following-reports names link [] (Some Complete) = refl
+nothing-following-reports names link [] (Some (FaultIn input fault offset)) = refl
+nothing-following-reports names link (p ∷ ps) None = refl
+nothing-following-reports names link (p ∷ ps) (Some Complete) = refl
+nothing-following-reports names link (p ∷ ps) (Some (FaultIn input fault offset)) = refl
 
 pub infos_reports : InfosReports
 infos_reports names rs =
     ap (λ (l : List ℕ). l ++ text_at_end final.end (AsReports names) (first_link rs) final.packets) (ap (reports_text names) (same-reports w.end w s.end ∙ reported names 0 rs 0 initial_state [] refl))
-    ∙ ap (λ (l : List ℕ). reports_text names (reports_of 0 rs) ++ l) (nothing-behind-reports names (first_link rs) final.packets final.end)
+    ∙ ap (λ (l : List ℕ). reports_text names (reports_of 0 rs) ++ l) (nothing-following-reports names (first_link rs) final.packets final.end)
     ∙ append-nil (reports_text names (reports_of 0 rs))
   where
     s : Sequence
@@ -349,7 +349,7 @@ and-false true = refl
 and-false false = refl
 
 abbrev entry : ℕ → Ending → ℕ → Placed → List Placed → Entry
-entry input ending greatest p ps = record { key = max greatest p.packet.time; input = input; p = p; last = end_behind input ending ps }
+entry input ending greatest p ps = record { key = max greatest p.packet.time; input = input; p = p; last = end_after input ending ps }
 
 not-before : (input : ℕ) (ending : Ending) (greatest : ℕ) (p q : Placed) (ps : List Placed) → comes_before (entry input ending (max greatest p.packet.time) q ps) (entry input ending greatest p (q ∷ ps)) ≡ false
 not-before input ending greatest p q ps =
@@ -386,7 +386,7 @@ unless-end End = refl
 unless-end (FaultAt fault offset) = refl
 
 one-by-time : (greatest : ℕ) (ending : Ending) (ps : List Placed)
-    → unless_fault (end_behind 0 ending ps) (sequence_of_entries (sort_entries (entries_of 0 ending greatest ps))) ≡ record { events = packet_events 0 ps; end = end_of 0 ending }
+    → unless_fault (end_after 0 ending ps) (sequence_of_entries (sort_entries (entries_of 0 ending greatest ps))) ≡ record { events = packet_events 0 ps; end = end_of 0 ending }
 one-by-time greatest ending [] = unless-end ending
 one-by-time greatest ending (p ∷ ps) = ap sequence_of_entries (sorted 0 ending greatest (p ∷ ps)) ∙ of-entries 0 ending greatest p ps
 
@@ -431,7 +431,7 @@ all-selected : (number : ℕ) (ps : List Captured) → packets_selected no_optio
 all-selected number [] = refl
 all-selected number (p ∷ ps) = ap (λ (q : Captured). q ∷ packets_selected no_options (number + 1) ps) (same-packet p) ∙ ap (λ (l : List Captured). p ∷ l) (all-selected (number + 1) ps)
 
-all-unique : (before : List Mark) (ps : List Captured) → unique_behind None before ps ≡ ps
+all-unique : (before : List Mark) (ps : List Captured) → unique_after None before ps ≡ ps
 all-unique before [] = refl
 all-unique before (p ∷ ps) = ap (λ (l : List Captured). p ∷ l) (all-unique (before ++ mark_of p.bytes ∷ []) ps)
 
@@ -450,7 +450,7 @@ copy-is : (format : Format) (names : List (List ℕ)) (file : List ℕ) (p : Cap
 copy-is format names file p ps h =
     let code = (outcome (edit_work no_options format) names (whole_input file ∷ [])).status in
     let link = first_link (whole_input file ∷ []) in
-    let kept : unique_behind None [] (packets_selected no_options 1 (file_packets file)) ≡ p ∷ ps = ap (λ (l : List Captured). unique_behind None [] (packets_selected no_options 1 l)) h.packets ∙ ap (unique_behind None []) (all-selected 1 (p ∷ ps)) ∙ all-unique [] (p ∷ ps) in
+    let kept : unique_after None [] (packets_selected no_options 1 (file_packets file)) ≡ p ∷ ps = ap (λ (l : List Captured). unique_after None [] (packets_selected no_options 1 l)) h.packets ∙ ap (unique_after None []) (all-selected 1 (p ∷ ps)) ∙ all-unique [] (p ∷ ps) in
     edit_writes no_options format names file (subst (λ (l : List Captured). length l < 2 ^ 63) (sym h.packets) h.few)
     ∙ ap (λ (l : List Captured). written_text (AsCapture format) code link (packets_written (AsCapture format) [] l)) kept
     ∙ ap (written_text (AsCapture format) code link) (all-carried format [] (p ∷ ps) (p ∷ ps) refl h.carried)

@@ -1,4 +1,4 @@
--- What an edit makes of packets that come one behind another: what is unique of what is selected.
+-- What an edit makes of packets that come one after another: what is unique of what is selected.
 use Rattle.std.specs.Prelude.{◌≡◌, ℕ, ◌+◌, ◌-◌, ◌^◌, ◌<◌, Bool, false, if◌then◌else◌, List, [], ◌∷◌, ◌++◌, length, Option, None, Some}
 use Rattle.cap_octet.specs.Packet.{Captured}
 use Rattle.cap_window.specs.declared.mark.Mark.{Mark}
@@ -25,14 +25,14 @@ is_repeated None before m = false
 is_repeated (Some n) before m = has_same (last (n - 1) before) m
 
 -- the packets that have no equal among the n - 1 just before them, where these marks came before
-abbrev pub unique_behind : Option ℕ → List Mark → List Captured → List Captured
-unique_behind n before [] = []
-unique_behind n before (p ∷ ps) =
-    if is_repeated n before (mark_of p.bytes) then unique_behind n
+abbrev pub unique_after : Option ℕ → List Mark → List Captured → List Captured
+unique_after n before [] = []
+unique_after n before (p ∷ ps) =
+    if is_repeated n before (mark_of p.bytes) then unique_after n
     (before ++ mark_of p.bytes ∷ []) ps else p
-    ∷ unique_behind n (before ++ mark_of p.bytes ∷ []) ps
+    ∷ unique_after n (before ++ mark_of p.bytes ∷ []) ps
 
--- packets that come one behind another
+-- packets that come one after another
 abbrev pub coming : List Captured → List Event
 coming [] = []
 coming (p ∷ ps) = Packet 0 (record { offset = 0; packet = p }) ∷ coming ps
@@ -43,4 +43,4 @@ abbrev pub PassesUnique : Type 0
 PassesUnique =
     (s : EditRule) (ps : List Captured) → length ps < 2 ^ 63
     → (apply_events (Edit s) (AsReports []) no_progress (coming ps)).packets
-    ≡ unique_behind s.window [] (packets_selected s 1 ps)
+    ≡ unique_after s.window [] (packets_selected s 1 ps)

@@ -1,4 +1,4 @@
--- What is counted, kept and searched of packets that come one behind another, as lists.
+-- What is counted, kept and searched of packets that come one after another, as lists.
 use Rattle.std.specs.Prelude.{◌≡◌, ℕ, ◌+◌, ◌-◌, ◌^◌, ◌<◌, ◌&&◌, Bool, true, if◌then◌else◌, nat_le, min, max, List, [], ◌∷◌, length, map, take, Option, None, Some, IfSome}
 use Rattle.std.specs.List.{sum_by}
 use Rattle.std.specs.Option.{is_none}
@@ -13,7 +13,7 @@ use Rattle.cap_io.specs.Sequence.{Event, Packet, SequenceEnd, FaultIn}
 use Rattle.cap_packets.specs.Verdict.{Count, Filter, Edit, EditRule, is_selected, shifted_time}
 use Rattle.cap_packets.specs.Reports.{Tally}
 use Rattle.cap_packets.specs.Outcome.{AsReports, no_progress, apply_events}
-use Rattle.cap_packets.specs.Edits.{coming, packets_selected, unique_behind}
+use Rattle.cap_packets.specs.Edits.{coming, packets_selected, unique_after}
 
 -- ---- what is counted
 
@@ -75,12 +75,12 @@ abbrev pub packets_kept : Rule → List Captured → List Captured
 packets_kept rule [] = []
 packets_kept rule (p ∷ ps) = kept_by (rule_decides rule p) p (packets_kept rule ps)
 
--- the first so many, or all
+-- the first n, or all
 abbrev pub at_most : Option ℕ → List Captured → List Captured
 at_most None ps = ps
 at_most (Some n) ps = take n ps
 
--- of fewer than 2^63 packets those pass that the rule keeps, the first so many where a count is
+-- of fewer than 2^63 packets those pass that the rule keeps, the first of them where a count is
 -- given
 abbrev pub PassesFiltered : Type 0
 PassesFiltered =
@@ -95,7 +95,7 @@ PassesFiltered =
 abbrev pub marks : List Captured → List Mark
 marks ps = map (λ (p : Captured). mark_of p.bytes) ps
 
--- behind fewer than 2^63 packets the window has the marks of the last n - 1 that were selected
+-- after fewer than 2^63 packets the window has the marks of the last n - 1 that were selected
 abbrev pub HasLastMarks : Type 0
 HasLastMarks = (s : EditRule) (n : ℕ) (ps : List Captured) → s.window ≡ Some n → length ps < 2 ^ 63
     → (apply_events (Edit s) (AsReports []) no_progress (coming ps)).state.window
@@ -103,7 +103,7 @@ HasLastMarks = (s : EditRule) (n : ℕ) (ps : List Captured) → s.window ≡ So
 
 -- ---- how an edit ends
 
--- packets with places of their own come one behind another
+-- packets with places of their own come one after another
 abbrev pub arriving : List Placed → List Event
 arriving [] = []
 arriving (p ∷ ps) = Packet 0 p ∷ arriving ps
@@ -135,4 +135,4 @@ EndsWithoutTime = (s : EditRule) (ps : List Placed) → length ps < 2 ^ 63
     → ((apply_events (Edit s) (AsReports []) no_progress (arriving ps)).end
     ≡ end_at_time (first_without_time s 1 ps))
     × ((apply_events (Edit s) (AsReports []) no_progress (arriving ps)).packets
-    ≡ unique_behind s.window [] (packets_selected s 1 (packets_of ps)))
+    ≡ unique_after s.window [] (packets_selected s 1 (packets_of ps)))

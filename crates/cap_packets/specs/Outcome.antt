@@ -26,13 +26,13 @@ pub data Form : Type 0 where
   -- a line for each packet, and its bytes where they are asked for
   AsLines : (options : Options) → Form
 
--- why a packet that comes behind these isn't written
+-- why a packet that comes after these isn't written
 abbrev pub form_refuses : Form → List Captured → Captured → Option Fault
 form_refuses (AsCapture format) ps p = refusal_of format ps p
 form_refuses (AsReports names) ps p = None
 form_refuses (AsLines options) ps p = None
 
--- whether memory is taken to write a packet that comes behind these: that of an interface which a
+-- whether memory is taken to write a packet that comes after these: that of an interface which a
 -- pcapng file hasn't had yet
 abbrev pub form_takes_memory : Form → List Captured → Captured → Bool
 form_takes_memory (AsCapture format) ps p = takes_memory format ps p
@@ -112,11 +112,11 @@ abbrev pub unless_ended : Option SequenceEnd → JobProgress → JobProgress →
 unless_ended None w next = next
 unless_ended (Some close) w next = w
 
--- how far a job is behind an event
+-- how far a job is after an event
 abbrev pub next_progress : Policy → Form → JobProgress → Event → JobProgress
 next_progress policy form w e = unless_ended w.end w (apply_event policy form w e)
 
--- and behind events
+-- and after events
 abbrev pub apply_events : Policy → Form → JobProgress → List Event → JobProgress
 apply_events policy form w [] = w
 apply_events policy form w (e ∷ es) = apply_events policy form (next_progress policy form w e) es
@@ -131,7 +131,7 @@ final_progress policy form s =
 
 -- ---- what comes of it
 
--- what is printed of packets, one behind another
+-- what is printed of packets, one after another
 abbrev pub lines_text : Options → List Captured → List ℕ
 lines_text options ps = flat_map (printed_text options) ps
 
@@ -141,7 +141,7 @@ output_text (AsCapture format) ps rs = text format ps
 output_text (AsReports names) ps rs = reports_text names rs
 output_text (AsLines options) ps rs = lines_text options ps
 
--- what a packet that passes adds behind those before it
+-- what a packet that passes adds after those before it
 abbrev pub packet_bytes : Form → List Captured → Captured → List ℕ
 packet_bytes (AsCapture format) ps p = added_text format ps p
 packet_bytes (AsReports names) ps p = []
@@ -220,15 +220,15 @@ pub record ComeFirst (order : Sequence) (es : List Event) : Type 0 where
   pub later : Sequence
   pub is : order ≡ with_front es later
 
--- how far a job with this work is behind these events, and what is written then
-abbrev pub progress_behind : Work → List Event → JobProgress
-progress_behind work es = apply_events work.policy work.form no_progress es
+-- how far a job with this work is after these events, and what is written then
+abbrev pub job_progress_after : Work → List Event → JobProgress
+job_progress_after work es = apply_events work.policy work.form no_progress es
 
 abbrev pub text_of_progress : Form → JobProgress → List ℕ
 text_of_progress form w = output_text form w.packets w.reports
 
-abbrev pub text_behind : Work → List Event → List ℕ
-text_behind work es = text_of_progress work.form (progress_behind work es)
+abbrev pub text_after : Work → List Event → List ℕ
+text_after work es = text_of_progress work.form (job_progress_after work es)
 
 -- These events come first in the job's order over inputs with these items, and it didn't end with
 -- them; this one is next.
@@ -236,10 +236,10 @@ pub record IsNextEvent (work : Work) (rs : List InputItems) (es : List Event)
     (e : Event) : Type 0 where
   pub later : List Event
   pub is : (sequence_of work.order rs).events ≡ es ++ e ∷ later
-  pub goes : (progress_behind work es).end ≡ None
+  pub goes : (job_progress_after work es).end ≡ None
 
 -- These events are all of the job's order over inputs with these items, and it didn't end with
 -- them, but with its inputs.
 pub record AreAllEvents (work : Work) (rs : List InputItems) (es : List Event) : Type 0 where
   pub is : sequence_of work.order rs ≡ record { events = es; end = Complete }
-  pub goes : (progress_behind work es).end ≡ None
+  pub goes : (job_progress_after work es).end ≡ None

@@ -75,7 +75,7 @@ HasFewOutputInterfaces (Lines options written failures room) = Unit {0}
 
 -- ---- what was written
 
--- Behind what the output held before, what is written is the text of these packets, or of these
+-- After what the output held before, what is written is the text of these packets, or of these
 -- reports, or the lines of these packets.
 abbrev pub HasWrittenTo : List ℕ → List (List ℕ) → Target → List Captured → List Report → Type 0
 HasWrittenTo before names (Capture sink) packets reports = HasPackets before sink packets

@@ -76,10 +76,10 @@ abbrev pub yes_or_no : Bool → List ℕ
 yes_or_no true = codes "yes"
 yes_or_no false = codes "no"
 
--- `LABEL: VALUE` on a line each, and what comes behind them
+-- `LABEL: VALUE` on a line each, and what comes after them
 abbrev pub lines : List (List ℕ × List ℕ) → List ℕ → List ℕ
-lines [] behind = behind
-lines ((label, value) ∷ more) behind = label ++ (58 ∷ 32 ∷ (value ++ 10 ∷ lines more behind))
+lines [] following = following
+lines ((label, value) ∷ more) following = label ++ (58 ∷ 32 ∷ (value ++ 10 ∷ lines more following))
 
 -- on a file's format, its size and the sizes of its packets
 abbrev pub size_lines : Option Kind → ℕ → Tally → List (List ℕ × List ℕ)
@@ -100,7 +100,7 @@ time_lines t =
     ∷ (codes "Strict order", yes_or_no t.strict)
     ∷ []
 
--- the report of a file of this name, and an empty line behind it
+-- the report of a file of this name, and an empty line after it
 unfoldable pub file_report : List ℕ → Option Kind → ℕ → Tally → List ℕ
 file_report name kind size t =
     lines ((codes "File", name) ∷ (size_lines kind size t ++ time_lines t)) (10 ∷ [])
@@ -111,6 +111,6 @@ name_at names i = unwrap_or (slice_get names i) []
 abbrev pub report_text : List (List ℕ) → Report → List ℕ
 report_text names r = file_report (name_at names r.input) r.kind r.size r.tally
 
--- reports, one behind another, by the names of the inputs
+-- reports, one after another, by the names of the inputs
 abbrev pub reports_text : List (List ℕ) → List Report → List ℕ
 reports_text names rs = flat_map (report_text names) rs

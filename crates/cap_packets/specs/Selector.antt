@@ -128,7 +128,7 @@ abbrev pub IsVerdict : Judgement → Result code.Verdict Fault → Captured → 
 IsVerdict j (Ok v) p state = (verdict_of v p ≡ j.verdict) × (state ≡ j.state)
 IsVerdict j (Err fault) p state = j.verdict ≡ Refuse fault
 
--- What is returned of a packet where so many may pass: whether it passes, the packet as it does,
+-- What is returned of a packet where `count` may pass: whether it passes, the packet as it does,
 -- and the state beside those that passed; or its refusal.
 abbrev pub ReturnsVerdict : Option ℕ → Judgement → Result Bool Fault → Captured → SelectorState
     → Type 0
@@ -171,7 +171,7 @@ HasFewMarks policy state = length state.window ≤ places (window_of policy)
 abbrev pub IsWithin : ℕ → Tally → Type 0
 IsWithin n t = (t.count ≤ n) × (t.data_size ≤ n * 2 ^ 32) × (t.captured_size ≤ n * most_in_unit)
 
--- no more came to it than a packet has
+-- no more was added than a packet has
 abbrev pub GrowsByOne : Tally → Tally → Type 0
 GrowsByOne old new =
     (new.count ≤ old.count + 1) × (new.data_size ≤ old.data_size + 2 ^ 32)

@@ -42,7 +42,7 @@ pub data Policy : Type 0 where
 -- ---- what was met
 
 -- how many packets passed, the marks of those that came last to the search for duplicates, the last
--- of all behind, and the tally of the current input
+-- of all after, and the tally of the current input
 pub record SelectorState : Type 0 where
   pub passed : ℕ
   pub window : List Mark
@@ -55,7 +55,7 @@ initial_state = record { passed = 0; window = []; tally = nothing_counted }
 
 pub data Verdict : Type 0 where
   Pass : (p : Captured) → Verdict
-  -- it passes, and nothing behind it is read
+  -- it passes, and nothing after it is read
   PassLast : (p : Captured) → Verdict
   Skip : Verdict
   Refuse : (fault : Fault) → Verdict
@@ -101,7 +101,7 @@ without_last n bytes = take (length bytes - n) bytes
 abbrev pub bytes_after_chop : EditRule → List ℕ → List ℕ
 bytes_after_chop s bytes = without_last s.chop_end (without_first s.chop_start bytes)
 
--- at most so many bytes
+-- at most a given number of bytes
 abbrev pub bytes_within_snap : Option ℕ → List ℕ → List ℕ
 bytes_within_snap None bytes = bytes
 bytes_within_snap (Some snap) bytes = take snap bytes
@@ -152,7 +152,7 @@ abbrev pub is_last : Option ℕ → ℕ → Bool
 is_last None passed = false
 is_last (Some count) passed = passed == count
 
--- the packet passes, and is the last where so many passed
+-- the packet passes, and is the last where `count` passed
 abbrev pub counts : Option ℕ → SelectorState → Captured → Judgement
 counts count s p = record {
   verdict = if is_last count (s.passed + 1) then PassLast p else Pass p;

@@ -20,7 +20,7 @@ use Rattle.cap_octet.specs.Link.{link_of}
 use Rattle.cap_packets.specs.Verdict.{Edit, EditRule, Filter, KeepAll, Count}
 use Rattle.cap_packets.specs.Reports.{Report, reports_text}
 use Rattle.cap_packets.specs.Outcome.{Form, AsCapture, AsReports, AsLines, Work, form_refuses, output_text, closing_text, first_link, lines_text, outcome}
-use Rattle.cap_packets.specs.Edits.{packets_selected, unique_behind}
+use Rattle.cap_packets.specs.Edits.{packets_selected, unique_after}
 use Rattle.cap_packets.specs.Lists.{at_most, packets_kept, packets_of, tally_of}
 
 -- ---- what is written of packets that pass
@@ -65,7 +65,7 @@ EditWrites =
     (outcome (edit_work s format) names (whole_input file ∷ [])).status
     (first_link (whole_input file ∷ []))
     (packets_written (AsCapture format) []
-    (unique_behind s.window [] (packets_selected s 1 (file_packets file))))
+    (unique_after s.window [] (packets_selected s 1 (file_packets file))))
 
 -- ---- print
 
@@ -73,7 +73,7 @@ abbrev pub print_work : Rule → Option ℕ → Form → Work
 print_work rule count form = record { order = InTurn; policy = Filter rule count; form = form }
 
 -- A print of a file with fewer than 2^63 packets as a capture writes those that the rule keeps, the
--- first so many where a count is given.
+-- first of them where a count is given.
 abbrev pub PrintWrites : Type 0
 PrintWrites =
     (rule : Rule) (count : Option ℕ) (format : Format) (names : List (List ℕ)) (file : List ℕ)
@@ -121,7 +121,7 @@ MergeWrites =
 abbrev pub infos_work : List (List ℕ) → Work
 infos_work names = record { order = InTurn; policy = Count; form = AsReports names }
 
--- the report of an input, and those behind it, unless it ends by a fault
+-- the report of an input, and those after it, unless it ends by a fault
 abbrev pub reports_by : Ending → Report → List Report → List Report
 reports_by End r rest = r ∷ rest
 reports_by (FaultAt fault offset) r rest = []

@@ -56,7 +56,7 @@ fn without_last(count: u32, bytes: &[u8]) -> &[u8]
     &bytes[..count]
 }
 
-/// At most so many bytes.
+/// At most `snap` bytes.
 fn snapped(snap: Option<u32>, bytes: &[u8]) -> &[u8]
     ensures { result.now ≡ bytes_within_snap snap bytes.now }
 {

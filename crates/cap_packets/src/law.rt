@@ -12,7 +12,7 @@ pub fn report_counts_all()
 {}
 
 /// A filter passes the packets that its rule keeps, up to the first that it refuses; with a count,
-/// the first so many of them.
+/// the first `count` of them.
 pub fn print_passes_filtered()
     ensures { PassesFiltered }
 {}
@@ -34,13 +34,13 @@ pub fn edit_writes_unique()
     ensures { EditWrites }
 {}
 
-/// A print that writes a capture writes the packets that match, or the first so many of them, up to
+/// A print that writes a capture writes the packets that match, or the first `count` of them, up to
 /// the first that its format refuses.
 pub fn print_writes_matching()
     ensures { PrintWrites }
 {}
 
-/// A print of lines writes those of the packets that match, or of the first so many.
+/// A print of lines writes those of the packets that match, or of the first `count`.
 pub fn print_has_their_lines()
     ensures { PrintLines }
 {}

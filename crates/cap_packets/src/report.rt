@@ -100,7 +100,7 @@ fn yes_or_no(yes: bool) -> &'static [u8]
     if yes { b"yes" } else { b"no" }
 }
 
-/// Writes the lines on the times of packets, and the empty line behind them.
+/// Writes the lines on the times of packets, and the empty line after them.
 fn write_times<O: Output>(output: &mut O, tally: Tally) -> Result<(), DeviceFault>
     ensures exact { IsTrue O.tells → AppendsOrStops result (O.written output.old)
         (lines (time_lines tally) (10 ∷ [])) (O.written output.new) }

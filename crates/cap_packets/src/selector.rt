@@ -29,7 +29,7 @@ const MOST_PACKETS: u128 = 0x8000_0000_0000_0000;
 #[derive(Clone, Copy)]
 pub enum Verdict {
     Pass,
-    /// It passes, and nothing behind it is read.
+    /// It passes, and nothing after it is read.
     PassLast,
     Skip,
 }
@@ -84,7 +84,7 @@ fn is_last(count: Option<u64>, passed: u64) -> bool
     }
 }
 
-/// How many marks a window has for so many packets in a row, the last among them.
+/// How many marks a window has for `packets` packets in a row, the last among them.
 fn window_for<A: Allocator>(alloc: A, packets: u32) -> Result<Window<A>, AllocError>
 where
     A: Copy,
@@ -190,7 +190,7 @@ impl<A: Allocator> Selector<A> {
         })
     }
 
-    /// A selector that has met nothing, by a filter, up to so many packets that pass where there is
+    /// A selector that has met nothing, by a filter, up to `count` packets that pass where there is
     /// a number. It takes no memory.
     pub fn filtering(filter: Filter<A>, count: Option<u64>) -> Self
         ensures { result ≡ record {

@@ -9,7 +9,7 @@ use Rattle.cap_octet.proofs.Checks.{all_met}
 use Rattle.cap_octet.proofs.Numbers.{number_in-append}
 use Rattle.cap_pcap.specs.Header.{form_in, form_of, header_checks, header_fault, header_in}
 
--- ---- more bytes behind
+-- ---- more bytes after
 
 pub form_in-append : (front more : List ℕ) → 4 ≤ length front → form_in (front ++ more) ≡ form_in front
 form_in-append front more enough =

@@ -10,7 +10,7 @@ use Rattle.cap_octet.proofs.Numbers.{number_in-append}
 use Rattle.cap_pcap.specs.declared.header.Head.{Head}
 use Rattle.cap_pcap.specs.Record.{captured_len, record_size, field_checks, record_checks, record_fault, record_header_in, IsRecord}
 
--- ---- more bytes behind
+-- ---- more bytes after
 
 pub captured_len-append : (head : Head) (front more : List ℕ) → 16 ≤ length front → captured_len head (front ++ more) ≡ captured_len head front
 captured_len-append head front more enough = number_in-append head.order 4 front more 8 (omega arith)
@@ -33,23 +33,23 @@ record_header_in-append head front more enough =
 missing : Head → List ℕ → List (Bool × Fault)
 missing head text = (nat_le (record_size head text) (length text), Truncated) ∷ []
 
-behind_first : (head : Head) (text : List ℕ) → 16 ≤ length text → record_fault head text ≡ first_failing (field_checks head text ++ missing head text)
+past_first : (head : Head) (text : List ℕ) → 16 ≤ length text → record_fault head text ≡ first_failing (field_checks head text ++ missing head text)
 unfolding missing
-behind_first head text enough = rw (le-leb 16 (length text) enough) refl
+past_first head text enough = rw (le-leb 16 (length text) enough) refl
 
 pub record_fault-fields : (head : Head) (text : List ℕ) (fault : Fault) → 16 ≤ length text → first_failing (field_checks head text) ≡ Some fault → record_fault head text ≡ Some fault
 record_fault-fields head text fault enough fails =
-    behind_first head text enough ∙ failing_front (field_checks head text) (missing head text) fault fails
+    past_first head text enough ∙ failing_front (field_checks head text) (missing head text) fault fails
 
 pub record_fault-short : (head : Head) (text : List ℕ) → 16 ≤ length text → first_failing (field_checks head text) ≡ None → length text < record_size head text → record_fault head text ≡ Some Truncated
 unfolding missing
 record_fault-short head text enough none short =
-    behind_first head text enough ∙ met_front (field_checks head text) (missing head text) none ∙ rw (lt-leb (record_size head text) (length text) short) refl
+    past_first head text enough ∙ met_front (field_checks head text) (missing head text) none ∙ rw (lt-leb (record_size head text) (length text) short) refl
 
 pub record_fault-whole : (head : Head) (text : List ℕ) → 16 ≤ length text → first_failing (field_checks head text) ≡ None → record_size head text ≤ length text → record_fault head text ≡ None
 unfolding missing
 record_fault-whole head text enough none whole =
-    behind_first head text enough ∙ met_front (field_checks head text) (missing head text) none ∙ rw (le-leb (record_size head text) (length text) whole) refl
+    past_first head text enough ∙ met_front (field_checks head text) (missing head text) none ∙ rw (le-leb (record_size head text) (length text) whole) refl
 
 -- ---- what the checks say of a text
 

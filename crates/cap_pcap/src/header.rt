@@ -24,7 +24,7 @@ pub enum Resolution {
     Nanoseconds,
 }
 
-/// What a file header says of all packets behind it.
+/// What a file header says of all packets after it.
 #[derive(Clone, Copy)]
 pub struct Head {
     /// The byte order of all numbers in the file.
@@ -78,7 +78,7 @@ impl Resolution {
         }
     }
 
-    /// How many whole parts so many nanoseconds are. Each divisor is a constant, which costs no
+    /// How many whole parts some nanoseconds are. Each divisor is a constant, which costs no
     /// division.
     pub(crate) fn whole_parts(self, nanoseconds: u64) -> u64
         ensures { result ≡ nanoseconds / nanoseconds_of_part self }

@@ -44,10 +44,10 @@ pub found_by : {X E : Type 0} (exact : Option X) (e : E) (x : X) → ok_or exact
 found_by None e x is = (cc)
 found_by (Some t) e x is = (cc)
 
--- options lie behind the padded data
-options_behind : (padding optional : ℕ) (rest options : List ℕ) → padding ≤ length rest → options ≡ drop padding rest → optional ≡ length options
+-- options lie after the padded data
+options_after : (padding optional : ℕ) (rest options : List ℕ) → padding ≤ length rest → options ≡ drop padding rest → optional ≡ length options
     → take optional (drop (28 + length rest - optional - 28) rest) ≡ options
-options_behind padding optional rest options there is count =
+options_after padding optional rest options there is count =
     let size : length options ≡ length rest - padding = ap length is ∙ length-drop padding rest in
     let at : 28 + length rest - optional - 28 ≡ padding = omega arith in
     ap (λ n. take optional (drop n rest)) at ∙ ap (take optional) (sym is) ∙ take_all optional options (omega arith)
@@ -69,10 +69,10 @@ pub enhanced_found : (order : Order) (interfaces : List Described) (i : Describe
       time = time;
       orig = orig;
     }))
-enhanced_found order interfaces i number ticks captured orig time size optional rest options known upper_bound exact small behind optional_is =
+enhanced_found order interfaces i number ticks captured orig time size optional rest options known upper_bound exact small following optional_is =
     let room : padded_length captured ≤ length rest = leb-true (padded_length captured) (length rest) (all_met (data_checks captured rest) upper_bound).0 in
-    let lies_there : take optional (drop (28 + length rest - optional - 28) rest) ≡ options = options_behind (padded_length captured) optional rest options room behind optional_is in
-    let left : length options ≡ length rest - padded_length captured = ap length behind ∙ length-drop (padded_length captured) rest in
+    let lies_there : take optional (drop (28 + length rest - optional - 28) rest) ≡ options = options_after (padded_length captured) optional rest options room following optional_is in
+    let left : length options ≡ length rest - padded_length captured = ap length following ∙ length-drop (padded_length captured) rest in
     let fits : captured ≤ length rest = captured_fits captured rest upper_bound in
     let at : representable_time ticks i.units i.offset ≡ Some time = found_by (representable_time ticks i.units i.offset) TimeOutOfRange time (sym exact) in (
       rw (known, at) (met_front (data_checks captured rest) ((is_some (Some time), TimeOutOfRange) ∷ []) upper_bound),
@@ -82,9 +82,9 @@ enhanced_found order interfaces i number ticks captured orig time size optional 
         from = refl;
         packet = packet_of i time orig (take captured rest) (comment_in order (drop (padded_length captured) rest));
         stands = rw (known, at) refl;
-        is_lent = rw (known, lies_there ∙ behind) refl;
+        is_lent = rw (known, lies_there ∙ following) refl;
         there = fits;
-        behind = omega (arith, left, optional_is);
+        following = omega (arith, left, optional_is);
         options = omega (arith, left, optional_is);
         time = small;
       },
@@ -111,7 +111,7 @@ simple_found interfaces i orig size rest known upper_bound = (
     stands = rw known refl;
     is_lent = rw known (ap (λ items. Some (packet_of i 0 orig (take (simple_captured orig i.snap) rest) (unwrap_or (first_value comment_code (fitting_options items)) []))) (options_in-none order));
     there = captured_fits (simple_captured orig i.snap) rest upper_bound;
-    behind = lit≤ tt;
+    following = lit≤ tt;
     options = omega arith;
     time = omega arith;
   },
@@ -119,7 +119,7 @@ simple_found interfaces i orig size rest known upper_bound = (
 
 -- ---- the body in its block
 
--- bytes behind the front of a body, as bytes of the block
+-- bytes after the front of a body, as bytes of the block
 pub lies : (text : List ℕ) (skip most count : ℕ) → count ≤ length (drop skip (take most (drop 8 text))) → skip ≤ most
     → take count (drop (8 + skip) text) ≡ take count (drop skip (take most (drop 8 text)))
 lies text skip most count there enough =
@@ -154,12 +154,12 @@ simple_body type.Other order body rest orig e none = absurd (cc)
 simple_body type.SimplePacket order body rest orig e none =
     ((cc), leb-true 4 (length body) (all_met (body_checks type.SimplePacket order body) none).0)
 
-rows_behind : (b : Bool) (fault : Fault) (rows : List (Bool × Fault)) → first_failing ((b, fault) ∷ rows) ≡ None → first_failing rows ≡ None
-rows_behind true fault rows none = none
-rows_behind false fault rows none = (cc)
+rows_after : (b : Bool) (fault : Fault) (rows : List (Bool × Fault)) → first_failing ((b, fault) ∷ rows) ≡ None → first_failing rows ≡ None
+rows_after true fault rows none = none
+rows_after false fault rows none = (cc)
 
 pub body_passes : (frame : Frame) (block : List ℕ) → first_failing (block_checks frame block) ≡ None → first_failing (body_checks frame.block_type frame.order (body_in frame block)) ≡ None
-body_passes frame block none = rows_behind _ _ (body_checks frame.block_type frame.order (body_in frame block)) none
+body_passes frame block none = rows_after _ _ (body_checks frame.block_type frame.order (body_in frame block)) none
 
 -- bytes of what is left of a body, as bytes of the block
 record LiesIn (frame : Frame) (block rest : List ℕ) (skip at count : ℕ) : Type 0 where
@@ -193,11 +193,11 @@ record HeldLies (frame : Frame) (block rest : List ℕ) (spans : PacketSpans) : 
 held_lies : (frame : Frame) (block rest : List ℕ) (skip : ℕ) (spans : PacketSpans) → length block ≡ frame.length → 12 ≤ frame.length
     → rest ≡ drop skip (body_in frame block) → skip ≤ length (body_in frame block) → spans.bytes.start ≡ 8 + skip → spans.bytes.length ≤ length rest
     → spans.bytes.start ≤ spans.options.start → spans.options.start - spans.bytes.start + spans.options.length ≤ length rest → HeldLies frame block rest spans
-held_lies frame block rest skip spans whole least left there from upper_bound behind room =
+held_lies frame block rest skip spans whole least left there from upper_bound following room =
     let bytes = part_lies frame block rest skip 0 spans.bytes.length whole least left there (omega (arith, upper_bound)) in
     let options = part_lies frame block rest skip (spans.options.start - spans.bytes.start) spans.options.length whole least left there room in
     let data_at : spans.bytes.start ≡ 8 + (skip + 0) = omega (arith, from) in
-    let options_at : spans.options.start ≡ 8 + (skip + (spans.options.start - spans.bytes.start)) = omega (arith, from, behind) in
+    let options_at : spans.options.start ≡ 8 + (skip + (spans.options.start - spans.bytes.start)) = omega (arith, from, following) in
     record {
       bytes = ap (λ n. take spans.bytes.length (drop n block)) data_at ∙ bytes.same;
       bytes_within = omega (arith, data_at, bytes.within);
@@ -213,7 +213,7 @@ packet_enters : (frame : Frame) (interfaces : List Described) (block rest : List
     → section_by (Some (section_of frame.order interfaces)) frame.order parts ≡ section_of frame.order interfaces
     → Enters frame interfaces block (Some spans) interfaces
 packet_enters frame interfaces block rest parts skip spans whole least is passes left there among found stays =
-    let lie = held_lies frame block rest skip spans whole least left there found.from found.there found.behind found.options in
+    let lie = held_lies frame block rest skip spans whole least left there found.from found.there found.following found.options in
     record {
       passes = passes;
       among = ap (λ p. first_failing (checks_among interfaces p)) (sym is) ∙ among;
@@ -227,7 +227,7 @@ packet_enters frame interfaces block rest parts skip spans whole least is passes
       known = found.known;
     }
 
--- what is left of the body behind the fields of an enhanced packet lies in the block
+-- what is left of the body after the fields of an enhanced packet lies in the block
 pub enhanced_room : (frame : Frame) (block : List ℕ) (b : EnhancedBlock) → length block ≡ frame.length → 12 ≤ frame.length
     → parts_of (read.Enhanced b) ≡ parts_in frame block → block_fault frame block ≡ None → 28 + length b.rest.now ≤ frame.length
 enhanced_room frame block b whole least is none =
@@ -275,7 +275,7 @@ unfolding Stays
 block_stays frame block fault fails =
     all_failing Stays (block_checks frame block) fault (λ i. refl, body_stays frame.block_type frame.order (body_in frame block)) fails
 
--- those of its options come behind that of how many interfaces there are
+-- those of its options come after that of how many interfaces there are
 Yields : Fault → Type 0
 Yields fault = (interfaces : List Described) → fault_among interfaces fault ≡ (if nat_lt (length interfaces) most_interfaces then fault else TooManyInterfaces)
 
@@ -283,16 +283,16 @@ option_yields : (parts : Parts) (fault : Fault) → first_failing (option_checks
 unfolding Yields
 option_yields parts fault fails = all_failing Yields (option_checks parts) fault (all_of_options Yields (λ i. refl) (λ i. refl) parts) fails
 
-behind_room : (room : Bool) (rows : List (Bool × Fault)) (fault : Fault) → first_failing rows ≡ Some fault
+after_room : (room : Bool) (rows : List (Bool × Fault)) (fault : Fault) → first_failing rows ≡ Some fault
     → first_failing ((room, TooManyInterfaces) ∷ rows) ≡ Some (if room then fault else TooManyInterfaces)
-behind_room true rows fault fails = fails
-behind_room false rows fault fails = refl
+after_room true rows fault fails = fails
+after_room false rows fault fails = refl
 
 among_options : (interfaces : List Described) (parts : Parts) (fault : Fault) → first_failing (option_checks parts) ≡ Some fault
     → first_failing (checks_among interfaces parts) ≡ Some (if nat_lt (length interfaces) most_interfaces then fault else TooManyInterfaces)
 among_options interfaces SectionParts fault fails = (cc)
 among_options interfaces (InterfaceParts link snap order options) fault fails =
-    behind_room (nat_lt (length interfaces) most_interfaces) (option_checks (InterfaceParts link snap order options)) fault fails
+    after_room (nat_lt (length interfaces) most_interfaces) (option_checks (InterfaceParts link snap order options)) fault fails
 among_options interfaces (EnhancedParts number ticks captured orig own rest) fault fails = (cc)
 among_options interfaces (SimpleParts orig rest) fault fails = (cc)
 among_options interfaces SkippedParts fault fails = (cc)

@@ -7,7 +7,7 @@ use Rattle.cap_octet.specs.declared.fault.Fault.{Fault}
 use Rattle.cap_octet.specs.declared.fault.Fault.TheVariants.{BadOption, BadTimeResolution}
 use Rattle.cap_octet.specs.declared.number.Order.{Order}
 use Rattle.cap_pcapng.specs.Block.{Parts, SectionParts, InterfaceParts, EnhancedParts, SimpleParts, SkippedParts, option_checks}
-use Rattle.cap_pcapng.specs.InterfaceOptions.{checks_behind, first_checks, first_value, list_checks, name_checks, name_code, offset_checks, offset_code, resolution_checks, resolution_code}
+use Rattle.cap_pcapng.specs.InterfaceOptions.{checks_after, first_checks, first_value, list_checks, name_checks, name_code, offset_checks, offset_code, resolution_checks, resolution_code}
 use Rattle.cap_pcapng.specs.OptionList.{CodedValue, ends_at, fits_at, option_at, option_size, options_in, options_within}
 use Rattle.cap_pcapng.specs.Padding.{padded_length}
 
@@ -36,7 +36,7 @@ abbrev IsItemOf : (Fault → Type 0) → Result CodedValue Fault → Type 0
 IsItemOf P (Ok option) = Unit {0}
 IsItemOf P (Err fault) = P fault
 
-all_of_option : (P : Fault → Type 0) → P BadOption → P BadTimeResolution → (before : List CodedValue) (option : CodedValue) → AreAll P (checks_behind before option)
+all_of_option : (P : Fault → Type 0) → P BadOption → P BadTimeResolution → (before : List CodedValue) (option : CodedValue) → AreAll P (checks_after before option)
 all_of_option P bad worse before option =
     let offset : AreAll P (if option.code == offset_code then offset_checks option.value else []) =
     all_cond P (option.code == offset_code) (offset_checks option.value) [] (bad, tt) tt in
@@ -52,7 +52,7 @@ all_of_list : (P : Fault → Type 0) → P BadOption → P BadTimeResolution →
 all_of_list P bad worse before [] all = tt
 all_of_list P bad worse before (Err fault ∷ items) all = (all.0, all_of_list P bad worse before items all.1)
 all_of_list P bad worse before (Ok option ∷ items) all =
-    all_append P (checks_behind before option) (list_checks (before ++ option ∷ []) items) (all_of_option P bad worse before option)
+    all_append P (checks_after before option) (list_checks (before ++ option ∷ []) items) (all_of_option P bad worse before option)
     (all_of_list P bad worse (before ++ option ∷ []) items all.1)
 
 items_cond : (P : Fault → Type 0) (b : Bool) (xs ys : List (Result CodedValue Fault)) → AllByRecursion (IsItemOf P) xs → AllByRecursion (IsItemOf P) ys

@@ -10,7 +10,7 @@ use Rattle.cap_octet.specs.Checks.{first_failing}
 use Rattle.cap_octet.specs.declared.fault.Fault.{Fault}
 use Rattle.cap_octet.specs.declared.number.Order.{Order}
 use Rattle.cap_pcapng.specs.Interface.{Adds, IsFound, is_found}
-use Rattle.cap_pcapng.specs.InterfaceOptions.{checks_behind, first_checks, first_value, fitting_options, list_checks, name_code, offset_code, offset_in_value, resolution_code, units_in_value, value_for}
+use Rattle.cap_pcapng.specs.InterfaceOptions.{checks_after, first_checks, first_value, fitting_options, list_checks, name_code, offset_code, offset_in_value, resolution_code, units_in_value, value_for}
 use Rattle.cap_pcapng.specs.OptionList.{CodedValue}
 use Rattle.cap_pcapng.specs.Time.{microseconds}
 use Rattle.cap_pcapng.specs.declared.interface.Found.{Found}
@@ -71,9 +71,9 @@ by_code false false false true name units offset a b c n u f = refl
 by_code false false false false name units offset a b c n u f = refl
 
 -- an option of which one of its code stands before isn't checked
-pub checks_behind-found : (order : Order) (before : List CodedValue) (o : CodedValue) (found : Found) → IsFound order before found
-    → checks_behind before o ≡ (if is_found found o.code then [] else first_checks o)
-checks_behind-found order before o found is =
+pub checks_after-found : (order : Order) (before : List CodedValue) (o : CodedValue) (found : Found) → IsFound order before found
+    → checks_after before o ≡ (if is_found found o.code then [] else first_checks o)
+checks_after-found order before o found is =
     by_code (o.code == name_code) (o.code == resolution_code) (o.code == offset_code) (is_some (first_value o.code before))
     (is_some found.name) (is_some found.units) (is_some found.offset) _ _ _
     (λ t. ap (λ code. is_some (first_value code before)) (eqb-true o.code name_code t) ∙ sym (sym (is_some-copied found.name) ∙ ap is_some is.name))
@@ -93,7 +93,7 @@ HasRead-more order all left rest o found more read is adds passes = record {
   before = read.before ++ o ∷ [];
   checks =
       read.checks ∙ ap (λ items. first_failing (list_checks read.before items)) is
-      ∙ met_front (checks_behind read.before o) _ (ap first_failing (checks_behind-found order read.before o found read.is_found) ∙ passes);
+      ∙ met_front (checks_after read.before o) _ (ap first_failing (checks_after-found order read.before o found read.is_found) ∙ passes);
   joined = read.joined ∙ ap (λ items. read.before ++ fitting_options items) is ∙ sym (append_assoc read.before (o ∷ []) (fitting_options rest));
   is_found = IsFound-more order read.before o found more read.is_found adds;
 }
@@ -104,7 +104,7 @@ pub HasRead-refused : (order : Order) (all left rest : List (Result CodedValue F
     → first_failing (list_checks [] all) ≡ Some fault
 HasRead-refused order all left rest o found fault read is refused =
     read.checks ∙ ap (λ items. first_failing (list_checks read.before items)) is
-    ∙ failing_front (checks_behind read.before o) _ fault (ap first_failing (checks_behind-found order read.before o found read.is_found) ∙ refused)
+    ∙ failing_front (checks_after read.before o) _ fault (ap first_failing (checks_after-found order read.before o found read.is_found) ∙ refused)
 
 -- ---- a second has some ticks
 

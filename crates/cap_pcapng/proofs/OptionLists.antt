@@ -31,9 +31,9 @@ unfolding options_in options_within
 options_in-misfit order [] more misfit = (cc)
 options_in-misfit order (b ∷ bytes) more misfit = rw (more, misfit) refl
 
--- what stands behind an option is shorter
-behind_shorter : (order : Order) (text : List ℕ) → 4 ≤ length text → length (drop (padded_length (option_size order text)) text) + 4 ≤ length text
-behind_shorter order text room = rw length-drop (omega arith)
+-- what follows an option is shorter
+after_shorter : (order : Order) (text : List ℕ) → 4 ≤ length text → length (drop (padded_length (option_size order text)) text) + 4 ≤ length text
+after_shorter order text room = rw length-drop (omega arith)
 
 same_by : (ends fits : Bool) (o : CodedValue) (r s e : List (Result CodedValue Fault)) → (ends ≡ false → r ≡ s)
     → cond ends [] (cond fits (Ok o ∷ r) e) ≡ cond ends [] (cond fits (Ok o ∷ s) e)
@@ -51,14 +51,14 @@ enough (suc n) zero order [] upper_bound less = refl
 enough (suc n) zero order (b ∷ bytes) upper_bound less = absurd (omega arith)
 enough (suc n) (suc m) order text upper_bound less =
     same_by (ends_at order text) (fits_at order text) _ _ _ _
-    (λ more. let shorter = behind_shorter order text (room order text more) in enough n m order _ (omega arith) (omega arith))
+    (λ more. let shorter = after_shorter order text (room order text more) in enough n m order _ (omega arith) (omega arith))
 
 pub options_in-more : (order : Order) (text : List ℕ) → ends_at order text ≡ false → fits_at order text ≡ true
     → options_in order text ≡ Ok (option_at order text) ∷ options_in order (drop (padded_length (option_size order text)) text)
 unfolding options_in options_within
 options_in-more order [] more fits = (cc)
 options_in-more order (b ∷ bytes) more fits =
-    let shorter = behind_shorter order (b ∷ bytes) (room order (b ∷ bytes) more) in
+    let shorter = after_shorter order (b ∷ bytes) (room order (b ∷ bytes) more) in
     rw (more, fits) (ap (λ t. Ok (option_at order (b ∷ bytes)) ∷ t) (enough (length bytes) _ order _ (omega arith) (omega arith)))
 
 drop_least : (n : ℕ) (text : List ℕ) → drop (min (length text) n) text ≡ drop n text
@@ -90,16 +90,16 @@ options_in-past order text there code past =
     options_in-misfit order text (goes_on order text there code) (lt-leb (option_size order text) (length text) past)
 
 -- as the code finds the code, the value and the rest
-pub options_in-next : (order : Order) (text : List ℕ) (code len behind : ℕ) → code ≡ u16_in order text 0 → len ≡ u16_in order text 2
-    → 4 ≤ length text → code ≢ 0 → 4 + len ≤ length text → behind ≡ min (length text) (padded_length (4 + len))
+pub options_in-next : (order : Order) (text : List ℕ) (code len following : ℕ) → code ≡ u16_in order text 0 → len ≡ u16_in order text 2
+    → 4 ≤ length text → code ≢ 0 → 4 + len ≤ length text → following ≡ min (length text) (padded_length (4 + len))
     → options_in order text ≡ Ok (record { code = code; value = take (4 + len - 4) (drop 4 text) })
-    ∷ options_in order (take (length text - behind) (drop behind text))
-options_in-next order text code len behind code_is len_is there more within is =
+    ∷ options_in order (take (length text - following) (drop following text))
+options_in-next order text code len following code_is len_is there more within is =
     let size : 4 + len - 4 ≡ u16_in order text 2 = omega arith in
-    let rest : drop (padded_length (option_size order text)) text ≡ take (length text - behind) (drop behind text) =
+    let rest : drop (padded_length (option_size order text)) text ≡ take (length text - following) (drop following text) =
     sym (drop_least (padded_length (option_size order text)) text)
     ∙ ap (λ n. drop n text) (sym (is ∙ ap (λ n. min (length text) (padded_length (4 + n))) len_is))
-    ∙ sym (take_rest text behind) in
+    ∙ sym (take_rest text following) in
     let value : CodedValue = record { code = code; value = take (4 + len - 4) (drop 4 text) } in
     let same : option_at order text ≡ value = ap₂ (λ (c n : ℕ). record { code = c; value = take n (drop 4 text) }) (sym code_is) (sym size) in
     options_in-more order text (goes_on order text there (λ none. more (code_is ∙ none))) (le-leb (option_size order text) (length text) (omega arith))

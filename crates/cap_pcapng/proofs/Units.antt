@@ -12,10 +12,10 @@ use Rattle.cap_octet.proofs.Checks.{all_met, failing_front, met_front}
 use Rattle.cap_octet.proofs.Numbers.{number_in-append}
 use Rattle.cap_pcapng.specs.Block.{block_checks, body_checks, body_in, parts_in, parts_in_body}
 use Rattle.cap_pcapng.specs.Frame.{frame_checks, frame_in, length_in, order_in}
-use Rattle.cap_pcapng.specs.Unit.{IsBlock, Section, block_size, checks_among, frame_behind, interfaces_before, order_before, parts_behind, unit_fault}
+use Rattle.cap_pcapng.specs.Unit.{IsBlock, Section, block_size, checks_among, frame_after, interfaces_before, order_before, parts_after, unit_fault}
 use Rattle.cap_pcapng.specs.declared.frames.Frame.{Frame}
 
--- ---- more bytes behind
+-- ---- more bytes after
 
 pub frame_in-append : (section : Option Order) (front more : List ℕ) → 12 ≤ length front → frame_in section (front ++ more) ≡ frame_in section front
 frame_in-append section front more enough =
@@ -53,21 +53,21 @@ parts_in-append frame front more least whole = ap (parts_in_body frame.block_typ
 -- ---- the checks, one after another
 
 -- the checks of the whole block, and those of its place among others
-behind_frame : Option Section → List ℕ → List (Bool × Fault)
-behind_frame before text =
-    block_checks (frame_behind before text) text ++ checks_among (interfaces_before before) (parts_behind before text)
+after_frame : Option Section → List ℕ → List (Bool × Fault)
+after_frame before text =
+    block_checks (frame_after before text) text ++ checks_among (interfaces_before before) (parts_after before text)
 
-behind_first : (before : Option Section) (text : List ℕ) → 12 ≤ length text
-    → unit_fault before text ≡ first_failing (frame_checks (order_before before) text ++ ((nat_le (block_size before text) (length text), Truncated) ∷ behind_frame before text))
-unfolding behind_frame
-behind_first before text enough = rw (le-leb 12 (length text) enough) refl
+past_first : (before : Option Section) (text : List ℕ) → 12 ≤ length text
+    → unit_fault before text ≡ first_failing (frame_checks (order_before before) text ++ ((nat_le (block_size before text) (length text), Truncated) ∷ after_frame before text))
+unfolding after_frame
+past_first before text enough = rw (le-leb 12 (length text) enough) refl
 
-behind_size : (before : Option Section) (text : List ℕ) → 12 ≤ length text → first_failing (frame_checks (order_before before) text) ≡ None
-    → block_size before text ≤ length text → unit_fault before text ≡ first_failing (behind_frame before text)
-behind_size before text enough framed whole =
-    behind_first before text enough
-    ∙ met_front (frame_checks (order_before before) text) ((nat_le (block_size before text) (length text), Truncated) ∷ behind_frame before text) framed
-    ∙ ap (λ (b : Bool). first_failing ((b, Truncated) ∷ behind_frame before text)) (le-leb (block_size before text) (length text) whole)
+after_size : (before : Option Section) (text : List ℕ) → 12 ≤ length text → first_failing (frame_checks (order_before before) text) ≡ None
+    → block_size before text ≤ length text → unit_fault before text ≡ first_failing (after_frame before text)
+after_size before text enough framed whole =
+    past_first before text enough
+    ∙ met_front (frame_checks (order_before before) text) ((nat_le (block_size before text) (length text), Truncated) ∷ after_frame before text) framed
+    ∙ ap (λ (b : Bool). first_failing ((b, Truncated) ∷ after_frame before text)) (le-leb (block_size before text) (length text) whole)
 
 pub unit_fault-few : (before : Option Section) (text : List ℕ) → length text < 12 → unit_fault before text ≡ Some Truncated
 unit_fault-few before text upper_bound = rw (lt-leb 12 (length text) upper_bound) refl
@@ -75,33 +75,33 @@ unit_fault-few before text upper_bound = rw (lt-leb 12 (length text) upper_bound
 pub unit_fault-frame : (before : Option Section) (text : List ℕ) (fault : Fault) → 12 ≤ length text
     → first_failing (frame_checks (order_before before) text) ≡ Some fault → unit_fault before text ≡ Some fault
 unit_fault-frame before text fault enough fails =
-    behind_first before text enough
-    ∙ failing_front (frame_checks (order_before before) text) ((nat_le (block_size before text) (length text), Truncated) ∷ behind_frame before text) fault fails
+    past_first before text enough
+    ∙ failing_front (frame_checks (order_before before) text) ((nat_le (block_size before text) (length text), Truncated) ∷ after_frame before text) fault fails
 
 pub unit_fault-short : (before : Option Section) (text : List ℕ) → 12 ≤ length text → first_failing (frame_checks (order_before before) text) ≡ None
     → length text < block_size before text → unit_fault before text ≡ Some Truncated
 unit_fault-short before text enough framed short =
-    behind_first before text enough
-    ∙ met_front (frame_checks (order_before before) text) ((nat_le (block_size before text) (length text), Truncated) ∷ behind_frame before text) framed
-    ∙ ap (λ (b : Bool). first_failing ((b, Truncated) ∷ behind_frame before text)) (lt-leb (block_size before text) (length text) short)
+    past_first before text enough
+    ∙ met_front (frame_checks (order_before before) text) ((nat_le (block_size before text) (length text), Truncated) ∷ after_frame before text) framed
+    ∙ ap (λ (b : Bool). first_failing ((b, Truncated) ∷ after_frame before text)) (lt-leb (block_size before text) (length text) short)
 
 pub unit_fault-block : (before : Option Section) (text : List ℕ) (fault : Fault) → 12 ≤ length text
     → first_failing (frame_checks (order_before before) text) ≡ None → block_size before text ≤ length text
-    → first_failing (block_checks (frame_behind before text) text) ≡ Some fault → unit_fault before text ≡ Some fault
-unfolding behind_frame
+    → first_failing (block_checks (frame_after before text) text) ≡ Some fault → unit_fault before text ≡ Some fault
+unfolding after_frame
 unit_fault-block before text fault enough framed whole fails =
-    behind_size before text enough framed whole
-    ∙ failing_front (block_checks (frame_behind before text) text) (checks_among (interfaces_before before) (parts_behind before text)) fault fails
+    after_size before text enough framed whole
+    ∙ failing_front (block_checks (frame_after before text) text) (checks_among (interfaces_before before) (parts_after before text)) fault fails
 
 -- the checks among others decide where all before them are met
 pub unit_fault-among : (before : Option Section) (text : List ℕ) → 12 ≤ length text
     → first_failing (frame_checks (order_before before) text) ≡ None → block_size before text ≤ length text
-    → first_failing (block_checks (frame_behind before text) text) ≡ None
-    → unit_fault before text ≡ first_failing (checks_among (interfaces_before before) (parts_behind before text))
-unfolding behind_frame
+    → first_failing (block_checks (frame_after before text) text) ≡ None
+    → unit_fault before text ≡ first_failing (checks_among (interfaces_before before) (parts_after before text))
+unfolding after_frame
 unit_fault-among before text enough framed whole blocked =
-    behind_size before text enough framed whole
-    ∙ met_front (block_checks (frame_behind before text) text) (checks_among (interfaces_before before) (parts_behind before text)) blocked
+    after_size before text enough framed whole
+    ∙ met_front (block_checks (frame_after before text) text) (checks_among (interfaces_before before) (parts_after before text)) blocked
 
 -- ---- what the checks say of a text
 
@@ -110,8 +110,8 @@ pub record Passes (before : Option Section) (text : List ℕ) : Type 0 where
   pub framed : first_failing (frame_checks (order_before before) text) ≡ None
   pub least : 12 ≤ block_size before text
   pub whole : block_size before text ≤ length text
-  pub blocked : first_failing (block_checks (frame_behind before text) text) ≡ None
-  pub among : first_failing (checks_among (interfaces_before before) (parts_behind before text)) ≡ None
+  pub blocked : first_failing (block_checks (frame_after before text) text) ≡ None
+  pub among : first_failing (checks_among (interfaces_before before) (parts_after before text)) ≡ None
 
 pub both_none : (rows more : List (Bool × Fault)) → first_failing (rows ++ more) ≡ None → (first_failing rows ≡ None) × (first_failing more ≡ None)
 both_none [] more none = (refl, none)
@@ -132,15 +132,15 @@ met_first true fault rows none = (refl, none)
 met_first false fault rows none = (cc)
 
 pub passes : (before : Option Section) (text : List ℕ) → unit_fault before text ≡ None → Passes before text
-unfolding behind_frame
+unfolding after_frame
 passes before text none =
     let first = met_first (nat_le 12 (length text)) Truncated
-    (frame_checks (order_before before) text ++ ((nat_le (block_size before text) (length text), Truncated) ∷ behind_frame before text)) none in
+    (frame_checks (order_before before) text ++ ((nat_le (block_size before text) (length text), Truncated) ∷ after_frame before text)) none in
     let enough : 12 ≤ length text = leb-true 12 (length text) first.0 in
-    let framed = both_none (frame_checks (order_before before) text) ((nat_le (block_size before text) (length text), Truncated) ∷ behind_frame before text)
-    (sym (behind_first before text enough) ∙ none) in
-    let size = met_first (nat_le (block_size before text) (length text)) Truncated (behind_frame before text) framed.1 in
-    let block = both_none (block_checks (frame_behind before text) text) (checks_among (interfaces_before before) (parts_behind before text)) size.1 in
+    let framed = both_none (frame_checks (order_before before) text) ((nat_le (block_size before text) (length text), Truncated) ∷ after_frame before text)
+    (sym (past_first before text enough) ∙ none) in
+    let size = met_first (nat_le (block_size before text) (length text)) Truncated (after_frame before text) framed.1 in
+    let block = both_none (block_checks (frame_after before text) text) (checks_among (interfaces_before before) (parts_after before text)) size.1 in
     record {
       enough = enough;
       framed = framed.0;
@@ -155,18 +155,18 @@ unit_fault-passes before text p = unit_fault-among before text p.enough p.framed
 
 -- ---- a block in front of more
 
-pub parts_behind-append : (before : Option Section) (front more : List ℕ) → 12 ≤ length front → 12 ≤ block_size before front
-    → block_size before front ≤ length front → parts_behind before (front ++ more) ≡ parts_behind before front
-parts_behind-append before front more enough least whole =
+pub parts_after-append : (before : Option Section) (front more : List ℕ) → 12 ≤ length front → 12 ≤ block_size before front
+    → block_size before front ≤ length front → parts_after before (front ++ more) ≡ parts_after before front
+parts_after-append before front more enough least whole =
     ap (λ (f : Frame). parts_in f (front ++ more)) (frame_in-append (order_before before) front more enough)
-    ∙ parts_in-append (frame_behind before front) front more least whole
+    ∙ parts_in-append (frame_after before front) front more least whole
 
-block_checks-behind : (before : Option Section) (front more : List ℕ) → 12 ≤ length front → 12 ≤ block_size before front
+block_checks-following : (before : Option Section) (front more : List ℕ) → 12 ≤ length front → 12 ≤ block_size before front
     → block_size before front ≤ length front
-    → block_checks (frame_behind before (front ++ more)) (front ++ more) ≡ block_checks (frame_behind before front) front
-block_checks-behind before front more enough least whole =
+    → block_checks (frame_after before (front ++ more)) (front ++ more) ≡ block_checks (frame_after before front) front
+block_checks-following before front more enough least whole =
     ap (λ (f : Frame). block_checks f (front ++ more)) (frame_in-append (order_before before) front more enough)
-    ∙ block_checks-append (frame_behind before front) front more least whole
+    ∙ block_checks-append (frame_after before front) front more least whole
 
 pub block_size-append : (before : Option Section) (front more : List ℕ) → 12 ≤ length front → block_size before (front ++ more) ≡ block_size before front
 block_size-append before front more enough = ap (λ (f : Frame). f.length) (frame_in-append (order_before before) front more enough)
@@ -183,8 +183,8 @@ Passes-append before front more p =
       framed = ap first_failing (frame_checks-append (order_before before) front more enough) ∙ p.framed;
       least = omega arith;
       whole = omega arith;
-      blocked = ap first_failing (block_checks-behind before front more enough least whole) ∙ p.blocked;
-      among = ap (λ q. first_failing (checks_among (interfaces_before before) q)) (parts_behind-append before front more enough least whole) ∙ p.among;
+      blocked = ap first_failing (block_checks-following before front more enough least whole) ∙ p.blocked;
+      among = ap (λ q. first_failing (checks_among (interfaces_before before) q)) (parts_after-append before front more enough least whole) ∙ p.among;
     }
 
 pub Passes-front : (before : Option Section) (front more : List ℕ) → 12 ≤ length front → block_size before (front ++ more) ≤ length front
@@ -199,8 +199,8 @@ Passes-front before front more enough within p =
       framed = sym (ap first_failing (frame_checks-append (order_before before) front more enough)) ∙ p.framed;
       least = least;
       whole = whole;
-      blocked = sym (ap first_failing (block_checks-behind before front more enough least whole)) ∙ p.blocked;
-      among = sym (ap (λ q. first_failing (checks_among (interfaces_before before) q)) (parts_behind-append before front more enough least whole)) ∙ p.among;
+      blocked = sym (ap first_failing (block_checks-following before front more enough least whole)) ∙ p.blocked;
+      among = sym (ap (λ q. first_failing (checks_among (interfaces_before before) q)) (parts_after-append before front more enough least whole)) ∙ p.among;
     }
 
 -- a block at the front of a text

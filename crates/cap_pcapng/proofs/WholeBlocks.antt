@@ -24,17 +24,17 @@ either_fails ((true, other) ∷ rows) more fault fails = either_fails rows more 
 either_fails ((false, other) ∷ rows) more fault fails = inl fails
 
 -- checks of a block whose bytes are there
-behind_size : (frame : Frame) (text : List ℕ) → 12 ≤ frame.length → frame.length ≤ length text
+after_size : (frame : Frame) (text : List ℕ) → 12 ≤ frame.length → frame.length ≤ length text
     → block_fault frame text ≡ first_failing (block_checks frame text ++ option_checks (parts_in frame text))
-behind_size frame text least whole = rw (le-leb 12 frame.length least, le-leb frame.length (length text) whole) refl
+after_size frame text least whole = rw (le-leb 12 frame.length least, le-leb frame.length (length text) whole) refl
 
 pub block_passes : (frame : Frame) (text : List ℕ) → 12 ≤ frame.length → frame.length ≤ length text → block_fault frame text ≡ None
     → (first_failing (block_checks frame text) ≡ None) × (first_failing (option_checks (parts_in frame text)) ≡ None)
 block_passes frame text least whole none =
-    both_none (block_checks frame text) (option_checks (parts_in frame text)) (sym (behind_size frame text least whole) ∙ none)
+    both_none (block_checks frame text) (option_checks (parts_in frame text)) (sym (after_size frame text least whole) ∙ none)
 
 pub block_fails : (frame : Frame) (text : List ℕ) (fault : Fault) → 12 ≤ frame.length → frame.length ≤ length text → block_fault frame text ≡ Some fault
     → (first_failing (block_checks frame text) ≡ Some fault)
     ⊎ ((first_failing (block_checks frame text) ≡ None) × (first_failing (option_checks (parts_in frame text)) ≡ Some fault))
 block_fails frame text fault least whole fails =
-    either_fails (block_checks frame text) (option_checks (parts_in frame text)) fault (sym (behind_size frame text least whole) ∙ fails)
+    either_fails (block_checks frame text) (option_checks (parts_in frame text)) fault (sym (after_size frame text least whole) ∙ fails)

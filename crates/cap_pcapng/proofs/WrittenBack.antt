@@ -20,7 +20,7 @@ use Rattle.cap_pcapng.specs.Laws.{InterfaceBack, PacketBack, SectionBack, ReadsA
 use Rattle.cap_pcapng.specs.Padding.{padded_length}
 use Rattle.cap_octet.specs.Date.{NANOS_PER_SECOND}
 use Rattle.cap_pcapng.specs.Time.{time_by, representable_time}
-use Rattle.cap_pcapng.specs.Unit.{Section, checks_among, frame_behind, interfaces_before, most_interfaces, order_before, packet_by, section_by, unit_fault}
+use Rattle.cap_pcapng.specs.Unit.{Section, checks_among, frame_after, interfaces_before, most_interfaces, order_before, packet_by, section_by, unit_fault}
 use Rattle.cap_pcapng.specs.Encoding.{block_text, comment_text, end_text, block_fit_checks, interface_body, name_text, packet_body, padded_text, resolution_text}
 use Rattle.cap_pcapng.proofs.Numerals.{number_at}
 use Rattle.cap_pcapng.proofs.OptionsBack.{comment_back, options_describe, options_pass}
@@ -39,7 +39,7 @@ section_back before = record {
 
 -- ---- a block of any type
 
--- the frame of a block that is no section header, behind a section
+-- the frame of a block that is no section header, after a section
 frame_told : (type size : ℕ) (text : List ℕ) → u32_in Little text 0 ≡ type → u32_in Little text 4 ≡ size → (type == section_type) ≡ false
     → frame_in (Some Little) text ≡ record { order = Little; block_type = type_of_block type; length = size }
 frame_told type size text type_is size_is other =
@@ -61,18 +61,18 @@ parts_pass a b fault framed blocked among a_is framed_is b_is blocked_is among_i
     (met_front framed ((b, fault) ∷ (blocked ++ among)) framed_is
     ∙ (rw b_is (met_front blocked among blocked_is ∙ among_is)))
 
-unit_passes : (before : Option Section) (text : List ℕ) (frame : Frame) (parts : Parts) → frame_behind before text ≡ frame
+unit_passes : (before : Option Section) (text : List ℕ) (frame : Frame) (parts : Parts) → frame_after before text ≡ frame
     → parts_in frame text ≡ parts → length text ≡ frame.length → 12 ≤ frame.length
     → first_failing (frame_checks (order_before before) text) ≡ None
     → first_failing (block_checks frame text) ≡ None
     → first_failing (checks_among (interfaces_before before) parts) ≡ None
     → unit_fault before text ≡ None
 unit_passes before text frame parts frame_is parts_is size least framed blocked among =
-    parts_pass (nat_le 12 (length text)) (nat_le (frame_behind before text).length (length text)) Truncated
-    (frame_checks (order_before before) text) (block_checks (frame_behind before text) text)
-    (checks_among (interfaces_before before) (parts_in (frame_behind before text) text))
+    parts_pass (nat_le 12 (length text)) (nat_le (frame_after before text).length (length text)) Truncated
+    (frame_checks (order_before before) text) (block_checks (frame_after before text) text)
+    (checks_among (interfaces_before before) (parts_in (frame_after before text) text))
     (le-leb 12 (length text) (omega arith)) framed
-    (le-leb (frame_behind before text).length (length text) (omega (arith, ap (λ (f : Frame). f.length) frame_is)))
+    (le-leb (frame_after before text).length (length text) (omega (arith, ap (λ (f : Frame). f.length) frame_is)))
     (ap (λ (f : Frame). first_failing (block_checks f text)) frame_is ∙ blocked)
     (ap (λ (p : Parts). first_failing (checks_among (interfaces_before before) p)) (ap (λ (f : Frame). parts_in f text) frame_is ∙ parts_is) ∙ among)
 
@@ -168,14 +168,14 @@ data_back bytes more =
     let zeros : List ℕ = replicate (padded_length (length bytes) - length bytes) 0 in
     ap (λ t. take (length bytes) t) (append_assoc bytes zeros more) ∙ take_at bytes (zeros ++ more) (length bytes) refl
 
-comment_behind : (bytes comment : List ℕ) → length comment ≤ 65535 → comment_in Little (drop (padded_length (length bytes)) (padded_text bytes ++ comment_text comment)) ≡ comment
-comment_behind bytes comment short =
+comment_after : (bytes comment : List ℕ) → length comment ≤ 65535 → comment_in Little (drop (padded_length (length bytes)) (padded_text bytes ++ comment_text comment)) ≡ comment
+comment_after bytes comment short =
     ap (λ t. comment_in Little t) (drop_at (padded_text bytes) (comment_text comment) (padded_length (length bytes)) (padded_size bytes)) ∙ comment_back comment short
 
 packet_held : (interfaces : List Described) (number : ℕ) (p : Captured) → slice_get interfaces number ≡ Some (written_interface p.link p.snap p.name)
     → p.time < 2 ^ 63 → length p.comment ≤ 65535 → packet_by interfaces (EnhancedParts number p.time (length p.bytes) p.orig Little (padded_text p.bytes ++ comment_text p.comment)) ≡ Some p
 packet_held interfaces number p known upper_bound short =
-    rw (known, nanoseconds_back p.time upper_bound, data_back p.bytes (comment_text p.comment), comment_behind p.bytes p.comment short) refl
+    rw (known, nanoseconds_back p.time upper_bound, data_back p.bytes (comment_text p.comment), comment_after p.bytes p.comment short) refl
 
 fits_told : (p : Captured) → first_failing (block_fit_checks p) ≡ None → 32 + padded_length (length p.bytes) + length (comment_text p.comment) ≤ most_block
 fits_told p fits = leb-true (32 + padded_length (length p.bytes) + length (comment_text p.comment)) most_block (all_met (block_fit_checks p) fits).0

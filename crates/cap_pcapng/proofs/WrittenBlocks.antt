@@ -35,31 +35,31 @@ pub comment_text-whole : (comment : List ℕ) → length (comment_text comment) 
 comment_text-whole [] = refl
 comment_text-whole (b ∷ bytes) = let size : length (comment_text (b ∷ bytes)) ≡ 8 + padded_length (length (b ∷ bytes)) = length-comment_text (b ∷ bytes) (ne_eqb (length (b ∷ bytes)) 0 (λ is. absurd (omega arith))) in omega arith
 
--- ---- what is behind a packet's data: padding and a comment
+-- ---- what is after a packet's data: padding and a comment
 
-pub plain_behind : (padding : ℕ) (bytes comment : List ℕ) → (length comment == 0) ≡ true → length bytes + padding ≡ padded_length (length bytes)
+pub plain_after : (padding : ℕ) (bytes comment : List ℕ) → (length comment == 0) ≡ true → length bytes + padding ≡ padded_length (length bytes)
     → comment ++ replicate padding 0 ≡ replicate (padded_length (length bytes) - length bytes) 0 ++ comment_text comment
-plain_behind padding bytes [] none padding_is =
+plain_after padding bytes [] none padding_is =
     let zeros : padding ≡ padded_length (length bytes) - length bytes = omega arith in
     ap (λ (n : ℕ). replicate n 0) zeros ∙ sym (append-nil (replicate (padded_length (length bytes) - length bytes) 0))
-plain_behind padding bytes (b ∷ more) none padding_is = absurd (false≢true (sym (ne_eqb (length (b ∷ more)) 0 (λ is. absurd (omega arith))) ∙ none))
+plain_after padding bytes (b ∷ more) none padding_is = absurd (false≢true (sym (ne_eqb (length (b ∷ more)) 0 (λ is. absurd (omega arith))) ∙ none))
 
 commented : (zeros head comment more end : List ℕ) → (zeros ++ head) ++ (comment ++ (more ++ end)) ≡ zeros ++ (head ++ (comment ++ more) ++ end)
 commented zeros head comment more end = simp append_assoc
 
-pub comment_behind : (padding behind : ℕ) (bytes comment option : List ℕ) → (length comment == 0) ≡ false → padding < 4
-    → length bytes + padding ≡ padded_length (length bytes) → length comment + behind ≡ padded_length (length comment)
+pub comment_after : (padding following : ℕ) (bytes comment option : List ℕ) → (length comment == 0) ≡ false → padding < 4
+    → length bytes + padding ≡ padded_length (length bytes) → length comment + following ≡ padded_length (length comment)
     → option ≡ replicate 3 0 ++ (little_bytes 2 1 ++ little_bytes 2 (length comment))
-    → take (7 - (3 - padding)) (drop (3 - padding) option) ++ (comment ++ replicate (behind + 4) 0)
+    → take (7 - (3 - padding)) (drop (3 - padding) option) ++ (comment ++ replicate (following + 4) 0)
     ≡ replicate (padded_length (length bytes) - length bytes) 0 ++ comment_text comment
-comment_behind padding behind bytes [] option some upper_bound padding_is behind_is option_is = absurd (false≢true (sym some))
-comment_behind padding behind bytes (b ∷ rest) option some upper_bound padding_is behind_is option_is =
+comment_after padding following bytes [] option some upper_bound padding_is after_is option_is = absurd (false≢true (sym some))
+comment_after padding following bytes (b ∷ rest) option some upper_bound padding_is after_is option_is =
     let comment : List ℕ = b ∷ rest in
     let head : List ℕ = little_bytes 2 1 ++ little_bytes 2 (length comment) in
     let zeros : padding ≡ padded_length (length bytes) - length bytes = omega arith in
-    let more : behind ≡ padded_length (length comment) - length comment = omega arith in
-    ap₂ (λ (o z : List ℕ). o ++ (comment ++ z)) (block_end 3 padding 7 head option (omega arith) option_is refl) (sym (replicate-append-replicate behind 4 0))
-    ∙ commented (replicate padding 0) head comment (replicate behind 0) end_text
+    let more : following ≡ padded_length (length comment) - length comment = omega arith in
+    ap₂ (λ (o z : List ℕ). o ++ (comment ++ z)) (block_end 3 padding 7 head option (omega arith) option_is refl) (sym (replicate-append-replicate following 4 0))
+    ∙ commented (replicate padding 0) head comment (replicate following 0) end_text
     ∙ ap₂ (λ (n m : ℕ). replicate n 0 ++ (head ++ (comment ++ replicate m 0) ++ end_text)) zeros more
 
 pieces : (bytes option comment zeros size : List ℕ)
@@ -72,15 +72,15 @@ pub packet_joined : (number zeros : ℕ) (p : Captured) (head option end : List 
     → head ≡ packet_header (32 + length p.bytes + length option + length p.comment + zeros) number p
     → end ≡ replicate 7 0 ++ little_bytes 4 (32 + length p.bytes + length option + length p.comment + zeros)
     → head ++ (p.bytes ++ (option ++ (p.comment ++ (take (11 - (7 - zeros)) (drop (7 - zeros) end) ++ [])))) ≡ packet_block number p
-packet_joined number zeros p head option end upper_bound behind head_is end_is =
+packet_joined number zeros p head option end upper_bound following head_is end_is =
     let size : ℕ = 32 + length p.bytes + length option + length p.comment + zeros in
     let padding : List ℕ = replicate (padded_length (length p.bytes) - length p.bytes) 0 in
-    let sizes = simp (length-append, length-replicate) at (ap length behind) in
+    let sizes = simp (length-append, length-replicate) at (ap length following) in
     let whole : size ≡ 12 + length (packet_body number p) = omega (arith, sizes, length-packet_body number p) in
     ap₂ (λ (h t : List ℕ). h ++ (p.bytes ++ (option ++ (p.comment ++ (t ++ []))))) head_is (block_end 7 zeros 11 (little_bytes 4 size) end upper_bound end_is refl)
     ∙ ap (λ (t : List ℕ). packet_header size number p ++ t)
     (pieces p.bytes option p.comment (replicate zeros 0) (little_bytes 4 size)
-    ∙ ap (λ (t : List ℕ). p.bytes ++ t ++ little_bytes 4 size) behind
+    ∙ ap (λ (t : List ℕ). p.bytes ++ t ++ little_bytes 4 size) following
     ∙ ap (λ (t : List ℕ). t ++ little_bytes 4 size) (sym (append_assoc p.bytes padding (comment_text p.comment))))
     ∙ ap (λ (s : ℕ). little_bytes 4 6 ++ little_bytes 4 s ++ packet_body number p ++ little_bytes 4 s) whole
 
@@ -97,7 +97,7 @@ plain_joined number zeros p head end none upper_bound padding_is head_is end_is 
     let comment_is : p.comment ≡ [] = empty p.comment none in
     let size : 32 + length p.bytes + zeros ≡ 32 + length p.bytes + 0 + length p.comment + zeros = omega (arith, ap length comment_is) in
     ap (λ (c : List ℕ). head ++ (p.bytes ++ (c ++ (take (11 - (7 - zeros)) (drop (7 - zeros) end) ++ [])))) (sym comment_is)
-    ∙ packet_joined number zeros p head [] end (omega arith) (plain_behind zeros p.bytes p.comment none padding_is)
+    ∙ packet_joined number zeros p head [] end (omega arith) (plain_after zeros p.bytes p.comment none padding_is)
     (head_is ∙ ap (λ (s : ℕ). packet_header s number p) size) (end_is ∙ ap (λ (s : ℕ). replicate 7 0 ++ little_bytes 4 s) size)
 
 -- ---- an interface

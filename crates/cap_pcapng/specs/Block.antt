@@ -55,13 +55,13 @@ size_checks frame text =
 abbrev pub simple_captured : (orig snap : ℕ) → ℕ
 simple_captured orig snap = if snap == 0 then orig else min orig snap
 
--- that so many captured bytes with their padding lie in what is left of a body
+-- that this many captured bytes with their padding lie in what is left of a body
 abbrev pub data_checks : ℕ → List ℕ → List (Bool × Fault)
 data_checks captured rest = (nat_le (padded_length captured) (length rest), BadBody) ∷ []
 
 -- ---- the parts
 
--- what a block says. The rest of a packet's body is its padded data, and the options behind them.
+-- what a block says. The rest of a packet's body is its padded data, and the options after them.
 pub data Parts : Type 0 where
   SectionParts : Parts
   InterfaceParts : (link snap : ℕ) → (order : Order) → (options : List ℕ) → Parts
@@ -113,7 +113,7 @@ option_checks (EnhancedParts number ticks captured orig order rest) = []
 option_checks (SimpleParts orig rest) = []
 option_checks SkippedParts = []
 
--- The first check that the block fails which a text begins with, behind those of its frame. Those
+-- The first check that the block fails which a text begins with, after those of its frame. Those
 -- that need the interfaces before it are in `Unit`: one of them, of how many there are, comes
 -- before those of options.
 abbrev pub block_fault : Frame → List ℕ → Option Fault

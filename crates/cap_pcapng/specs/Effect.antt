@@ -40,8 +40,8 @@ held_packet order interfaces spans bytes options =
     (λ (i : Described). packet_of i spans.time spans.orig bytes (comment_in order options))
     (slice_get interfaces spans.interface)
 
--- the packet of a block of so many bytes, whose data are at the start of what is left of its body,
--- and its options behind them
+-- the packet of a block of this size, whose data are at the start of what is left of its body,
+-- and its options after them
 pub record PacketFound (order : Order) (interfaces : List Described) (parts : Parts)
     (start size : ℕ) (rest : List ℕ) (spans : PacketSpans) : Type 0 where
   pub whole : spans.size ≡ size
@@ -53,7 +53,7 @@ pub record PacketFound (order : Order) (interfaces : List Described) (parts : Pa
       (take spans.options.length (drop (spans.options.start - spans.bytes.start) rest))
       ≡ Some packet
   pub there : spans.bytes.length ≤ length rest
-  pub behind : spans.bytes.start ≤ spans.options.start
+  pub following : spans.bytes.start ≤ spans.options.start
   pub options : spans.options.start - spans.bytes.start + spans.options.length ≤ length rest
   pub time : spans.time < 2 ^ 63
 
@@ -82,7 +82,7 @@ abbrev pub KnowsIfAny : List Described → Option PacketSpans → Type 0
 KnowsIfAny interfaces None = Unit {0}
 KnowsIfAny interfaces (Some spans) = is_some (slice_get interfaces spans.interface) ≡ true
 
--- a block passed all of its checks, and the table of interfaces is that behind it
+-- a block passed all of its checks, and the table of interfaces is that after it
 pub record Enters (frame : Frame) (interfaces : List Described) (block : List ℕ)
     (spans : Option PacketSpans) (interfaces' : List Described) : Type 0 where
   pub passes : first_failing (block_checks frame block) ≡ None
@@ -93,7 +93,7 @@ pub record Enters (frame : Frame) (interfaces : List Described) (block : List �
   pub fits : FitsIfAny spans frame.length
   pub known : KnowsIfAny interfaces' spans
 
--- what a block does that passed all of its checks: its packet, and the interfaces behind it
+-- what a block does that passed all of its checks: its packet, and the interfaces following it
 abbrev pub packet_in_effect : BlockEffect → Option PacketSpans
 packet_in_effect effect.Section = None
 packet_in_effect (effect.Interface i) = None
@@ -130,7 +130,7 @@ IsEntryFault frame interfaces block fault =
     IsBlockFault frame interfaces block fault
     ⊎ ((fault ≡ NoMemory) × AddsInterface frame interfaces block)
 
--- What a block's refusal by itself tells behind these interfaces: that there are as many as may be
+-- What a block's refusal by itself tells after these interfaces: that there are as many as may be
 -- comes before what its options tell.
 abbrev pub fault_among : List Described → Fault → Fault
 fault_among interfaces BadOption =

@@ -59,7 +59,7 @@ type_in section text =
 abbrev pub length_in : Option Order → List ℕ → ℕ
 length_in section text = u32_in (order_in section text) text 4
 
--- the checks of a block's first 12 bytes, in order, behind a section of this byte order or behind
+-- the checks of a block's first 12 bytes, in order, after a section of this byte order or after
 -- none
 abbrev pub frame_checks : Option Order → List ℕ → List (Bool × Fault)
 frame_checks section text =

@@ -67,7 +67,7 @@ pub record IsFound (order : Order) (options : List CodedValue) (found : Found) :
   pub offset : found.offset ≡ option_map (offset_in_value order) (first_value offset_code options)
   pub short : HasShortName found
 
--- what is found once this option is read behind those before it
+-- what is found once this option is read after those before it
 pub record Adds (order : Order) (before : Found) (option : CodedValue)
     (after : Found) : Type 0 where
   pub name : option_copied after.name

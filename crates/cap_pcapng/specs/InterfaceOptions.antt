@@ -50,18 +50,18 @@ first_value code [] = None
 first_value code (option ∷ options) =
     if option.code == code then Some option.value else first_value code options
 
--- the checks of an option behind these: of those of one code the first alone is checked
-abbrev pub checks_behind : List CodedValue → CodedValue → List (Bool × Fault)
-checks_behind before option =
+-- the checks of an option after these: of those of one code the first alone is checked
+abbrev pub checks_after : List CodedValue → CodedValue → List (Bool × Fault)
+checks_after before option =
     if is_some (first_value option.code before) then [] else first_checks option
 
--- the checks of a list of options behind these, in order: that the value fits, and then those of
+-- the checks of a list of options after these, in order: that the value fits, and then those of
 -- its code
 abbrev pub list_checks : List CodedValue → List (Result CodedValue Fault) → List (Bool × Fault)
 list_checks before [] = []
 list_checks before (Err fault ∷ items) = (false, fault) ∷ list_checks before items
 list_checks before (Ok option ∷ items) =
-    checks_behind before option ++ list_checks (before ++ option ∷ []) items
+    checks_after before option ++ list_checks (before ++ option ∷ []) items
 
 -- why a list of options can't be read
 abbrev pub options_fault : Order → List ℕ → Option Fault

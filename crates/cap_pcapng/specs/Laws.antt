@@ -9,7 +9,7 @@ use Rattle.cap_pcapng.specs.Interface.{Described}
 use Rattle.cap_pcapng.specs.Unit.{IsBlock, Section, most_interfaces, packets_in, section_after}
 use Rattle.cap_pcapng.specs.Encoding.{block_fit_checks, interface_text, packet_block, section_text}
 
--- These bytes are one block, behind which the section is this, and they hold these packets.
+-- These bytes are one block, after which the section is this, and they hold these packets.
 pub record ReadsAs (before : Option Section) (bytes : List ℕ) (after : Section)
     (packets : List Captured) : Type 0 where
   pub is_block : IsBlock before bytes

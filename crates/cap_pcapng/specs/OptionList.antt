@@ -31,7 +31,7 @@ ends_at order text = nat_lt (length text) 4 || (u16_in order text 0 == 0)
 abbrev pub fits_at : Order → List ℕ → Bool
 fits_at order text = nat_le (option_size order text) (length text)
 
--- the options of a text, in order, with at most so many of them; the last may be one whose value
+-- the options of a text, in order, at most a given number; the last may be one whose value
 -- doesn't fit
 unfoldable pub options_within : ℕ → Order → List ℕ → List (Result CodedValue Fault)
 options_within zero order text = []

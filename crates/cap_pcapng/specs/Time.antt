@@ -3,7 +3,7 @@
 use Rattle.std.specs.Prelude.{ℕ, ◌*◌, ◌/◌, ◌^◌, ◌-◌, ℤ, pos, negsuc, ◌+ℤ◌, ◌*ℤ◌, if◌then◌else◌, Bool, nat_le, nat_lt, Option, Some, None}
 use Rattle.cap_octet.specs.Date.{NANOS_PER_SECOND, TIME_END}
 
--- The nanoseconds since 1970 of so many ticks, of which these units make a second, after an offset
+-- The nanoseconds since 1970 of these ticks, of which these units make a second, after an offset
 -- in seconds. A part of a nanosecond is cut off.
 abbrev pub nanoseconds : ℕ → ℕ → ℤ → ℤ
 nanoseconds ticks units offset =

@@ -1,4 +1,4 @@
--- A block behind the blocks in front of it: all of its checks, in order, what it declares, and its
+-- A block after the blocks in front of it: all of its checks, in order, what it declares, and its
 -- packet.
 use Rattle.std.specs.Prelude.{◌≡◌, ℕ, Bool, List, [], ◌∷◌, ◌++◌, length, nat_le, nat_lt, take, drop, Option, None, is_some, unwrap_or}
 use Rattle.std.specs.List.{slice_get}
@@ -33,18 +33,18 @@ abbrev pub interfaces_before : Option Section → List Described
 interfaces_before before = option_map_or (λ (s : Section). s.interfaces) before []
 
 -- the frame, the size and the parts of the block that a text begins with
-abbrev pub frame_behind : Option Section → List ℕ → Frame
-frame_behind before text = frame_in (order_before before) text
+abbrev pub frame_after : Option Section → List ℕ → Frame
+frame_after before text = frame_in (order_before before) text
 
 abbrev pub block_size : Option Section → List ℕ → ℕ
-block_size before text = (frame_behind before text).length
+block_size before text = (frame_after before text).length
 
-abbrev pub parts_behind : Option Section → List ℕ → Parts
-parts_behind before text = parts_in (frame_behind before text) text
+abbrev pub parts_after : Option Section → List ℕ → Parts
+parts_after before text = parts_in (frame_after before text) text
 
 -- ---- the checks
 
--- the time of so many ticks of an interface, if there is one
+-- the time of these ticks of an interface, if there is one
 abbrev pub time_of : Option Described → ℕ → Option ℕ
 time_of interface ticks =
     option_and_then (λ (i : Described). representable_time ticks i.units i.offset) interface
@@ -76,8 +76,8 @@ unit_checks before text =
     (nat_le 12 (length text), Truncated)
     ∷ frame_checks (order_before before) text
     ++ (nat_le (block_size before text) (length text), Truncated)
-    ∷ block_checks (frame_behind before text) text
-    ++ checks_among (interfaces_before before) (parts_behind before text)
+    ∷ block_checks (frame_after before text) text
+    ++ checks_among (interfaces_before before) (parts_after before text)
 
 -- why a text doesn't begin with a block
 abbrev pub unit_fault : Option Section → List ℕ → Option Fault
@@ -108,7 +108,7 @@ section_by before order SkippedParts =
 
 abbrev pub section_after : Option Section → List ℕ → Section
 section_after before bytes =
-    section_by before (frame_behind before bytes).order (parts_behind before bytes)
+    section_by before (frame_after before bytes).order (parts_after before bytes)
 
 -- a packet of an interface
 abbrev pub packet_of : Described → (time orig : ℕ) → (bytes comment : List ℕ) → Captured
@@ -122,7 +122,7 @@ packet_of i time orig bytes comment = record {
   comment = comment;
 }
 
--- The comment of an enhanced packet is among the options behind its data. A simple packet is one of
+-- The comment of an enhanced packet is among the options after its data. A simple packet is one of
 -- interface 0, at time 0, without a comment.
 abbrev pub packet_by : List Described → Parts → Option Captured
 packet_by interfaces SectionParts = None
@@ -140,4 +140,4 @@ packet_by interfaces SkippedParts = None
 
 abbrev pub packets_in : Option Section → List ℕ → List Captured
 packets_in before bytes =
-    option_to_list (packet_by (interfaces_before before) (parts_behind before bytes))
+    option_to_list (packet_by (interfaces_before before) (parts_after before bytes))

@@ -45,7 +45,7 @@ pub struct EnhancedBlock<'a> {
     pub captured: u32,
     /// The original length, in bytes.
     pub orig: u32,
-    /// The padded data and the options behind them.
+    /// The padded data and the options after them.
     pub rest: &'a [u8],
 }
 
@@ -115,7 +115,7 @@ impl<'a> EnhancedBlock<'a> {
         data_in(self.rest, self.captured)
     }
 
-    /// The options behind the padded data.
+    /// The options after the padded data.
     pub fn options(&self) -> Options<'a>
         ensures order { result.order ≡ self.now.order }
         ensures rest { result.rest.now ≡ drop (padded_length self.now.captured) self.now.rest.now }

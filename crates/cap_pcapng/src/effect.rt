@@ -30,7 +30,7 @@ pub struct Span {
 }
 
 impl Span {
-    /// So many bytes from this one on.
+    /// A given number of bytes from this one on.
     pub fn new(start: u32, length: u32) -> Self
         ensures { result ≡ record { start = start; length = length } }
     {
@@ -107,7 +107,7 @@ pub enum BlockEffect<'a> {
     Nothing,
 }
 
-/// What a block's refusal by itself tells behind these interfaces.
+/// What a block's refusal by itself tells following these interfaces.
 fn fault_in_full_table<T: Interfaces>(table: &T, fault: Fault) -> Fault
     ensures { result ≡ fault_among (T.list table.now) fault }
 {
@@ -119,7 +119,7 @@ fn fault_in_full_table<T: Interfaces>(table: &T, fault: Fault) -> Fault
     }
 }
 
-/// The packet of an enhanced packet block of so many bytes.
+/// The packet of an enhanced packet block of this size.
 fn enhanced_packet<T: Interfaces>(
     table: &T,
     block: &EnhancedBlock<'_>,
@@ -137,18 +137,18 @@ fn enhanced_packet<T: Interfaces>(
     block.data()?;
     let time = interface.clock.time(block.ticks)?;
     let options = block.options().rest.len() as u32;
-    let behind = ENHANCED_DATA + block.rest.len() as u32 - options;
+    let following = ENHANCED_DATA + block.rest.len() as u32 - options;
     Ok(PacketSpans {
         size,
         bytes: Span::new(ENHANCED_DATA, block.captured),
-        options: Span::new(behind, options),
+        options: Span::new(following, options),
         interface: block.interface,
         time,
         orig: block.orig,
     })
 }
 
-/// The packet of a simple packet block of so many bytes: one of interface 0, at time 0.
+/// The packet of a simple packet block of this size: one of interface 0, at time 0.
 fn simple_packet<T: Interfaces>(
     table: &T,
     block: &SimpleBlock<'_>,

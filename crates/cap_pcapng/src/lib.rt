@@ -25,5 +25,5 @@ pub use read::{begins_section, block, frame};
 pub use table::Table;
 pub use write::{
     fits, interface_end, interface_header, option_header, packet_end, packet_header,
-    padding_behind, section_bytes, write_interface, write_packet,
+    padding_after, section_bytes, write_interface, write_packet,
 };

@@ -87,8 +87,8 @@ impl<'a> Iterator for Options<'a> {
             self.rest = &[];
             return Some(Err(Fault::BadOption));
         }
-        let behind = rest.len().min(padded_length(size as u64) as usize);
-        self.rest = &rest[behind..];
+        let following = rest.len().min(padded_length(size as u64) as usize);
+        self.rest = &rest[following..];
         Some(Ok(BlockOption {
             code,
             value: &rest[4..size],

@@ -20,7 +20,7 @@ pub fn begins_section(bytes: &[u8; 4]) -> bool
     u32_at(Order::Little, bytes, 0) == SECTION_TYPE
 }
 
-/// Reads the first 12 bytes of a block that stands behind a section of this byte order, or behind
+/// Reads the first 12 bytes of a block that follows a section of this byte order, or after
 /// none; or tells the first check that they fail: no section before a block of another type, no
 /// byte-order magic in a section header, a total length below 12 or no multiple of 4, a total
 /// length above 1,048,576.

@@ -50,8 +50,8 @@ pub fn section_bytes() -> [u8; 28]
     bytes
 }
 
-/// How many zeros stand behind so many bytes.
-pub fn padding_behind(length: usize) -> usize
+/// How many zeros follow `length` bytes.
+pub fn padding_after(length: usize) -> usize
     ensures padded { length + result ≡ padded_length length }
     ensures short { result < 4 }
 {
@@ -74,7 +74,7 @@ pub fn packet_header(size: u32, number: u32, packet: &Packet<'_>) -> [u8; 28]
     bytes
 }
 
-/// An option's code and length, behind three bytes of padding.
+/// An option's code and length, after three bytes of padding.
 pub fn option_header(code: u16, value: &[u8]) -> [u8; 7]
     requires { length value.now < 2 ^ 16 }
     ensures { result ≡ replicate 3 0 ++ (little_bytes 2 code ++ little_bytes 2 (length value.now)) }
@@ -85,7 +85,7 @@ pub fn option_header(code: u16, value: &[u8]) -> [u8; 7]
     bytes
 }
 
-/// A packet block's total length, behind seven zeros: three of padding, and the end of the options.
+/// A packet block's total length, after seven zeros: three of padding, and the end of the options.
 pub fn packet_end(size: u32) -> [u8; 11]
     ensures { result ≡ replicate 7 0 ++ little_bytes 4 size }
 {
@@ -105,7 +105,7 @@ pub fn write_packet<O: Output>(
     ensures { WritesExactly O.Output output.old (packet_block number (captured packet.now)) result
         output.new }
 {
-    let padding = padding_behind(packet.bytes.len());
+    let padding = padding_after(packet.bytes.len());
     if packet.comment.is_empty() {
         let size = (32 + packet.bytes.len() + padding) as u32;
         let head = packet_header(size, number, packet);
@@ -115,7 +115,7 @@ pub fn write_packet<O: Output>(
     let comment = packet.comment;
     let option = option_header(1, comment);
     let option = &option[3 - padding..];
-    let zeros = padding_behind(comment.len()) + 4;
+    let zeros = padding_after(comment.len()) + 4;
     let size = (32 + packet.bytes.len() + option.len() + comment.len() + zeros) as u32;
     let head = packet_header(size, number, packet);
     let end = packet_end(size);
@@ -135,7 +135,7 @@ pub fn interface_header(size: u32, packet: &Packet<'_>) -> [u8; 16]
     bytes
 }
 
-/// What is behind an interface's name: three bytes of padding, the resolution of nanoseconds, the
+/// What is after an interface's name: three bytes of padding, the resolution of nanoseconds, the
 /// end of the options, the total length.
 pub fn interface_end(size: u32) -> [u8; 19]
     ensures { result ≡ replicate 3 0 ++ (resolution_text ++ end_text ++ little_bytes 4 size) }
@@ -155,7 +155,7 @@ pub fn write_interface<O: Output>(packet: &Packet<'_>, output: &mut O) -> Result
         (interface_text packet.now.link packet.now.snap packet.now.name.now) result output.new }
 {
     let name = packet.name;
-    let padding = padding_behind(name.len());
+    let padding = padding_after(name.len());
     let option = option_header(2, name);
     let start = if name.is_empty() { 7 } else { 3 };
     let option = &option[start..];

@@ -28,10 +28,10 @@ stops-in_line options p old new stopped less writes =
     stops-part old old new [] (line options.link p) _ stopped (sym (append-nil old)) less writes
 
 -- what follows some bytes is appended, or a prefix of it
-pub appends-behind : {E : Type 0} (r : Result (Unit {0}) E) (old done part mid new : List ℕ) → mid ≡ old ++ done
+pub appends-following : {E : Type 0} (r : Result (Unit {0}) E) (old done part mid new : List ℕ) → mid ≡ old ++ done
     → AppendsOrStops r mid part new → AppendsOrStops r old (done ++ part) new
-appends-behind (Ok value) old done part mid new first appends = appends ∙ ap (λ (x : List ℕ). x ++ part) first ∙ append_assoc old done part
-appends-behind (Err fault) old done part mid new first stops =
+appends-following (Ok value) old done part mid new first appends = appends ∙ ap (λ (x : List ℕ). x ++ part) first ∙ append_assoc old done part
+appends-following (Err fault) old done part mid new first stops =
     let less : stops.0 < length part = stops.1 in (
       length done + stops.0,
       omega (arith, less, length-append done part),

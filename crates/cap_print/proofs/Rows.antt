@@ -2,7 +2,7 @@
 use Rattle.std.proofs.Common.{◌≡◌, ℕ, zero, suc, ◌+◌, ◌-◌, ◌<◌, List, [], ◌++◌, refl, ap, ◌∙◌, arith, append_assoc, append-nil}
 use Rattle.cap_print.specs.Dump.{first_rows, row}
 
--- the rows from the one behind k others, so many
+-- the rows from the one after k others, that many
 abbrev pub rows_from : List ℕ → ℕ → ℕ → List ℕ
 rows_from bytes k zero = []
 rows_from bytes k (suc n) = rows_from bytes k n ++ row bytes (k + n)
@@ -15,7 +15,7 @@ rows-split bytes k (suc n) =
     ∙ ap (λ (x : List ℕ). x ++ row bytes (k + n)) (rows-split bytes k n)
     ∙ append_assoc (first_rows bytes k) (rows_from bytes k n) (row bytes (k + n))
 
--- a first row and those behind it
+-- a first row and those after it
 rows_from-first : (bytes : List ℕ) (k n : ℕ) → rows_from bytes k (suc n) ≡ row bytes k ++ rows_from bytes (k + 1) n
 rows_from-first bytes k zero = let e : k + 0 ≡ k = omega arith in rw (e, append-nil (row bytes k)) refl
 rows_from-first bytes k (suc n) =
@@ -24,7 +24,7 @@ rows_from-first bytes k (suc n) =
     ∙ append_assoc (row bytes k) (rows_from bytes (k + 1) n) (row bytes (k + suc n))
     ∙ ap (λ m. row bytes k ++ (rows_from bytes (k + 1) n ++ row bytes m)) e
 
--- the rows before one of them, that row, and those behind it
+-- the rows before one of them, that row, and those after it
 pub rows-among : (bytes : List ℕ) (k n : ℕ) → k < n → first_rows bytes n ≡ first_rows bytes k ++ (row bytes k ++ rows_from bytes (k + 1) (n - k - 1))
 rows-among bytes k n below =
     let e : n ≡ k + suc (n - k - 1) = omega arith in

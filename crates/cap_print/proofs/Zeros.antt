@@ -18,7 +18,7 @@ zeros-more digits most i less within is =
     ∙ ap (without_zeros (suc (most - (i + 1)))) (drop_more digits i 0 within)
     ∙ zero-goes (most - (i + 1)) (get_or digits i 0) (drop (i + 1) digits) is)
 
--- another digit stays, with those behind it
+-- another digit stays, with those after it
 pub zeros-end : (digits : List ℕ) (most i : ℕ) → i < most → i < length digits → get_or digits i 0 ≢ 48
     → drop i digits ≡ without_zeros (most - i) (drop i digits)
 zeros-end digits most i less within isnt =

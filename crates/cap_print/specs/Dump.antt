@@ -13,13 +13,13 @@ pairs [] = []
 pairs (a ∷ []) = 32 ∷ hex_two a
 pairs (a ∷ b ∷ more) = 32 ∷ (hex_two a ++ (hex_two b ++ pairs more))
 
--- the row behind k others: a tab, the place of its first byte, and its bytes
+-- the row after k others: a tab, the place of its first byte, and its bytes
 unfoldable pub row : List ℕ → ℕ → List ℕ
 row bytes k =
     9 ∷ (codes "0x"
     ++ (hex_place (16 * k) ++ (58 ∷ (pairs (take 16 (drop (16 * k) bytes)) ++ 10 ∷ []))))
 
--- how many rows so many bytes have
+-- how many rows a given number of bytes have
 abbrev pub row_count : ℕ → ℕ
 row_count count = (count + 15) / 16
 

@@ -17,7 +17,7 @@ pub fn payload(link: u16, bytes: &[u8]) -> &[u8]
     &bytes[start..]
 }
 
-/// How many rows so many bytes have.
+/// How many rows `count` bytes have.
 pub fn row_count(count: usize) -> usize
     ensures { result ≡ row_count count }
 {
@@ -44,7 +44,7 @@ fn push_pairs(text: &mut Text, bytes: &[u8])
     }
 }
 
-/// Replaces the bytes of the buffer by the row behind `index` others, which ends with a line feed.
+/// Replaces the bytes of the buffer by the row after `index` others, which ends with a line feed.
 #[tactic(auto, unfolding(crate::specs::Dump::row))]
 pub fn write_row(text: &mut Text, bytes: &[u8], index: usize)
     requires { 16 * index < length bytes.now }

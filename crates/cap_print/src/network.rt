@@ -264,7 +264,7 @@ fn push_header_part(text: &mut Text, header: NetworkHeader, bytes: &[u8], l: usi
     }
 }
 
-/// Appends what is said of the captured bytes behind the link header.
+/// Appends what is said of the captured bytes after the link header.
 // With this inside, a job's step grows too large to be inlined itself.
 #[inline(never)]
 #[tactic(auto, unfolding(crate::specs::Network::network_part))]

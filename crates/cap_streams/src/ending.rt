@@ -87,7 +87,7 @@ fn status_by(status: u8, cause: Option<ErrorKind>, flushed: Option<ErrorKind>) -
 }
 
 /// Tells the message of a run and how its output ended, by the causes of the last write that failed
-/// in it and of the one behind it; and returns the status.
+/// in it and of the one after it; and returns the status.
 ///
 /// Where the reader of a pipe went away, as of `| head`, nobody hears that the rest can't be
 /// written.

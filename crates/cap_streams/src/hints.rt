@@ -51,8 +51,8 @@ fn hint_of(command: &str, option: &str) -> Option<&'static str> {
 
 /// What is to be told beside a refusal with this text.
 pub(crate) fn hint_on(refusal: &str) -> Option<&'static str> {
-    let (option, behind) = refusal.strip_prefix(UNKNOWN)?.split_once("'")?;
-    let (_, usage) = behind.split_once(USAGE_OF)?;
+    let (option, following) = refusal.strip_prefix(UNKNOWN)?.split_once("'")?;
+    let (_, usage) = following.split_once(USAGE_OF)?;
     let (command, _) = usage.split_once(" ")?;
     hint_of(command, option)
 }

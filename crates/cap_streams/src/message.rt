@@ -5,7 +5,7 @@ use crate::hints::{add_commands, hint_on};
 use std::alloc::{AllocError, Allocator, Global};
 use std::{fmt, io};
 
-/// Where clap's advice begins to pass a word behind `--`: it fails, since that word is no name of a
+/// Where clap's advice begins to pass a word after `--`: it fails, since that word is no name of a
 /// file, and no range or part of an expression either.
 const VALUE_TIP: &str = "  tip: to pass '";
 

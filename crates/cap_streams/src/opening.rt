@@ -19,17 +19,17 @@ use std::io::{self, BufReader, BufWriter, ErrorKind, Read};
 const BUFFER: usize = 65_536;
 
 /// The bytes of the buffer before an output that is written out before each read. What a full buffer
-/// of an input comes to is a few times as long at most, so that no packet is written in two parts.
+/// of an input becomes is a few times as long at most, so that no packet is written in two parts.
 const AWAITED_BUFFER: usize = 1_048_576;
 
 /// How many bytes of a listing are read at most: one more than it may have, by which a longer one
 /// is known.
 const LISTING_ROOM: u64 = 1_048_577;
 
-/// An input as the job reads it, behind its buffer.
+/// An input as the job reads it, after its buffer.
 pub type Source<'a> = StdInput<Counted<'a, Opened>>;
 
-/// The output as the job writes it, behind its buffer.
+/// The output as the job writes it, after its buffer.
 pub type Target = StdOutput<Created>;
 
 /// The first bytes of the listing of this name. One that can't be read to its end can't be opened.

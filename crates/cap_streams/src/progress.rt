@@ -29,7 +29,7 @@ pub fn total_size(rt: &HostRuntime, names: &[String]) -> u64 {
 }
 
 /// Whether the output of this name is a file, be it a new one. What goes to standard output may
-/// come to the terminal, by a pipe too.
+/// reach the terminal, by a pipe too.
 fn is_file(rt: &HostRuntime, output: &str) -> bool {
     if output == STANDARD {
         return false;

@@ -9,7 +9,7 @@ const BYTES: Options = Options {
     bytes: true,
 };
 
-/// Whether what is printed of a packet over so many bytes ends with a row of one zero at 65,552;
+/// Whether what is printed of a packet over these bytes ends with a row of one zero at 65,552;
 /// none where the device fails.
 fn is_printed_in(
     alloc: Global,

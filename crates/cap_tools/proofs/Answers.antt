@@ -38,7 +38,7 @@ use Rattle.cap_print.specs.Rendering.{printed_text}
 use Rattle.cap_packets.specs.Outcome.{Form, AsCapture, AsLines, JobProgress, IsNextEvent, lines_text, no_progress, decide, decide_unless, apply_verdict, apply_event, apply_events, final_progress, packet_bytes, form_refuses, end_with, final_text, first_link, output_text}
 use Rattle.cap_packets.specs.Outcome as course_spec
 use Rattle.cap_packets.specs.Output.{JobOutputView, Target, Capture, Text, Lines, HasWritten, PutsIntoOutput, form_at, form_to, output_at, written_to, failures_to}
-use Rattle.cap_inputs.specs.Inputs.{InputView, InputsView, Future, InputPast, AreInputsBehind, AreSettled, IsInput, input_behind, actual_future, inputs_with, items_left, inputs_left, sequence_left, most_steps}
+use Rattle.cap_inputs.specs.Inputs.{InputView, InputsView, Future, InputPast, AreInputsAfter, AreSettled, IsInput, input_after_decided, actual_future, inputs_with, items_left, inputs_left, sequence_left, most_steps}
 use Rattle.cap_inputs.specs.Inputs as input_spec
 use Rattle.cap_tools.specs.Packets.{JobState, PacketsDecided, GoesOn, CompletesOutput, DecidesPacket, Offers, StopsWriting, NextPacket, EndLeaves, progress_at, progress_of, progress_over, output_form, wholes_of, work_of, written_by, end_of_failed_write, sieve}
 use Rattle.cap_tools.proofs.Places.{get-at}
@@ -127,15 +127,15 @@ is-next ss before cursors order policy state output decided e d ahead = record {
 }
 
 pub next-true : (us vs : List InputPast) (s : InputPast) (before : List ℕ) (xs ys : List InputView) (h : InputView) (order : PacketOrder) (turn : ℕ) (policy : Policy) (state : SelectorState) (output : JobOutputView) (decided : ℕ) (p : Captured)
-    → DecideLaws order turn xs ys h → AreInputsBehind us xs → At s h → AreInputsBehind vs ys → h.source.packet ≡ Some p
+    → DecideLaws order turn xs ys h → AreInputsAfter us xs → At s h → AreInputsAfter vs ys → h.source.packet ≡ Some p
     → (d : PacketsDecided (us ++ s ∷ vs) before (mk (xs ++ h ∷ ys) order policy state output decided))
     → Ahead (us ++ s ∷ vs) (xs ++ h ∷ ys) order d.events (Packet turn (record { offset = h.source.offset; packet = p }))
 next-true us vs s before xs ys h order turn policy state output decided p laws front at back held d =
-    let fits = true-fits (us ++ s ∷ vs) (xs ++ h ∷ ys) d.behind in
+    let fits = true-fits (us ++ s ∷ vs) (xs ++ h ∷ ys) d.following in
     record {
-      more = sequence_left order (xs ++ input_behind h ∷ ys) (inputs_left xs (map (λ (v : InputView). actual_future v.source) xs) ++ items_left (input_behind h) (actual_future h.source) ∷ inputs_left ys (map (λ (v : InputView). actual_future v.source) ys));
+      more = sequence_left order (xs ++ input_after_decided h ∷ ys) (inputs_left xs (map (λ (v : InputView). actual_future v.source) xs) ++ items_left (input_after_decided h) (actual_future h.source) ∷ inputs_left ys (map (λ (v : InputView). actual_future v.source) ys));
       is =
-          ap (sequence_of order) (sym (true-wholes (us ++ s ∷ vs) (xs ++ h ∷ ys) d.behind))
+          ap (sequence_of order) (sym (true-wholes (us ++ s ∷ vs) (xs ++ h ∷ ys) d.following))
           ∙ d.come (map (λ (v : InputView). actual_future v.source) (xs ++ h ∷ ys)) fits
           ∙ ap (λ (l : List Future). with_front d.events (sequence_left order (xs ++ h ∷ ys) (inputs_left (xs ++ h ∷ ys) l))) (map-append (λ (v : InputView). actual_future v.source) xs (h ∷ ys))
           ∙ ap (λ (l : List InputItems). with_front d.events (sequence_left order (xs ++ h ∷ ys) l)) (rests-join xs ys h (map (λ (v : InputView). actual_future v.source) xs) (map (λ (v : InputView). actual_future v.source) ys) (actual_future h.source) (true-fits us xs front))
@@ -163,10 +163,10 @@ counted-more n t t' within grows =
     (omega (arith, a, x), omega (arith, b, y), omega (arith, c, z))
 
 pub decided-goes : (us vs : List InputPast) (s : InputPast) (before : List ℕ) (xs ys : List InputView) (h : InputView) (order : PacketOrder) (turn : ℕ) (policy : Policy) (state state' : SelectorState) (output output' : JobOutputView) (decided : ℕ) (p : Captured)
-    → DecideLaws order turn xs ys h → AreInputsBehind us xs → At s h → AreInputsBehind vs ys → h.source.packet ≡ Some p → state'.passed ≤ decided + 1 → GrowsByOne state.tally state'.tally
+    → DecideLaws order turn xs ys h → AreInputsAfter us xs → At s h → AreInputsAfter vs ys → h.source.packet ≡ Some p → state'.passed ≤ decided + 1 → GrowsByOne state.tally state'.tally
     → (d : PacketsDecided (us ++ s ∷ vs) before (mk (xs ++ h ∷ ys) order policy state output decided))
     → Took policy (progress_at (mk (xs ++ h ∷ ys) order policy state output decided) d.packets d.reports) before turn (record { offset = h.source.offset; packet = p }) state' output output' false
-    → GoesOn d (mk (xs ++ input_behind h ∷ ys) order policy state' output' (decided + 1))
+    → GoesOn d (mk (xs ++ input_after_decided h ∷ ys) order policy state' output' (decided + 1))
 decided-goes us vs s before xs ys h order turn policy state state' output output' decided p laws front at back held within grows d t =
     let waits : h.waiting ≡ true = laws.waits in
     let x : Placed = record { offset = h.source.offset; packet = p } in
@@ -175,11 +175,11 @@ decided-goes us vs s before xs ys h order turn policy state state' output output
     let same : (was.waits refl).packet ≡ p = (let e : Some (was.waits refl).packet ≡ Some p = sym (was.waits refl).held ∙ held in cc) in
     let after : InputPast = record { text = s.text; done = s.done ++ h.source.block; packets = s.packets ++ x ∷ [] } in
     let A : Captured → Type 0 = λ q. IsAt s.text (s.done ++ h.source.block) (s.packets ++ record { offset = h.source.offset; packet = q } ∷ []) false h.source in
-    let here : At after (input_behind h) = subst A same (IsAt-decided s.text s.done s.packets h.source was).1 in
+    let here : At after (input_after_decided h) = subst A same (IsAt-decided s.text s.done s.packets h.source was).1 in
     let old : JobState = mk (xs ++ h ∷ ys) order policy state output decided in
-    let new : JobState = mk (xs ++ input_behind h ∷ ys) order policy state' output' (decided + 1) in
-    let behind : AreInputsBehind (us ++ after ∷ vs) new.inputs.cursors = stands-join us vs after xs ys (input_behind h) front here back in
-    let come : AreSettled (us ++ after ∷ vs) new.inputs (d.events ++ Packet turn x ∷ []) = come-on us vs s after xs ys h (input_behind h) order d.events (Packet turn x ∷ []) front d.come
+    let new : JobState = mk (xs ++ input_after_decided h ∷ ys) order policy state' output' (decided + 1) in
+    let following : AreInputsAfter (us ++ after ∷ vs) new.inputs.cursors = stands-join us vs after xs ys (input_after_decided h) front here back in
+    let come : AreSettled (us ++ after ∷ vs) new.inputs (d.events ++ Packet turn x ∷ []) = come-on us vs s after xs ys h (input_after_decided h) order d.events (Packet turn x ∷ []) front d.come
     (λ f' fit. carries-decided s xs ys h turn order h.source.block p waits held (λ f fit fs gs before with_front. laws.decided_left p held f fit fs gs before with_front) f' fit) in
     record {
       input = turn;
@@ -188,10 +188,10 @@ decided-goes us vs s before xs ys h order turn policy state state' output output
       past = us ++ after ∷ vs;
       past_is = sym (finish-here us vs s turn h.source.block (x ∷ []) (stands-length us xs front ∙ laws.here));
       decided = record {
-        behind = behind;
-        greatest = greatest-here us vs s after xs ys h (input_behind h) front d.greatest (greatest-decided h p h.source.offset s.packets held);
+        following = following;
+        greatest = greatest-here us vs s after xs ys h (input_after_decided h) front d.greatest (greatest-decided h p h.source.offset s.packets held);
         events = d.events ++ Packet turn x ∷ [];
-        first = come-first (us ++ after ∷ vs) new.inputs (d.events ++ Packet turn x ∷ []) behind come;
+        first = come-first (us ++ after ∷ vs) new.inputs (d.events ++ Packet turn x ∷ []) following come;
         come = come;
         packets = d.packets ++ t.passed;
         reports = d.reports;
@@ -211,7 +211,7 @@ decided-goes us vs s before xs ys h order turn policy state state' output output
       output = t.failures;
       names = t.names;
       order = refl;
-      limits = limits-at xs ys h (input_behind h) refl;
+      limits = limits-at xs ys h (input_after_decided h) refl;
     }
   where
     took-one : (q : Captured) → t.passed ≡ q ∷ [] → HasWritten before output' (d.packets ++ q ∷ []) d.reports
@@ -478,10 +478,10 @@ AnswerLeaves {ss} {before} {old} d i (Ok true) new failed = CompletesOutput (who
 AnswerLeaves {ss} {before} {old} d i (Err fault) new failed = EndLeaves d (end_of_failed_write i fault) failed
 
 answer-core : (us vs : List InputPast) (s : InputPast) (before : List ℕ) (xs ys : List InputView) (h : InputView) (order : PacketOrder) (turn : ℕ) (policy : Policy) (state state' : SelectorState) (output output' : JobOutputView) (decided : ℕ) (p : Captured) (r : Result Bool Fault)
-    → DecideLaws order turn xs ys h → input_spec.IsNext (inputs_at order (xs ++ h ∷ ys)) (next.Decide turn) → AreInputsBehind us xs → At s h → AreInputsBehind vs ys → h.source.packet ≡ Some p → state'.passed ≤ decided + 1 → GrowsByOne state.tally state'.tally
+    → DecideLaws order turn xs ys h → input_spec.IsNext (inputs_at order (xs ++ h ∷ ys)) (next.Decide turn) → AreInputsAfter us xs → At s h → AreInputsAfter vs ys → h.source.packet ≡ Some p → state'.passed ≤ decided + 1 → GrowsByOne state.tally state'.tally
     → (d : PacketsDecided (us ++ s ∷ vs) before (mk (xs ++ h ∷ ys) order policy state output decided))
     → output'.names ≡ output.names → DecidesPacket (Some p) (decided + 1) (sieve (record { policy = policy; state = state }) output.target) r (sieve (record { policy = policy; state = state' }) output'.target)
-    → AnswerLeaves d turn r (mk (xs ++ input_behind h ∷ ys) order policy state' output' (decided + 1)) (mk (xs ++ h ∷ ys) order policy state' output' decided)
+    → AnswerLeaves d turn r (mk (xs ++ input_after_decided h ∷ ys) order policy state' output' (decided + 1)) (mk (xs ++ h ∷ ys) order policy state' output' decided)
 answer-core us vs s before xs ys h order turn policy state state' output output' decided p (Ok false) laws tells front at back held within grows d names decides =
     elim decides [
       | inl j ↦ decided-goes us vs s before xs ys h order turn policy state state' output output' decided p laws front at back held within grows d
@@ -563,15 +563,15 @@ pub answer-leaves : (ss : List InputPast) (before : List ℕ) (cursors : List In
     → output'.names ≡ output.names → input_spec.IsNext (inputs_at order cursors) (next.Decide i) → IsInput cursors i h → selector'.policy ≡ policy → (state.passed ≤ decided + 1 → selector'.state.passed ≤ decided + 1) → GrowsByOne state.tally selector'.state.tally → decided ≤ most_steps
     → (state.passed < decided + 1 → FitsTally state.tally → DecidesPacket h.source.packet (decided + 1) (sieve (record { policy = policy; state = state }) output.target) r (sieve selector' output'.target))
     → (d : PacketsDecided ss before (mk cursors order policy state output decided))
-    → AnswerLeaves d i r (mk (slice_set cursors i (input_behind h)) order policy selector'.state output' (decided + 1)) (mk cursors order policy selector'.state output' decided)
+    → AnswerLeaves d i r (mk (slice_set cursors i (input_after_decided h)) order policy selector'.state output' (decided + 1)) (mk cursors order policy selector'.state output' decided)
 answer-leaves ss before cursors order policy state output decided i r other selector' output' names tells among_other asks passes grows upper_bound decides d =
-    let at : DecideAt order cursors i = decide-at order ss cursors i tells d.behind in
+    let at : DecideAt order cursors i = decide-at order ss cursors i tells d.following in
     let among = at.among in
     let h = at.cursor in
     let same : other ≡ h = among-same cursors i other h among_other among in
     let D : List InputView → Type 0 = λ l. PacketsDecided ss before (mk l order policy state output decided) in
     let d' = subst D among.splits d in
-    let st = stands-split ss among.front among.back h d'.behind in
+    let st = stands-split ss among.front among.back h d'.following in
     let T : List InputView → Type 0 = λ l. input_spec.IsNext (inputs_at order l) (next.Decide i) in
     let W : Bool → Type 0 = λ b. IsAt st.here.text st.here.done st.here.packets b h.source in
     let was : IsAt st.here.text st.here.done st.here.packets true h.source = subst W at.laws.waits st.at in
@@ -581,15 +581,15 @@ answer-leaves ss before cursors order policy state output decided i r other sele
     let C' : Policy → Type 0 = λ k. DecidesPacket (Some has.packet) (decided + 1) (sieve (record { policy = policy; state = state }) output.target) r (sieve (record { policy = k; state = selector'.state }) output'.target) in
     let held : other.source.packet ≡ Some has.packet = ap (λ (v : InputView). v.source.packet) same ∙ has.held in
     let chosen = subst C' asks (subst C held (decides within (within-room decided state.tally upper_bound d.counted))) in
-    let cursors' : slice_set cursors i (input_behind h) ≡ among.front ++ input_behind h ∷ among.back = ap (λ (l : List InputView). slice_set l i (input_behind h)) among.splits ∙ set-here among.front among.back h (input_behind h) i among.place in
+    let cursors' : slice_set cursors i (input_after_decided h) ≡ among.front ++ input_after_decided h ∷ among.back = ap (λ (l : List InputView). slice_set l i (input_after_decided h)) among.splits ∙ set-here among.front among.back h (input_after_decided h) i among.place in
     let new : List InputView → JobState = λ l. mk l order policy selector'.state output' (decided + 1) in
     let failed : List InputView → JobState = λ l. mk l order policy selector'.state output' decided in
     let passes_on : selector'.state.passed ≤ decided + 1 = passes (let l = d.passed in omega (arith, l)) in
-    let core : (e : PacketsDecided (st.front ++ st.here ∷ st.back) before (mk (among.front ++ h ∷ among.back) order policy state output decided)) → AnswerLeaves e i r (new (among.front ++ input_behind h ∷ among.back)) (failed (among.front ++ h ∷ among.back)) = λ e.
-    answer-core st.front st.back st.here before among.front among.back h order i policy state selector'.state output output' decided has.packet r at.laws (subst T among.splits tells) st.before st.at st.behind has.held passes_on grows e names chosen in
-    let G : List InputPast → Type 0 = λ l. (e : PacketsDecided l before (mk (among.front ++ h ∷ among.back) order policy state output decided)) → AnswerLeaves e i r (new (among.front ++ input_behind h ∷ among.back)) (failed (among.front ++ h ∷ among.back)) in
-    let H : List InputView → Type 0 = λ l. (e : PacketsDecided ss before (mk l order policy state output decided)) → AnswerLeaves e i r (new (among.front ++ input_behind h ∷ among.back)) (failed l) in
+    let core : (e : PacketsDecided (st.front ++ st.here ∷ st.back) before (mk (among.front ++ h ∷ among.back) order policy state output decided)) → AnswerLeaves e i r (new (among.front ++ input_after_decided h ∷ among.back)) (failed (among.front ++ h ∷ among.back)) = λ e.
+    answer-core st.front st.back st.here before among.front among.back h order i policy state selector'.state output output' decided has.packet r at.laws (subst T among.splits tells) st.before st.at st.following has.held passes_on grows e names chosen in
+    let G : List InputPast → Type 0 = λ l. (e : PacketsDecided l before (mk (among.front ++ h ∷ among.back) order policy state output decided)) → AnswerLeaves e i r (new (among.front ++ input_after_decided h ∷ among.back)) (failed (among.front ++ h ∷ among.back)) in
+    let H : List InputView → Type 0 = λ l. (e : PacketsDecided ss before (mk l order policy state output decided)) → AnswerLeaves e i r (new (among.front ++ input_after_decided h ∷ among.back)) (failed l) in
     let I : List InputView → Type 0 = λ l. AnswerLeaves d i r (new l) (failed cursors) in
-    let J : InputView → Type 0 = λ v. AnswerLeaves d i r (new (slice_set cursors i (input_behind v))) (failed cursors) in
+    let J : InputView → Type 0 = λ v. AnswerLeaves d i r (new (slice_set cursors i (input_after_decided v))) (failed cursors) in
     let whole : H cursors = subst H (sym among.splits) (subst G (sym st.is) core) in
     subst J (sym same) (subst I (sym cursors') (whole d))

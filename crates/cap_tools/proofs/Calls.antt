@@ -37,7 +37,7 @@ use Rattle.cap_tools.specs.declared.step.JobEnd.{JobEnd}
 use Rattle.cap_tools.specs.declared.step.JobEnd.TheVariants as end
 use Rattle.cap_io.specs.Source.{SourceView}
 use Rattle.cap_tools.specs.Packets.{JobState, PacketsDecided, CompletesOutput, EndLeaves, EndsByCut, NextPacket, NextReport, NextClosing, StopsWriting, WantsMemory, asks_report, failures_by, output_form, progress_of, texts, wholes_of, work_of, written_by}
-use Rattle.cap_packets.specs.Outcome.{Form, Outcome, JobProgress, Work, IsNextEvent, apply_event, apply_verdict, closing_text, end_input, cut_at, decide, decide_unless, first_link, form_refuses, form_takes_memory, message, outcome, packet_bytes, progress_behind, report_bytes, status, text_behind, text_of_progress}
+use Rattle.cap_packets.specs.Outcome.{Form, Outcome, JobProgress, Work, IsNextEvent, apply_event, apply_verdict, closing_text, end_input, cut_at, decide, decide_unless, first_link, form_refuses, form_takes_memory, message, outcome, packet_bytes, job_progress_after, report_bytes, status, text_after, text_of_progress}
 use Rattle.cap_packets.specs.Output.{failures_to, form_to, target_at, written_to}
 use Rattle.cap_packets.specs.Reports.{name_at}
 use Rattle.cap_tools.specs.Run.{CommandRuns, HasCutInput, HasLackedMemory, HasLeft, HasLostOutput, IsNextAnswer, IsPolicy, IsWhyRefused, IsWork, by_end, by_event, ends, form_asked, input_cut, listing_answer, listing_outcome, next_judgement, no_memory, of_listing, of_packets, of_refusal, output_failed, packets_answer, refusal_outcome, whole_inputs}
@@ -165,13 +165,13 @@ report-adds InTurn (Filter rule count) form w i kind size asks = (cc)
 report-adds InTurn KeepAll form w i kind size asks = (cc)
 
 next-answer : (ss : List InputPast) (before : List ℕ) (old new : JobState) (bytes : List ℕ) (d : PacketsDecided ss before old) → NextPacket d new bytes ⊎ NextReport d new bytes ⊎ NextClosing d new bytes
-    → IsNextAnswer (work_of old) (wholes_of ss) (text_behind (work_of old) d.events) bytes
+    → IsNextAnswer (work_of old) (wholes_of ss) (text_after (work_of old) d.events) bytes
 next-answer ss before old new bytes d next =
     elim next [
       | inl packet ↦
           let x : Placed = record { offset = packet.cursor.source.offset; packet = packet.packet } in
           by_event d.events (Packet packet.input x) packet.comes refl
-          (behind-one (Packet packet.input x)
+          (following-one (Packet packet.input x)
           ∙ passes-adds form w packet.input x (judge old.policy old.state (old.decided + 1) packet.packet).verdict (judge old.policy old.state (old.decided + 1) packet.packet).state packet.passed packet.passes packet.taken
           ∙ joins (sym packet.bytes_are))
       | inr other ↦ elim other [
@@ -179,7 +179,7 @@ next-answer ss before old new bytes d next =
             let kind : Option Kind = kind_of report.fetches.source.declared in
             let size : ℕ = report.fetches.source.offset in
             by_event d.events (InputEnd report.input kind size) report.comes refl
-            (behind-one (InputEnd report.input kind size)
+            (following-one (InputEnd report.input kind size)
             ∙ report-adds old.inputs.order old.policy form w report.input kind size report.policy
             ∙ joins (sym report.bytes_are))
         | inr closing ↦ by_end d.events closing.comes refl (closing.bytes_are ∙ ap (λ (v : JobProgress). closing_text form (first_link (wholes_of ss)) v.packets) (sym d.progress))
@@ -192,10 +192,10 @@ next-answer ss before old new bytes d next =
     w : JobProgress
     w = progress_of d
 
-    behind-one : (e : Event) → text_behind (work_of old) (d.events ++ e ∷ []) ≡ text_of_progress form (apply_event old.policy form w e)
-    behind-one e = ap (text_of_progress form) (progress-next old.policy form d.events e w (apply_event old.policy form w e) d.progress refl)
+    following-one : (e : Event) → text_after (work_of old) (d.events ++ e ∷ []) ≡ text_of_progress form (apply_event old.policy form w e)
+    following-one e = ap (text_of_progress form) (progress-next old.policy form d.events e w (apply_event old.policy form w e) d.progress refl)
 
-    joins : {added : List ℕ} → added ≡ bytes → text_of_progress form w ++ added ≡ text_behind (work_of old) d.events ++ bytes
+    joins : {added : List ℕ} → added ≡ bytes → text_of_progress form w ++ added ≡ text_after (work_of old) d.events ++ bytes
     joins {added} is = ap (λ (l : List ℕ). text_of_progress form w ++ l) is ∙ ap (λ (v : JobProgress). text_of_progress form v ++ bytes) (sym d.progress)
 
 -- the inputs are as many as before
@@ -252,11 +252,11 @@ packets-run asked call first r b runs = by_end runs.end refl runs.leaves
     reported : {message : List ℕ} → text ≡ message → IsTold call.tells call.messages message r.messages
     reported {message} is = told-as call.tells first.err call.messages r.messages text message is b.err runs.exact
 
-    so-far : written_by old ≡ before ++ text_behind w d.events
+    so-far : written_by old ≡ before ++ text_after w d.events
     so-far =
         drained-text before old.output.names old.output.target d.packets d.reports d.output
         ∙ ap (λ (v : JobProgress). before ++ text_of_progress (output_form old) v) (sym d.progress)
-        ∙ ap (λ (v : Work). before ++ text_behind v d.events) work-is
+        ∙ ap (λ (v : Work). before ++ text_after v d.events) work-is
 
     unfailed : failures_by old ≡ call.output.failures
     unfailed = runs.progress.output ∙ b.failures
@@ -315,9 +315,9 @@ packets-run asked call first r b runs = by_end runs.end refl runs.leaves
         let L : List InputItems → Type 0 = λ l. IsNextEvent w l d.events e in
         let G : JobProgress → Type 0 = λ v. PassesAs (judge old.policy v.state (v.decided + 1) wants.packet.packet).verdict wants.kept in
         let F : JobProgress → Type 0 = λ v. form_refuses (output_form old) v.packets wants.kept ≡ None in
-        let R : Work → Type 0 = λ v. form_refuses v.form (progress_behind v d.events).packets wants.kept ≡ None in
+        let R : Work → Type 0 = λ v. form_refuses v.form (job_progress_after v d.events).packets wants.kept ≡ None in
         let M : JobProgress → Type 0 = λ v. form_takes_memory (output_form old) v.packets wants.kept ≡ true in
-        let T : Work → Type 0 = λ v. form_takes_memory v.form (progress_behind v d.events).packets wants.kept ≡ true in
+        let T : Work → Type 0 = λ v. form_takes_memory v.form (job_progress_after v d.events).packets wants.kept ≡ true in
         let J : Work → Type 0 = λ v. PassesAs (next_judgement v d.events wants.packet.packet).verdict wants.kept in
         record {
           events = d.events;
@@ -339,17 +339,17 @@ packets-run asked call first r b runs = by_end runs.end refl runs.leaves
     loses-output : runs.end ≡ end.OutputFailed → StopsWriting d runs.last → HasLostOutput asked call r
     loses-output is stops =
         let bytes : List ℕ = stops.bytes in
-        let V : Work → Type 0 = λ v. IsNextAnswer v (wholes_of runs.progress.past) (text_behind v d.events) bytes in
-        let L : List InputItems → Type 0 = λ l. IsNextAnswer w l (text_behind w d.events) bytes in
+        let V : Work → Type 0 = λ v. IsNextAnswer v (wholes_of runs.progress.past) (text_after v d.events) bytes in
+        let L : List InputItems → Type 0 = λ l. IsNextAnswer w l (text_after w d.events) bytes in
         let S : List ℕ → Type 0 = λ l. Stops l bytes (written_by runs.last) in
-        let R : List ℕ → Type 0 = λ l. Stops (before ++ text_behind w d.events) bytes l in
+        let R : List ℕ → Type 0 = λ l. Stops (before ++ text_after w d.events) bytes l in
         let count : length runs.last.inputs.cursors ≡ length call.inputs =
         same-count runs.progress.past before old runs.last bytes d stops.answer
         ∙ sym (length-map old.inputs.cursors (λ (h : InputView). limits_of h.source))
         ∙ ap length (runs.progress.limits ∙ b.limits)
         ∙ length-map call.inputs fresh_limits in
         record {
-          written = text_behind w d.events;
+          written = text_after w d.events;
           bytes = bytes;
           answer = packets_answer w b.work (subst L wholes-are (subst V work-is (next-answer runs.progress.past before old runs.last bytes d stops.answer)));
           stops = subst R (sym runs.written) (subst S so-far stops.stops);

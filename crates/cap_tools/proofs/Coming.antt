@@ -9,7 +9,7 @@ use Rattle.cap_io.specs.Position.{IsAt, pending}
 use Rattle.cap_io.proofs.Items.{items_from-stops}
 use Rattle.cap_io.proofs.Standing.{IsAt-items, items-begin, Advances-sound}
 use Rattle.cap_io.specs.Sequence.{InputItems, Event, Packet, InputEnd, FaultIn, Sequence, sequence_of, sequence_in_turn, input_sequence, with_front, whole_input, PacketOrder}
-use Rattle.cap_inputs.specs.Inputs.{InputView, InputsView, Future, InputPast, AreInputsBehind, AreFutures, AreSettled, actual_future, waiting_packets, packets_at, input_items, inputs_with, items_left, inputs_left, sequence_left, no_future, input_after, input_behind}
+use Rattle.cap_inputs.specs.Inputs.{InputView, InputsView, Future, InputPast, AreInputsAfter, AreFutures, AreSettled, actual_future, waiting_packets, packets_at, input_items, inputs_with, items_left, inputs_left, sequence_left, no_future, input_after, input_after_decided}
 use Rattle.cap_tools.specs.Packets.{wholes_of}
 use Rattle.cap_packets.specs.Outcome.{ComeFirst}
 use Rattle.cap_tools.proofs.Splits.{At, Fit, Carries}
@@ -68,16 +68,16 @@ pub hand_is : (s : SourceView) (p : Captured) → s.packet ≡ Some p → waitin
 hand_is s p is = ap (packets_at s.offset) is
 
 pub left-decided : (h : InputView) (turn : ℕ) (p : Captured) → h.waiting ≡ true → h.source.packet ≡ Some p → (f : Future) (rs qs : List InputItems) → length rs ≡ turn
-    → from_turn turn (rs ++ items_left h f ∷ qs) ≡ with_front (Packet turn (record { offset = h.source.offset; packet = p }) ∷ []) (from_turn turn (rs ++ items_left (input_behind h) f ∷ qs))
+    → from_turn turn (rs ++ items_left h f ∷ qs) ≡ with_front (Packet turn (record { offset = h.source.offset; packet = p }) ∷ []) (from_turn turn (rs ++ items_left (input_after_decided h) f ∷ qs))
 left-decided h turn p waits held f rs qs is =
     ap (λ (l : List Placed). from_turn turn (rs ++ record { greatest = h.greatest; items = after_packets l f.items; size = f.size } ∷ qs)) (ap (λ b. waiting_packets b h.source) waits ∙ hand_is h.source p held)
-    ∙ turn-next turn h.greatest (input_behind h).greatest (record { offset = h.source.offset; packet = p }) f.items f.size rs qs is
+    ∙ turn-next turn h.greatest (input_after_decided h).greatest (record { offset = h.source.offset; packet = p }) f.items f.size rs qs is
 
 pub carries-decided : (s : InputPast) (xs ys : List InputView) (h : InputView) (i : ℕ) (order : PacketOrder) (bytes : List ℕ) (p : Captured) → h.waiting ≡ true → h.source.packet ≡ Some p
     → ((f : Future) → Fit h f → (fs gs : List Future) → AreFutures xs fs → AreFutures ys gs
-    → sequence_left order (xs ++ h ∷ ys) (inputs_left xs fs ++ items_left h f ∷ inputs_left ys gs) ≡ with_front (Packet i (record { offset = h.source.offset; packet = p }) ∷ []) (sequence_left order (xs ++ input_behind h ∷ ys) (inputs_left xs fs ++ items_left (input_behind h) f ∷ inputs_left ys gs)))
-    → (f' : Future) → Fit (input_behind h) f'
-    → Carries s (record { text = s.text; done = s.done ++ bytes; packets = s.packets ++ record { offset = h.source.offset; packet = p } ∷ [] }) xs ys h (input_behind h) order (Packet i (record { offset = h.source.offset; packet = p }) ∷ []) f'
+    → sequence_left order (xs ++ h ∷ ys) (inputs_left xs fs ++ items_left h f ∷ inputs_left ys gs) ≡ with_front (Packet i (record { offset = h.source.offset; packet = p }) ∷ []) (sequence_left order (xs ++ input_after_decided h ∷ ys) (inputs_left xs fs ++ items_left (input_after_decided h) f ∷ inputs_left ys gs)))
+    → (f' : Future) → Fit (input_after_decided h) f'
+    → Carries s (record { text = s.text; done = s.done ++ bytes; packets = s.packets ++ record { offset = h.source.offset; packet = p } ∷ [] }) xs ys h (input_after_decided h) order (Packet i (record { offset = h.source.offset; packet = p }) ∷ []) f'
 carries-decided s xs ys h i order bytes p waits held lefts f' fit =
     let x : Placed = record { offset = h.source.offset; packet = p } in
     let hand : waiting_packets h.waiting h.source ≡ x ∷ [] = ap (λ b. waiting_packets b h.source) waits ∙ hand_is h.source p held in
@@ -159,7 +159,7 @@ true-whole s h at =
     ap (λ (i : Items). record { greatest = 0; items = i; size = (actual_future h.source).size }) (true-items s h at h.waiting refl)
     ∙ ap (λ n. record { greatest = 0; items = items s.text; size = n }) (true-size s h at)
 
-pub true-wholes : (ss : List InputPast) (hs : List InputView) → AreInputsBehind ss hs → inputs_with ss hs (map (λ (h : InputView). actual_future h.source) hs) ≡ wholes_of ss
+pub true-wholes : (ss : List InputPast) (hs : List InputView) → AreInputsAfter ss hs → inputs_with ss hs (map (λ (h : InputView). actual_future h.source) hs) ≡ wholes_of ss
 true-wholes [] [] st = refl
 true-wholes [] (h ∷ hs) st = absurd st
 true-wholes (s ∷ ss) [] st = absurd st
@@ -172,19 +172,19 @@ true-fit s h at e =
     ap (λ (i : Items). record { items = i; size = (actual_future h.source).size }) (items_from-stops h.source.declared (h.source.offset + length h.source.block) h.source.unread None stops)
     ∙ ap (λ n. record { items = no_items h.source.declared None 0; size = n }) (rw (over.block, over.unread) (simp (add-zero)))
 
-pub true-fits : (ss : List InputPast) (hs : List InputView) → AreInputsBehind ss hs → AreFutures hs (map (λ (h : InputView). actual_future h.source) hs)
+pub true-fits : (ss : List InputPast) (hs : List InputView) → AreInputsAfter ss hs → AreFutures hs (map (λ (h : InputView). actual_future h.source) hs)
 true-fits [] [] st = tt
 true-fits [] (h ∷ hs) st = absurd st
 true-fits (s ∷ ss) [] st = absurd st
 true-fits (s ∷ ss) (h ∷ hs) st = (true-fit s h st.0, true-fits ss hs st.1)
 
 -- what came is the first of the order of the whole inputs
-pub come-first : (ss : List InputPast) (inputs : InputsView) (es : List Event) → AreInputsBehind ss inputs.cursors → AreSettled ss inputs es → ComeFirst (sequence_of inputs.order (wholes_of ss)) es
-come-first ss inputs es behind come = record {
+pub come-first : (ss : List InputPast) (inputs : InputsView) (es : List Event) → AreInputsAfter ss inputs.cursors → AreSettled ss inputs es → ComeFirst (sequence_of inputs.order (wholes_of ss)) es
+come-first ss inputs es following come = record {
   later = sequence_left inputs.order inputs.cursors (inputs_left inputs.cursors (map (λ (h : InputView). actual_future h.source) inputs.cursors));
   is =
-      ap (sequence_of inputs.order) (sym (true-wholes ss inputs.cursors behind))
-      ∙ come (map (λ (h : InputView). actual_future h.source) inputs.cursors) (true-fits ss inputs.cursors behind);
+      ap (sequence_of inputs.order) (sym (true-wholes ss inputs.cursors following))
+      ∙ come (map (λ (h : InputView). actual_future h.source) inputs.cursors) (true-fits ss inputs.cursors following);
 }
 
 -- what an input finds that met no fault

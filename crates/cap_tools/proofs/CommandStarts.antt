@@ -81,7 +81,7 @@ first-keeps p q old r new some keeps = record {
 one-input : (n : ℕ) (other : Bool) → (nat_eq n 1 && other) ≡ true → n ≤ most_inputs
 one-input n other is = let one = eqb-true n 1 (and_parts (nat_eq n 1) other is).0 in omega (arith, one)
 
--- a proper command has at most so many inputs
+-- a proper command has at most a given number of inputs
 pub few-inputs : {Z : Type 0} (c : Command Z) (n : ℕ) → is_proper c n ≡ true → n ≤ most_inputs
 few-inputs (command.Edit edit) n is = one-input n (is_proper_edit edit) is
 few-inputs (command.Merge merge) n is = leb-true n most_inputs (and_parts (nat_le 1 n) (nat_le n most_inputs) is).1

@@ -20,7 +20,7 @@ use Rattle.cap_packets.specs.Selector as selecting
 use Rattle.cap_packets.specs.Selector.{PolicyState, IsWithin, with_empty_tally, is_count}
 use Rattle.cap_packets.specs.Outcome.{Form, AsReports, JobProgress, cut_at, no_progress, apply_events, final_progress, end_with, final_text, output_text, text_at_end, first_link}
 use Rattle.cap_packets.specs.Output.{JobOutputView, Target, Capture, Text, Lines, HasWritten, Reports, form_at, written_to, failures_to}
-use Rattle.cap_inputs.specs.Inputs.{InputView, InputsView, Future, InputPast, AreInputsBehind, AreSettled, IsInput, ReadsInput, IsNext, waiting_packets, input_after, actual_future, input_items, inputs_with, inputs_left, limits_of, sequence_left, is_in_turn}
+use Rattle.cap_inputs.specs.Inputs.{InputView, InputsView, Future, InputPast, AreInputsAfter, AreSettled, IsInput, ReadsInput, IsNext, waiting_packets, input_after, actual_future, input_items, inputs_with, inputs_left, limits_of, sequence_left, is_in_turn}
 use Rattle.cap_packets.specs.Reports.{report_text, reports_text}
 use Rattle.cap_tools.specs.Packets.{JobState, AppendsOnce, PacketsDecided, GoesOn, CompletesOutput, BreaksAt, WhyBroken, StopsWriting, StepLeaves, Closes, ClosesBy, asks_report, report_at, unless_failed, progress_at, progress_of, progress_over, output_form, failures_by, written_by, wholes_of, sieve}
 use Rattle.cap_tools.proofs.Places.{get-at}
@@ -52,7 +52,7 @@ among-same cursors i h h' a b =
 -- ---- a packet is found
 
 found-goes : (us vs : List InputPast) (s : InputPast) (before : List ℕ) (xs ys : List InputView) (h : InputView) (s' : SourceView) (order : PacketOrder) (turn : ℕ) (policy : Policy) (state : SelectorState) (output : JobOutputView) (decided : ℕ)
-    → ReadLaws order turn xs ys h → AreInputsBehind us xs → At s h → AreInputsBehind vs ys → Advances h.source.phase h.source (Ok true) s' → limits_of s' ≡ limits_of h.source
+    → ReadLaws order turn xs ys h → AreInputsAfter us xs → At s h → AreInputsAfter vs ys → Advances h.source.phase h.source (Ok true) s' → limits_of s' ≡ limits_of h.source
     → (d : PacketsDecided (us ++ s ∷ vs) before (mk (xs ++ h ∷ ys) order policy state output decided))
     → GoesOn d (mk (xs ++ input_after h (Ok true) s' ∷ ys) order policy state output decided)
 found-goes us vs s before xs ys h s' order turn policy state output decided laws front at back advances limits d =
@@ -64,7 +64,7 @@ found-goes us vs s before xs ys h s' order turn policy state output decided laws
     let here : At (record { text = s.text; done = s.done ++ found.passes.passed; packets = s.packets ++ [] }) (input_after h (Ok true) s') =
     rw same (IsAt-found s.text s.done s.packets h.source s' (subst P waits at) found) in
     let past : List InputPast = us ++ record { text = s.text; done = s.done ++ found.passes.passed; packets = s.packets ++ [] } ∷ vs in
-    let behind : AreInputsBehind past new.inputs.cursors = stands-join us vs (record { text = s.text; done = s.done ++ found.passes.passed; packets = s.packets ++ [] }) xs ys (input_after h (Ok true) s') front here back in
+    let following : AreInputsAfter past new.inputs.cursors = stands-join us vs (record { text = s.text; done = s.done ++ found.passes.passed; packets = s.packets ++ [] }) xs ys (input_after h (Ok true) s') front here back in
     let come : AreSettled past new.inputs (d.events ++ []) = come-on us vs s (record { text = s.text; done = s.done ++ found.passes.passed; packets = s.packets ++ [] }) xs ys h (input_after h (Ok true) s') order d.events [] front d.come
     (λ f' fit. carries-found s xs ys h s' order (laws.found_left (input_after h (Ok true) s') (λ e. (let p = found.phase in cc (e, p)))) waits advances found f') in
     record {
@@ -74,10 +74,10 @@ found-goes us vs s before xs ys h s' order turn policy state output decided laws
       past = past;
       past_is = sym (finish-here us vs s turn found.passes.passed [] (stands-length us xs front ∙ laws.here));
       decided = record {
-        behind = behind;
+        following = following;
         greatest = greatest-here us vs s (record { text = s.text; done = s.done ++ found.passes.passed; packets = s.packets ++ [] }) xs ys h (input_after h (Ok true) s') front d.greatest (greatest-same h.greatest s.packets);
         events = d.events ++ [];
-        first = come-first past new.inputs (d.events ++ []) behind come;
+        first = come-first past new.inputs (d.events ++ []) following come;
         come = come;
         packets = d.packets;
         reports = d.reports;
@@ -97,17 +97,17 @@ found-goes us vs s before xs ys h s' order turn policy state output decided laws
 
 -- ---- a clean end is met
 
--- the input behind its last bytes
+-- the input after its last bytes
 abbrev read-out : InputPast → List ℕ → InputPast
 read-out s bytes = record { text = s.text; done = s.done ++ bytes; packets = s.packets ++ [] }
 
 -- what holds of the inputs then
 record ReadOut (us vs : List InputPast) (s : InputPast) (xs ys : List InputView) (h' : InputView) (order : PacketOrder) (events : List Event) (bytes : List ℕ) : Type 0 where
-  pub behind : AreInputsBehind (us ++ read-out s bytes ∷ vs) (xs ++ h' ∷ ys)
+  pub following : AreInputsAfter (us ++ read-out s bytes ∷ vs) (xs ++ h' ∷ ys)
   pub come : AreSettled (us ++ read-out s bytes ∷ vs) (record { order = order; cursors = xs ++ h' ∷ ys }) events
 
 closed-out : (us vs : List InputPast) (s : InputPast) (before : List ℕ) (xs ys : List InputView) (h : InputView) (s' : SourceView) (order : PacketOrder) (turn : ℕ) (policy : Policy) (state : SelectorState) (output : JobOutputView) (decided : ℕ)
-    → (laws : ReadLaws order turn xs ys h) → AreInputsBehind us xs → At s h → AreInputsBehind vs ys → Advances h.source.phase h.source (Ok false) s' → (found : FindsEnd h.source s')
+    → (laws : ReadLaws order turn xs ys h) → AreInputsAfter us xs → At s h → AreInputsAfter vs ys → Advances h.source.phase h.source (Ok false) s' → (found : FindsEnd h.source s')
     → (d : PacketsDecided (us ++ s ∷ vs) before (mk (xs ++ h ∷ ys) order policy state output decided))
     → ReadOut us vs s xs ys (input_after h (Ok false) s') order (d.events ++ laws.closed_events (kind_of s'.declared) s'.offset) found.passes.passed
 closed-out us vs s before xs ys h s' order turn policy state output decided laws front at back advances found d =
@@ -118,14 +118,14 @@ closed-out us vs s before xs ys h s' order turn policy state output decided laws
     let here : At (read-out s found.passes.passed) (input_after h (Ok false) s') =
     rw same (IsAt-closed s.text s.done s.packets h.source s' (subst P waits at) found) in
     record {
-      behind = stands-join us vs (read-out s found.passes.passed) xs ys (input_after h (Ok false) s') front here back;
+      following = stands-join us vs (read-out s found.passes.passed) xs ys (input_after h (Ok false) s') front here back;
       come = come-on us vs s (read-out s found.passes.passed) xs ys h (input_after h (Ok false) s') order d.events es front d.come
           (λ f' fit. carries-closed s xs ys h s' order es (λ fs gs before with_front. laws.closed_left (input_after h (Ok false) s') found.phase s'.declared h.greatest s'.offset fs gs before with_front) waits advances found f' fit);
     }
 
 -- it goes on, with what closing the input makes of the progress
 closed-goes : (us vs : List InputPast) (s : InputPast) (before : List ℕ) (xs ys : List InputView) (h : InputView) (s' : SourceView) (order : PacketOrder) (turn : ℕ) (policy : Policy) (state : SelectorState) (output : JobOutputView) (decided : ℕ) (state' : SelectorState) (output' : JobOutputView) (reports : List Report)
-    → (laws : ReadLaws order turn xs ys h) → AreInputsBehind us xs → At s h → AreInputsBehind vs ys → Advances h.source.phase h.source (Ok false) s' → limits_of s' ≡ limits_of h.source
+    → (laws : ReadLaws order turn xs ys h) → AreInputsAfter us xs → At s h → AreInputsAfter vs ys → Advances h.source.phase h.source (Ok false) s' → limits_of s' ≡ limits_of h.source
     → (d : PacketsDecided (us ++ s ∷ vs) before (mk (xs ++ h ∷ ys) order policy state output decided))
     → closed_in order policy (progress_at (mk (xs ++ h ∷ ys) order policy state output decided) d.packets d.reports) turn (kind_of s'.declared) s'.offset
     ≡ record { decided = decided; state = state'; packets = d.packets; reports = reports; end = None }
@@ -144,10 +144,10 @@ closed-goes us vs s before xs ys h s' order turn policy state output decided sta
       past = us ++ read-out s found.passes.passed ∷ vs;
       past_is = sym (finish-here us vs s turn found.passes.passed [] (stands-length us xs front ∙ laws.here));
       decided = record {
-        behind = out.behind;
+        following = out.following;
         greatest = greatest-here us vs s (read-out s found.passes.passed) xs ys h (input_after h (Ok false) s') front d.greatest (greatest-same h.greatest s.packets);
         events = d.events ++ es;
-        first = come-first (us ++ read-out s found.passes.passed ∷ vs) (record { order = order; cursors = xs ++ input_after h (Ok false) s' ∷ ys }) (d.events ++ es) out.behind out.come;
+        first = come-first (us ++ read-out s found.passes.passed ∷ vs) (record { order = order; cursors = xs ++ input_after h (Ok false) s' ∷ ys }) (d.events ++ es) out.following out.come;
         come = out.come;
         packets = d.packets;
         reports = reports;
@@ -181,7 +181,7 @@ pub wholes_of-length : (us : List InputPast) → length (wholes_of us) ≡ lengt
 wholes_of-length [] = refl
 wholes_of-length (u ∷ us) = ap suc (wholes_of-length us)
 
--- what the output has where the job ends by a fault behind what is decided
+-- what the output has where the job ends by a fault after what is decided
 pub comes-broken : (ss : List InputPast) (before : List ℕ) (m : JobState) (rs : List InputItems) (d : PacketsDecided ss before m) (new : JobState) (input : ℕ) (fault : Fault) (offset : ℕ)
     → progress_over m rs ≡ end_with (progress_of d) (FaultIn input fault offset) → written_by new ≡ written_by m → failures_by new ≡ failures_by m
     → CompletesOutput rs d new (FaultIn input fault offset)
@@ -212,7 +212,7 @@ risen s h s' fault at steps is = by_phase h.source.phase refl steps
     by_phase (Failed other) e b = absurd (at.sound other e)
 
 pub broken-ends : (us vs : List InputPast) (s : InputPast) (before : List ℕ) (xs ys : List InputView) (h : InputView) (s' : SourceView) (fault : Fault) (order : PacketOrder) (turn : ℕ) (policy : Policy) (state : SelectorState) (output : JobOutputView) (decided : ℕ)
-    → ReadLaws order turn xs ys h → IsNext (inputs_at order (xs ++ h ∷ ys)) (next.Read turn) → AreInputsBehind us xs → At s h → AreInputsBehind vs ys → Advances h.source.phase h.source (Err fault) s'
+    → ReadLaws order turn xs ys h → IsNext (inputs_at order (xs ++ h ∷ ys)) (next.Read turn) → AreInputsAfter us xs → At s h → AreInputsAfter vs ys → Advances h.source.phase h.source (Err fault) s'
     → Steps h.source.phase h.source (Err fault) s'
     → (d : PacketsDecided (us ++ s ∷ vs) before (mk (xs ++ h ∷ ys) order policy state output decided))
     → WhyBroken d (mk (xs ++ input_after h (Err fault) s' ∷ ys) order policy state output decided) turn fault s'
@@ -312,7 +312,7 @@ in-turn ByTime policy is = (cc)
 
 -- the device failed at a report
 report-stops : (us vs : List InputPast) (s : InputPast) (before : List ℕ) (xs ys : List InputView) (h : InputView) (s' : SourceView) (order : PacketOrder) (turn : ℕ) (policy : Policy) (state : SelectorState) (names : List (List ℕ)) (target : Target) (decided : ℕ) (state' : SelectorState) (output' : JobOutputView) (fault : DeviceFault)
-    → (laws : ReadLaws order turn xs ys h) → IsNext (inputs_at order (xs ++ h ∷ ys)) (next.Read turn) → AreInputsBehind us xs → At s h → AreInputsBehind vs ys → Advances h.source.phase h.source (Ok false) s' → Steps h.source.phase h.source (Ok false) s'
+    → (laws : ReadLaws order turn xs ys h) → IsNext (inputs_at order (xs ++ h ∷ ys)) (next.Read turn) → AreInputsAfter us xs → At s h → AreInputsAfter vs ys → Advances h.source.phase h.source (Ok false) s' → Steps h.source.phase h.source (Ok false) s'
     → (d : PacketsDecided (us ++ s ∷ vs) before (mk (xs ++ h ∷ ys) order policy state (record { names = names; target = target }) decided))
     → asks_report order policy ≡ true
     → Reports (report_text names (report_at turn (input_after h (Ok false) s') state.tally)) target (Err fault) output'.target
@@ -336,8 +336,8 @@ report-stops us vs s before xs ys h s' order turn policy state names (Text bytes
     progress-append policy form no_progress d.events es ∙ ap (λ (v : JobProgress). apply_events policy form v es) d.progress
     ∙ laws.closed_way policy form w (kind_of s'.declared) s'.offset refl ∙ told-closed order policy w turn (kind_of s'.declared) s'.offset asks in
     let is : sequence_of order (wholes_of (us ++ s ∷ vs)) ≡ with_front (d.events ++ es) (sequence_left order hs' (inputs_left hs' fs)) =
-    ap (sequence_of order) (wholes_of-join us vs s ∙ sym (wholes_of-join us vs (read-out s found.passes.passed)) ∙ sym (true-wholes ss' hs' out.behind))
-    ∙ out.come fs (true-fits ss' hs' out.behind) in
+    ap (sequence_of order) (wholes_of-join us vs s ∙ sym (wholes_of-join us vs (read-out s found.passes.passed)) ∙ sym (true-wholes ss' hs' out.following))
+    ∙ out.come fs (true-fits ss' hs' out.following) in
     let all : JobProgress = final_progress policy form (sequence_of order (wholes_of (us ++ s ∷ vs))) in
     let grows : Grows w' all = course-grows policy form (sequence_of order (wholes_of (us ++ s ∷ vs))) (sequence_left order hs' (inputs_left hs' fs)) (d.events ++ es) w' is far in
     let ending : List ℕ = text_at_end all.end form (first_link (wholes_of (us ++ s ∷ vs))) all.packets in
@@ -377,7 +377,7 @@ report-stops us vs s before xs ys h s' order turn policy state names (Text bytes
     }
 
 closed-core : (us vs : List InputPast) (s : InputPast) (before : List ℕ) (xs ys : List InputView) (h : InputView) (s' : SourceView) (order : PacketOrder) (turn : ℕ) (policy : Policy) (state : SelectorState) (output : JobOutputView) (decided : ℕ) (r : Option JobEnd) (selector' : PolicyState) (output' : JobOutputView)
-    → (laws : ReadLaws order turn xs ys h) → IsNext (inputs_at order (xs ++ h ∷ ys)) (next.Read turn) → AreInputsBehind us xs → At s h → AreInputsBehind vs ys → Advances h.source.phase h.source (Ok false) s' → Steps h.source.phase h.source (Ok false) s'
+    → (laws : ReadLaws order turn xs ys h) → IsNext (inputs_at order (xs ++ h ∷ ys)) (next.Read turn) → AreInputsAfter us xs → At s h → AreInputsAfter vs ys → Advances h.source.phase h.source (Ok false) s' → Steps h.source.phase h.source (Ok false) s'
     → (d : PacketsDecided (us ++ s ∷ vs) before (mk (xs ++ h ∷ ys) order policy state output decided))
     → (b : Bool) → asks_report order policy ≡ b → ClosesBy b turn (input_after h (Ok false) s') (sieve (record { policy = policy; state = state }) output) r (sieve selector' output')
     → StepLeaves d r (mk (xs ++ input_after h (Ok false) s' ∷ ys) order policy selector'.state output' decided)
@@ -419,7 +419,7 @@ Follows (Ok false) inputs i selector old r selector' new = Closes inputs i (siev
 Follows (Err fault) inputs i selector old r selector' new = (selector' ≡ selector) × (new ≡ old)
 
 read_input-core : (us vs : List InputPast) (s : InputPast) (before : List ℕ) (xs ys : List InputView) (h : InputView) (s' : SourceView) (a : Result Bool Fault) (order : PacketOrder) (turn : ℕ) (policy : Policy) (state : SelectorState) (output : JobOutputView) (decided : ℕ) (r : Option JobEnd) (selector' : PolicyState) (output' : JobOutputView)
-    → ReadLaws order turn xs ys h → IsNext (inputs_at order (xs ++ h ∷ ys)) (next.Read turn) → AreInputsBehind us xs → At s h → AreInputsBehind vs ys → Advances h.source.phase h.source a s' → Steps h.source.phase h.source a s'
+    → ReadLaws order turn xs ys h → IsNext (inputs_at order (xs ++ h ∷ ys)) (next.Read turn) → AreInputsAfter us xs → At s h → AreInputsAfter vs ys → Advances h.source.phase h.source a s' → Steps h.source.phase h.source a s'
     → (d : PacketsDecided (us ++ s ∷ vs) before (mk (xs ++ h ∷ ys) order policy state output decided))
     → Follows a (record { order = order; cursors = xs ++ input_after h a s' ∷ ys }) turn (record { policy = policy; state = state }) output r selector' output'
     → FetchLeaves d turn a r (mk (xs ++ input_after h a s' ∷ ys) order policy selector'.state output' decided)
@@ -444,7 +444,7 @@ pub read_input-leaves : (ss : List InputPast) (before : List ℕ) (cursors : Lis
     → Follows a inputs' i (record { policy = policy; state = state }) output r selector' output'
     → FetchLeaves d i a r (mk inputs'.cursors inputs'.order policy selector'.state output' decided)
 read_input-leaves ss before cursors order policy state output decided i a inputs' r selector' output' tells fetches d follows =
-    let at : ReadAt order cursors i = read-at order ss cursors i tells d.behind in
+    let at : ReadAt order cursors i = read-at order ss cursors i tells d.following in
     let m = at.among in
     let h = at.cursor in
     let same : fetches.cursor ≡ h = among-same cursors i fetches.cursor h fetches.among m in
@@ -460,10 +460,10 @@ read_input-leaves ss before cursors order policy state output decided i a inputs
     let D : List InputView → Type 0 = λ l. PacketsDecided ss before (mk l order policy state output decided) in
     let T : List InputView → Type 0 = λ l. IsNext (inputs_at order l) (next.Read i) in
     let d' = subst D m.splits d in
-    let st = stands-split ss m.front m.back h d'.behind in
+    let st = stands-split ss m.front m.back h d'.following in
     let new : JobState = mk (m.front ++ h' ∷ m.back) order policy selector'.state output' decided in
     let core : (e : PacketsDecided (st.front ++ st.here ∷ st.back) before (mk (m.front ++ h ∷ m.back) order policy state output decided)) → FetchLeaves e i a r new = λ e.
-    read_input-core st.front st.back st.here before m.front m.back h fetches.source a order i policy state output decided r selector' output' at.laws (subst T m.splits tells) st.before st.at st.behind (subst A same fetches.advances) (subst S same fetches.steps) e (subst F feed'_is follows) in
+    read_input-core st.front st.back st.here before m.front m.back h fetches.source a order i policy state output decided r selector' output' at.laws (subst T m.splits tells) st.before st.at st.following (subst A same fetches.advances) (subst S same fetches.steps) e (subst F feed'_is follows) in
     let G : List InputPast → Type 0 = λ l. (e : PacketsDecided l before (mk (m.front ++ h ∷ m.back) order policy state output decided)) → FetchLeaves e i a r new in
     let H : List InputView → Type 0 = λ l. (e : PacketsDecided ss before (mk l order policy state output decided)) → FetchLeaves e i a r new in
     let N : InputsView → Type 0 = λ f. FetchLeaves d i a r (mk f.cursors f.order policy selector'.state output' decided) in

@@ -17,7 +17,7 @@ use Rattle.cap_io.specs.Sequence.{Event, InputItems, Complete, sequence_of, with
 use Rattle.cap_packets.specs.Verdict.{Policy, SelectorState}
 use Rattle.cap_packets.specs.Outcome.{Form, AsCapture, JobProgress, closing_text, final_progress, lines_text, end_with, final_text, first_link}
 use Rattle.cap_packets.specs.Output.{JobOutputView, Target, Capture, Text, Lines, HasWrittenTo, EndsOutput, form_at, form_to, written_to, failures_to}
-use Rattle.cap_inputs.specs.Inputs.{InputView, Future, InputPast, AreInputsBehind, IsNext, actual_future, first_declared_link, AllEnded}
+use Rattle.cap_inputs.specs.Inputs.{InputView, Future, InputPast, AreInputsAfter, IsNext, actual_future, first_declared_link, AllEnded}
 use Rattle.cap_packets.specs.Reports.{reports_text}
 use Rattle.cap_tools.specs.Packets.{JobState, PacketsDecided, CompletesOutput, StopsWriting, progress_at, progress_of, progress_over, wholes_of}
 use Rattle.cap_tools.proofs.Splits.{At}
@@ -30,9 +30,9 @@ use Rattle.cap_tools.proofs.Once.{once-closing}
 pub over-course : (ss : List InputPast) (before : List ℕ) (cursors : List InputView) (order : PacketOrder) (policy : Policy) (state : SelectorState) (output : JobOutputView) (decided : ℕ) → OverAt order cursors → (d : PacketsDecided ss before (mk cursors order policy state output decided))
     → final_progress policy (form_at output) (sequence_of order (wholes_of ss)) ≡ end_with (progress_at (mk cursors order policy state output decided) d.packets d.reports) Complete
 over-course ss before cursors order policy state output decided at d =
-    let fits = true-fits ss cursors d.behind in
+    let fits = true-fits ss cursors d.following in
     course-close policy (form_at output) (sequence_of order (wholes_of ss)) d.events (progress_at (mk cursors order policy state output decided) d.packets d.reports) Complete
-    (ap (sequence_of order) (sym (true-wholes ss cursors d.behind))
+    (ap (sequence_of order) (sym (true-wholes ss cursors d.following))
     ∙ d.come (map (λ (h : InputView). actual_future h.source) cursors) fits
     ∙ ap (with_front d.events) (at.over_left (map (λ (h : InputView). actual_future h.source) cursors) fits))
     d.progress refl
@@ -41,8 +41,8 @@ over-course ss before cursors order policy state output decided at d =
 over-all : (ss : List InputPast) (before : List ℕ) (cursors : List InputView) (order : PacketOrder) (policy : Policy) (state : SelectorState) (output : JobOutputView) (decided : ℕ) → OverAt order cursors → (d : PacketsDecided ss before (mk cursors order policy state output decided))
     → sequence_of order (wholes_of ss) ≡ record { events = d.events; end = Complete }
 over-all ss before cursors order policy state output decided at d =
-    let fits = true-fits ss cursors d.behind in
-    ap (sequence_of order) (sym (true-wholes ss cursors d.behind))
+    let fits = true-fits ss cursors d.following in
+    ap (sequence_of order) (sym (true-wholes ss cursors d.following))
     ∙ d.come (map (λ (h : InputView). actual_future h.source) cursors) fits
     ∙ ap (with_front d.events) (at.over_left (map (λ (h : InputView). actual_future h.source) cursors) fits)
     ∙ ap (λ (l : List Event). record { events = l; end = Complete }) (append-nil d.events)
@@ -52,7 +52,7 @@ declared-one s h at e =
     ap (λ (r : InputItems). first_link_of r.items.declared) (sym (true-whole s h at))
     ∙ ap (λ (f : Future). first_link_of f.items.declared) (true-fit s h at e)
 
-pub links : (ss : List InputPast) (hs : List InputView) → AreInputsBehind ss hs → AllEnded hs → first_link (wholes_of ss) ≡ first_declared_link hs
+pub links : (ss : List InputPast) (hs : List InputView) → AreInputsAfter ss hs → AllEnded hs → first_link (wholes_of ss) ≡ first_declared_link hs
 links [] [] st ended = refl
 links [] (h ∷ hs) st ended = absurd st
 links (s ∷ ss) [] st ended = absurd st
@@ -148,7 +148,7 @@ finish-leaves ss before cursors order policy state output decided (Ok done) new 
     let at : OverAt order cursors = over-at order cursors tells in
     let m : JobState = mk cursors order policy state output decided in
     let stop = over-course ss before cursors order policy state output decided at d in
-    let link = links ss cursors d.behind at.ended in
+    let link = links ss cursors d.following at.ended in
     let text_is : written_to new.output.target ≡ before ++ final_text (form_at output) (first_link (wholes_of ss)) (over m d.packets d.reports) =
     finish-text before output.names d.packets d.reports decided state output.target new.output.target (first_declared_link cursors) d.output finishes
     ∙ ap (λ (o : Option ℕ). before ++ final_text (form_at output) o (over m d.packets d.reports)) (sym link) in
@@ -162,4 +162,4 @@ finish-leaves ss before cursors order policy state output decided (Ok done) new 
 finish-leaves ss before cursors order policy state output decided (Err fault) new tells inputs finishes d =
     let at : OverAt order cursors = over-at order cursors tells in
     finish-stops ss before output.names output.target cursors order policy state decided fault new d
-    (over-course ss before cursors order policy state output decided at d) (over-all ss before cursors order policy state output decided at d) (links ss cursors d.behind at.ended) tells inputs finishes
+    (over-course ss before cursors order policy state output decided at d) (over-all ss before cursors order policy state output decided at d) (links ss cursors d.following at.ended) tells inputs finishes

@@ -10,7 +10,7 @@ use Rattle.cap_inputs.specs.declared.inputs.Next.TheVariants as next
 use Rattle.cap_io.specs.Sequence.{InputItems, Event, Packet, InputEnd, SequenceEnd, Complete, FaultIn, PacketOrder, InTurn, ByTime, with_front, sequence_in_turn, sequence_by_time, fault_without_packets, sequence_of_entries, sort_entries, all_entries, unless_fault}
 use Rattle.cap_packets.specs.Verdict.{Policy}
 use Rattle.cap_packets.specs.Outcome.{Form, JobProgress, apply_events, end_input, unless_ended}
-use Rattle.cap_inputs.specs.Inputs.{InputView, InputPast, Future, AreFutures, AreInputsBehind, AllEnded, AllReady, IsInput, IsNextIn, IsOpen, IsReady, KeysOver, KeysFrom, NoneEnded, NoneWaits, ended_count, input_behind, items_left, inputs_left, key_of, one_more_if_ended, sequence_left, packet_time}
+use Rattle.cap_inputs.specs.Inputs.{InputView, InputPast, Future, AreFutures, AreInputsAfter, AllEnded, AllReady, IsInput, IsNextIn, IsOpen, IsReady, KeysOver, KeysFrom, NoneEnded, NoneWaits, ended_count, input_after_decided, items_left, inputs_left, key_of, one_more_if_ended, sequence_left, packet_time}
 use Rattle.cap_tools.proofs.Splits.{At, Fit, fits-join, rests-join, rests-length}
 use Rattle.cap_tools.proofs.Coming.{from_turn, left-decided, turn-closes, turn-broken}
 use Rattle.cap_inputs.proofs.Order.{merged-broken}
@@ -29,16 +29,16 @@ ready-one s h at ready = by_waiting h.waiting refl ready
         waits_from has.packet is has.held (omega arith)
     by_waiting false is ready = elim ready [ inl w ↦ absurd (cc (w, is)) | inr e ↦ ended_from is e ]
 
-ready-front : (ss : List InputPast) (xs zs : List InputView) → AreInputsBehind ss (xs ++ zs) → AllReady xs → InputsFrom 0 xs
-ready-front ss [] zs behind ready = tt
-ready-front [] (x ∷ xs) zs behind ready = absurd behind
-ready-front (s ∷ ss) (x ∷ xs) zs behind ready = (ready-one s x behind.0 ready.0, ready-front ss xs zs behind.1 ready.1)
+ready-front : (ss : List InputPast) (xs zs : List InputView) → AreInputsAfter ss (xs ++ zs) → AllReady xs → InputsFrom 0 xs
+ready-front ss [] zs following ready = tt
+ready-front [] (x ∷ xs) zs following ready = absurd following
+ready-front (s ∷ ss) (x ∷ xs) zs following ready = (ready-one s x following.0 ready.0, ready-front ss xs zs following.1 ready.1)
 
-all-ready : (ss : List InputPast) (hs : List InputView) → AreInputsBehind ss hs → AllReady hs → InputsFrom 0 hs
-all-ready [] [] behind ready = tt
-all-ready [] (h ∷ hs) behind ready = absurd behind
-all-ready (s ∷ ss) [] behind ready = tt
-all-ready (s ∷ ss) (h ∷ hs) behind ready = (ready-one s h behind.0 ready.0, all-ready ss hs behind.1 ready.1)
+all-ready : (ss : List InputPast) (hs : List InputView) → AreInputsAfter ss hs → AllReady hs → InputsFrom 0 hs
+all-ready [] [] following ready = tt
+all-ready [] (h ∷ hs) following ready = absurd following
+all-ready (s ∷ ss) [] following ready = tt
+all-ready (s ∷ ss) (h ∷ hs) following ready = (ready-one s h following.0 ready.0, all-ready ss hs following.1 ready.1)
 
 -- ---- how many inputs are at their ends
 
@@ -83,11 +83,11 @@ from-of k (h ∷ hs) from ready = (one from.0 ready.0, from-of k hs from.1 ready
 
 pub record ReadyAt (xs ys : List InputView) : Type 0 where
   pub before : InputsFrom 0 xs
-  pub behind : InputsFrom 0 ys
+  pub following : InputsFrom 0 ys
 
 ready-split : (xs ys : List InputView) (h : InputView) → InputsFrom 0 (xs ++ h ∷ ys) → ReadyAt xs ys
-ready-split [] ys h ready = record { before = tt; behind = ready.1 }
-ready-split (x ∷ xs) ys h ready = let more = ready-split xs ys h ready.1 in record { before = (ready.0, more.before); behind = more.behind }
+ready-split [] ys h ready = record { before = tt; following = ready.1 }
+ready-split (x ∷ xs) ys h ready = let more = ready-split xs ys h ready.1 in record { before = (ready.0, more.before); following = more.following }
 
 -- ---- an input is read on
 
@@ -154,14 +154,14 @@ pub record ReadAt (order : PacketOrder) (cursors : List InputView) (i : ℕ) : T
   pub among : IsInput cursors i cursor
   pub laws : ReadLaws order i among.front among.back cursor
 
-pub read-at : (order : PacketOrder) (ss : List InputPast) (cursors : List InputView) (i : ℕ) → IsNextIn order cursors (next.Read i) → AreInputsBehind ss cursors → ReadAt order cursors i
-read-at InTurn ss cursors i tells behind =
+pub read-at : (order : PacketOrder) (ss : List InputPast) (cursors : List InputView) (i : ℕ) → IsNextIn order cursors (next.Read i) → AreInputsAfter ss cursors → ReadAt order cursors i
+read-at InTurn ss cursors i tells following =
     let a = tells.among in
     record { cursor = tells.cursor; among = a; laws = turn-reads i a.front a.back tells.cursor a.place tells.waits tells.unended tells.front tells.back }
-read-at ByTime ss cursors i tells behind =
+read-at ByTime ss cursors i tells following =
     let a = tells.among in
-    let P : List InputView → Type 0 = λ l. AreInputsBehind ss l in
-    record { cursor = tells.cursor; among = a; laws = merge-reads i a.front a.back tells.cursor a.place tells.waits (ready-front ss a.front (tells.cursor ∷ a.back) (subst P a.splits behind) tells.front) }
+    let P : List InputView → Type 0 = λ l. AreInputsAfter ss l in
+    record { cursor = tells.cursor; among = a; laws = merge-reads i a.front a.back tells.cursor a.place tells.waits (ready-front ss a.front (tells.cursor ∷ a.back) (subst P a.splits following) tells.front) }
 
 -- ---- the current packet is decided
 
@@ -169,7 +169,7 @@ pub record DecideLaws (order : PacketOrder) (i : ℕ) (xs ys : List InputView) (
   pub here : length xs ≡ i
   pub waits : h.waiting ≡ true
   pub decided_left : (p : Captured) → h.source.packet ≡ Some p → (f : Future) → Fit h f → (fs gs : List Future) → AreFutures xs fs → AreFutures ys gs
-      → sequence_left order (xs ++ h ∷ ys) (inputs_left xs fs ++ items_left h f ∷ inputs_left ys gs) ≡ with_front (Packet i (record { offset = h.source.offset; packet = p }) ∷ []) (sequence_left order (xs ++ input_behind h ∷ ys) (inputs_left xs fs ++ items_left (input_behind h) f ∷ inputs_left ys gs))
+      → sequence_left order (xs ++ h ∷ ys) (inputs_left xs fs ++ items_left h f ∷ inputs_left ys gs) ≡ with_front (Packet i (record { offset = h.source.offset; packet = p }) ∷ []) (sequence_left order (xs ++ input_after_decided h ∷ ys) (inputs_left xs fs ++ items_left (input_after_decided h) f ∷ inputs_left ys gs))
 
 turn-decides : (i : ℕ) (xs ys : List InputView) (h : InputView) → length xs ≡ i → h.waiting ≡ true → IsOpen h → AllEnded xs → DecideLaws InTurn i xs ys h
 turn-decides i xs ys h here waits on ended = record {
@@ -177,24 +177,24 @@ turn-decides i xs ys h here waits on ended = record {
   waits = waits;
   decided_left = λ p held f fit fs gs before with_back.
       let rs : List InputItems = inputs_left xs fs ++ items_left h f ∷ inputs_left ys gs in
-      let rs' : List InputItems = inputs_left xs fs ++ items_left (input_behind h) f ∷ inputs_left ys gs in
+      let rs' : List InputItems = inputs_left xs fs ++ items_left (input_after_decided h) f ∷ inputs_left ys gs in
       ap (λ n. from_turn n rs) (count-open xs ys h ended on ∙ here)
       ∙ left-decided h i p waits held f (inputs_left xs fs) (inputs_left ys gs) (rests-length xs fs before ∙ here)
-      ∙ ap (λ n. with_front (Packet i (record { offset = h.source.offset; packet = p }) ∷ []) (from_turn n rs')) (sym (count-open xs ys (input_behind h) ended on ∙ here));
+      ∙ ap (λ n. with_front (Packet i (record { offset = h.source.offset; packet = p }) ∷ []) (from_turn n rs')) (sym (count-open xs ys (input_after_decided h) ended on ∙ here));
 }
 
 merge-left : (i : ℕ) (xs ys : List InputView) (h : InputView) → length xs ≡ i → h.waiting ≡ true → InputsFrom 0 (xs ++ h ∷ ys) → KeysOver (key_of h) xs → KeysFrom (key_of h) ys
     → (p : Captured) → h.source.packet ≡ Some p → (f : Future) → Fit h f → (fs gs : List Future) → AreFutures xs fs → AreFutures ys gs
-    → sequence_by_time (inputs_left xs fs ++ items_left h f ∷ inputs_left ys gs) ≡ with_front (Packet i (record { offset = h.source.offset; packet = p }) ∷ []) (sequence_by_time (inputs_left xs fs ++ items_left (input_behind h) f ∷ inputs_left ys gs))
-merge-left i xs ys h here waits ready over from p held f fit fs gs before behind_fits =
+    → sequence_by_time (inputs_left xs fs ++ items_left h f ∷ inputs_left ys gs) ≡ with_front (Packet i (record { offset = h.source.offset; packet = p }) ∷ []) (sequence_by_time (inputs_left xs fs ++ items_left (input_after_decided h) f ∷ inputs_left ys gs))
+merge-left i xs ys h here waits ready over from p held f fit fs gs before after_fits =
     let r = ready-split xs ys h ready in
     let key : key_of h ≡ max h.greatest p.time = ap (λ (o : Option Captured). max h.greatest (packet_time o)) held in
     let O : ℕ → Type 0 = λ k. InputsOver k xs in
     let F : ℕ → Type 0 = λ k. InputsFrom k ys in
     let B : List InputItems → Type 0 = λ l. fault_without_packets 0 l ≡ Complete in
-    merge-decides xs ys h p fs gs f waits held (subst O key (over-of (key_of h) xs over r.before)) (subst F key (from-of (key_of h) ys from r.behind)) before behind_fits
-    (subst B (rests-join xs ys h fs gs f before) (none-broken 0 0 (xs ++ h ∷ ys) (fs ++ f ∷ gs) ready (fits-join xs ys h fs gs f before fit behind_fits)))
-    ∙ ap (λ n. with_front (Packet n (record { offset = h.source.offset; packet = p }) ∷ []) (sequence_by_time (inputs_left xs fs ++ items_left (input_behind h) f ∷ inputs_left ys gs))) (rests-length xs fs before ∙ here)
+    merge-decides xs ys h p fs gs f waits held (subst O key (over-of (key_of h) xs over r.before)) (subst F key (from-of (key_of h) ys from r.following)) before after_fits
+    (subst B (rests-join xs ys h fs gs f before) (none-broken 0 0 (xs ++ h ∷ ys) (fs ++ f ∷ gs) ready (fits-join xs ys h fs gs f before fit after_fits)))
+    ∙ ap (λ n. with_front (Packet n (record { offset = h.source.offset; packet = p }) ∷ []) (sequence_by_time (inputs_left xs fs ++ items_left (input_after_decided h) f ∷ inputs_left ys gs))) (rests-length xs fs before ∙ here)
 
 merge-decide-laws : (i : ℕ) (xs ys : List InputView) (h : InputView) → length xs ≡ i → h.waiting ≡ true → InputsFrom 0 (xs ++ h ∷ ys) → KeysOver (key_of h) xs → KeysFrom (key_of h) ys → DecideLaws ByTime i xs ys h
 merge-decide-laws i xs ys h here waits ready over from = record {
@@ -208,15 +208,15 @@ pub record DecideAt (order : PacketOrder) (cursors : List InputView) (i : ℕ) :
   pub among : IsInput cursors i cursor
   pub laws : DecideLaws order i among.front among.back cursor
 
-pub decide-at : (order : PacketOrder) (ss : List InputPast) (cursors : List InputView) (i : ℕ) → IsNextIn order cursors (next.Decide i) → AreInputsBehind ss cursors → DecideAt order cursors i
-decide-at InTurn ss cursors i tells behind =
+pub decide-at : (order : PacketOrder) (ss : List InputPast) (cursors : List InputView) (i : ℕ) → IsNextIn order cursors (next.Decide i) → AreInputsAfter ss cursors → DecideAt order cursors i
+decide-at InTurn ss cursors i tells following =
     let a = tells.among in
     record { cursor = tells.cursor; among = a; laws = turn-decides i a.front a.back tells.cursor a.place tells.waits tells.unended tells.front }
-decide-at ByTime ss cursors i tells behind =
+decide-at ByTime ss cursors i tells following =
     let l = tells.1 in
     let a = l.among in
     let P : List InputView → Type 0 = λ v. InputsFrom 0 v in
-    record { cursor = l.cursor; among = a; laws = merge-decide-laws i a.front a.back l.cursor a.place l.waits (subst P a.splits (all-ready ss cursors behind tells.0)) l.over l.from }
+    record { cursor = l.cursor; among = a; laws = merge-decide-laws i a.front a.back l.cursor a.place l.waits (subst P a.splits (all-ready ss cursors following tells.0)) l.over l.from }
 
 -- ---- nothing is left
 

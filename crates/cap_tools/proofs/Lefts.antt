@@ -6,7 +6,7 @@ use Rattle.cap_octet.specs.declared.fault.Fault.{Fault}
 use Rattle.cap_io.specs.Source.{SourceView, Phase, Reading, Ended, Failed, Steps, end_offset, phase_after}
 use Rattle.cap_io.specs.Sequence.{PacketOrder, InTurn, ByTime}
 use Rattle.cap_inputs.specs.declared.inputs.Next.TheVariants as next
-use Rattle.cap_inputs.specs.Inputs.{InputView, InputsView, IsInput, IsNext, IsNextIn, IsOpen, MarksDecided, ReadSteps, input_after, input_behind, input_steps_left, is_packet_found, owed_by, steps_left, steps_left_in, steps_owed, with_cursor}
+use Rattle.cap_inputs.specs.Inputs.{InputView, InputsView, IsInput, IsNext, IsNextIn, IsOpen, MarksDecided, ReadSteps, input_after, input_after_decided, input_steps_left, is_packet_found, owed_by, steps_left, steps_left_in, steps_owed, with_cursor}
 use Rattle.cap_inputs.proofs.Cursors.{set-here}
 use Rattle.cap_tools.specs.Bounds.{IsPaid, most_turns, steps_owed_in_all, owed_in, reads_of}
 use Rattle.cap_tools.proofs.Fetches.{among-same}
@@ -76,24 +76,24 @@ pub to-decide : (order : PacketOrder) (cursors : List InputView) (i : ℕ) (h : 
 to-decide InTurn cursors i h tells a = ap (λ (v : InputView). v.waiting) (among-same cursors i h tells.cursor a tells.among) ∙ tells.waits
 to-decide ByTime cursors i h tells a = ap (λ (v : InputView). v.waiting) (among-same cursors i h tells.1.cursor a tells.1.among) ∙ tells.1.waits
 
--- behind its packet it owes at most one step
-behind-owes : (p : Phase) → steps_owed false p ≤ 1
-behind-owes Reading = omega arith
-behind-owes Ended = omega arith
-behind-owes (Failed fault) = omega arith
+-- after its packet it owes at most one step
+following-owes : (p : Phase) → steps_owed false p ≤ 1
+following-owes Reading = omega arith
+following-owes Ended = omega arith
+following-owes (Failed fault) = omega arith
 
 -- ---- a packet is decided
 
 record Decided (inputs inputs' : InputsView) (i : ℕ) (s : MarksDecided inputs i inputs') : Type 0 where
-  one : Exchanged inputs.cursors (slice_set inputs.cursors i (input_behind s.cursor)) s.cursor (input_behind s.cursor)
+  one : Exchanged inputs.cursors (slice_set inputs.cursors i (input_after_decided s.cursor)) s.cursor (input_after_decided s.cursor)
   owed_two : owed_by s.cursor ≡ 2
-  owes : owed_by (input_behind s.cursor) ≤ 1
+  owes : owed_by (input_after_decided s.cursor) ≤ 1
 
 decided : (inputs inputs' : InputsView) (i : ℕ) → IsNext inputs (next.Decide i) → (s : MarksDecided inputs i inputs') → Decided inputs inputs' i s
 decided inputs inputs' i tells s = record {
-  one = exchanged inputs.cursors i s.cursor (input_behind s.cursor) s.among;
+  one = exchanged inputs.cursors i s.cursor (input_after_decided s.cursor) s.among;
   owed_two = ap (λ (b : Bool). steps_owed b s.cursor.source.phase) (to-decide inputs.order inputs.cursors i s.cursor tells s.among);
-  owes = behind-owes s.cursor.source.phase;
+  owes = following-owes s.cursor.source.phase;
 }
 
 pub mark_decided-less : (inputs inputs' : InputsView) (i : ℕ) → IsNext inputs (next.Decide i) → MarksDecided inputs i inputs' → steps_left inputs' < steps_left inputs
@@ -102,7 +102,7 @@ mark_decided-less inputs inputs' i tells s =
     let left = d.one.left in
     let two = d.owed_two in
     let most = d.owes in
-    let new : steps_left inputs' ≡ steps_left_in (slice_set inputs.cursors i (input_behind s.cursor)) = ap steps_left s.is in
+    let new : steps_left inputs' ≡ steps_left_in (slice_set inputs.cursors i (input_after_decided s.cursor)) = ap steps_left s.is in
     omega (arith, left, two, most, new)
 
 pub mark_decided-paid : (inputs inputs' : InputsView) (i : ℕ) → IsNext inputs (next.Decide i) → MarksDecided inputs i inputs' → IsPaid inputs inputs'
@@ -113,8 +113,8 @@ mark_decided-paid inputs inputs' i tells s =
     let count = d.one.count in
     let two = d.owed_two in
     let most = d.owes in
-    let owes' : steps_owed_in_all inputs' ≡ owed_in (slice_set inputs.cursors i (input_behind s.cursor)) = ap steps_owed_in_all s.is in
-    let turns' : most_turns inputs' ≡ 2 * reads_of (slice_set inputs.cursors i (input_behind s.cursor)) + length (slice_set inputs.cursors i (input_behind s.cursor)) + 1 = ap most_turns s.is in
+    let owes' : steps_owed_in_all inputs' ≡ owed_in (slice_set inputs.cursors i (input_after_decided s.cursor)) = ap steps_owed_in_all s.is in
+    let turns' : most_turns inputs' ≡ 2 * reads_of (slice_set inputs.cursors i (input_after_decided s.cursor)) + length (slice_set inputs.cursors i (input_after_decided s.cursor)) + 1 = ap most_turns s.is in
     omega (arith, owes, reads, count, two, most, owes', turns')
 
 -- ---- an input is read on

@@ -4,7 +4,7 @@ use Rattle.cap_octet.specs.Packet.{Captured}
 use Rattle.cap_io.specs.Capture.{Placed, Items, after_packets}
 use Rattle.cap_io.specs.Source.{Ended}
 use Rattle.cap_io.specs.Sequence.{Packet, SequenceEnd, Complete, with_front, end_at, first_end, fault_without_packets, sequence_by_time}
-use Rattle.cap_inputs.specs.Inputs.{InputView, Future, AreFutures, waiting_packets, items_left, inputs_left, no_future, input_behind}
+use Rattle.cap_inputs.specs.Inputs.{InputView, Future, AreFutures, waiting_packets, items_left, inputs_left, no_future, input_after_decided}
 use Rattle.cap_tools.proofs.Splits.{Fit}
 use Rattle.cap_tools.proofs.Coming.{hand_is}
 use Rattle.cap_inputs.proofs.Order.{IsOver, IsFrom, AllOver, AllFrom, merged-next}
@@ -69,10 +69,10 @@ none-broken k n (h ∷ hs) (f ∷ fs) from fits = ap (λ (c : SequenceEnd). firs
 -- the input with the least key, the lowest input of those, is decided: whatever comes, its packet is next
 pub merge-decides : (xs ys : List InputView) (h : InputView) (p : Captured) (fs gs : List Future) (f : Future) → h.waiting ≡ true → h.source.packet ≡ Some p
     → InputsOver (max h.greatest p.time) xs → InputsFrom (max h.greatest p.time) ys → AreFutures xs fs → AreFutures ys gs → fault_without_packets 0 (inputs_left xs fs ++ items_left h f ∷ inputs_left ys gs) ≡ Complete
-    → sequence_by_time (inputs_left xs fs ++ items_left h f ∷ inputs_left ys gs) ≡ with_front (Packet (length (inputs_left xs fs)) (first_is h p) ∷ []) (sequence_by_time (inputs_left xs fs ++ items_left (input_behind h) f ∷ inputs_left ys gs))
+    → sequence_by_time (inputs_left xs fs ++ items_left h f ∷ inputs_left ys gs) ≡ with_front (Packet (length (inputs_left xs fs)) (first_is h p) ∷ []) (sequence_by_time (inputs_left xs fs ++ items_left (input_after_decided h) f ∷ inputs_left ys gs))
 merge-decides xs ys h p fs gs f waits held over from fits_x fits_y whole =
     let is = waiting-rest h p f waits held in
-    let key : max h.greatest p.time ≡ (input_behind h).greatest = rw held refl in
+    let key : max h.greatest p.time ≡ (input_after_decided h).greatest = rw held refl in
     merged-next (inputs_left xs fs) (inputs_left ys gs) h.greatest (first_is h p) (items_left h f).items f.items.packets f.size (ap (λ (i : Items). i.packets) is) whole
     (all-over (max h.greatest p.time) xs fs over fits_x) (all-from (max h.greatest p.time) ys gs from fits_y)
     ∙ ap (λ (i : Items). with_front (Packet (length (inputs_left xs fs)) (first_is h p) ∷ []) (sequence_by_time (inputs_left xs fs ++ record { greatest = max h.greatest p.time; items = record { packets = f.items.packets; declared = i.declared; ending = i.ending }; size = f.size } ∷ inputs_left ys gs))) is

@@ -18,7 +18,7 @@ once-nothing link far next old new packets reports same = record {
   one = nothing packets reports refl;
 }
 
--- what is written behind the text of these packets and reports is appended
+-- what is written after the text of these packets and reports is appended
 appended : (before : List ℕ) (old new : JobOutputView) (ps : List Captured) (rs : List Report) (bytes : List ℕ) → HasWritten before old ps rs
     → written_to new.target ≡ before ++ (output_text (form_at old) ps rs ++ bytes) → written_to new.target ≡ written_to old.target ++ bytes
 appended before old new ps rs bytes has is =

@@ -22,7 +22,7 @@ pub record IsUnderWay (ss : List InputPast) (before : List ℕ) (first j : JobVi
   -- what is known of the inputs' devices when the job begins holds of them
   pub limits : device_limits j.state.inputs.cursors ≡ device_limits first.state.inputs.cursors
 
--- The last step ended the job in one way, behind steps that went on. The output and the messages'
+-- The last step ended the job in one way, after steps that went on. The output and the messages'
 -- device are handed back as that step left them.
 pub record JobRuns (ss : List InputPast) (before : List ℕ) (tells : Bool) (first : JobView)
     (r : RunResult) : Type 0 where

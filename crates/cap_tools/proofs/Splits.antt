@@ -4,7 +4,7 @@ use Rattle.cap_io.specs.Capture.{Placed}
 use Rattle.cap_io.specs.Source.{Ended}
 use Rattle.cap_io.specs.Position.{IsAt}
 use Rattle.cap_io.specs.Sequence.{InputItems, Event, sequence_of, with_front, PacketOrder}
-use Rattle.cap_inputs.specs.Inputs.{InputView, Future, InputPast, AreInputsBehind, AreFutures, AreSettled, input_items, inputs_with, items_left, inputs_left, no_future, sequence_left}
+use Rattle.cap_inputs.specs.Inputs.{InputView, Future, InputPast, AreInputsAfter, AreFutures, AreSettled, input_items, inputs_with, items_left, inputs_left, no_future, sequence_left}
 use Rattle.cap_tools.specs.Packets.{finish_at}
 
 abbrev pub At : InputPast → InputView → Type 0
@@ -18,25 +18,25 @@ pub record Stands (ss : List InputPast) (xs : List InputView) (h : InputView) (y
   pub here : InputPast
   pub back : List InputPast
   pub is : ss ≡ front ++ here ∷ back
-  pub before : AreInputsBehind front xs
+  pub before : AreInputsAfter front xs
   pub at : At here h
-  pub behind : AreInputsBehind back ys
+  pub following : AreInputsAfter back ys
 
-pub stands-split : (ss : List InputPast) (xs ys : List InputView) (h : InputView) → AreInputsBehind ss (xs ++ h ∷ ys) → Stands ss xs h ys
+pub stands-split : (ss : List InputPast) (xs ys : List InputView) (h : InputView) → AreInputsAfter ss (xs ++ h ∷ ys) → Stands ss xs h ys
 stands-split [] [] ys h st = absurd st
 stands-split [] (x ∷ xs) ys h st = absurd st
-stands-split (s ∷ ss) [] ys h st = record { front = []; here = s; back = ss; is = refl; before = tt; at = st.0; behind = st.1 }
+stands-split (s ∷ ss) [] ys h st = record { front = []; here = s; back = ss; is = refl; before = tt; at = st.0; following = st.1 }
 stands-split (s ∷ ss) (x ∷ xs) ys h st =
     let more = stands-split ss xs ys h st.1 in
-    record { front = s ∷ more.front; here = more.here; back = more.back; is = ap (λ (l : List InputPast). s ∷ l) more.is; before = (st.0, more.before); at = more.at; behind = more.behind }
+    record { front = s ∷ more.front; here = more.here; back = more.back; is = ap (λ (l : List InputPast). s ∷ l) more.is; before = (st.0, more.before); at = more.at; following = more.following }
 
-pub stands-join : (us vs : List InputPast) (s : InputPast) (xs ys : List InputView) (h : InputView) → AreInputsBehind us xs → At s h → AreInputsBehind vs ys → AreInputsBehind (us ++ s ∷ vs) (xs ++ h ∷ ys)
+pub stands-join : (us vs : List InputPast) (s : InputPast) (xs ys : List InputView) (h : InputView) → AreInputsAfter us xs → At s h → AreInputsAfter vs ys → AreInputsAfter (us ++ s ∷ vs) (xs ++ h ∷ ys)
 stands-join [] vs s [] ys h before at with_front = (at, with_front)
 stands-join [] vs s (x ∷ xs) ys h before at with_front = absurd before
 stands-join (a ∷ us) vs s [] ys h before at with_front = absurd before
 stands-join (a ∷ us) vs s (x ∷ xs) ys h before at with_front = (before.0, stands-join us vs s xs ys h before.1 at with_front)
 
-pub stands-length : (us : List InputPast) (xs : List InputView) → AreInputsBehind us xs → length us ≡ length xs
+pub stands-length : (us : List InputPast) (xs : List InputView) → AreInputsAfter us xs → length us ≡ length xs
 stands-length [] [] st = refl
 stands-length [] (x ∷ xs) st = absurd st
 stands-length (a ∷ us) [] st = absurd st
@@ -49,15 +49,15 @@ pub record FitsSplit (xs : List InputView) (h : InputView) (ys : List InputView)
   pub is : fs ≡ front ++ here ∷ back
   pub before : AreFutures xs front
   pub fit : Fit h here
-  pub behind : AreFutures ys back
+  pub following : AreFutures ys back
 
 pub fits-split : (xs ys : List InputView) (h : InputView) (fs : List Future) → AreFutures (xs ++ h ∷ ys) fs → FitsSplit xs h ys fs
 fits-split [] ys h [] fits = absurd fits
 fits-split (x ∷ xs) ys h [] fits = absurd fits
-fits-split [] ys h (f ∷ fs) fits = record { front = []; here = f; back = fs; is = refl; before = tt; fit = fits.0; behind = fits.1 }
+fits-split [] ys h (f ∷ fs) fits = record { front = []; here = f; back = fs; is = refl; before = tt; fit = fits.0; following = fits.1 }
 fits-split (x ∷ xs) ys h (f ∷ fs) fits =
     let more = fits-split xs ys h fs fits.1 in
-    record { front = f ∷ more.front; here = more.here; back = more.back; is = ap (λ (l : List Future). f ∷ l) more.is; before = (fits.0, more.before); fit = more.fit; behind = more.behind }
+    record { front = f ∷ more.front; here = more.here; back = more.back; is = ap (λ (l : List Future). f ∷ l) more.is; before = (fits.0, more.before); fit = more.fit; following = more.following }
 
 pub fits-join : (xs ys : List InputView) (h : InputView) (fs gs : List Future) (f : Future) → AreFutures xs fs → Fit h f → AreFutures ys gs → AreFutures (xs ++ h ∷ ys) (fs ++ f ∷ gs)
 fits-join [] ys h [] gs f before fit with_front = (fit, with_front)
@@ -65,7 +65,7 @@ fits-join [] ys h (g ∷ fs) gs f before fit with_front = absurd before
 fits-join (x ∷ xs) ys h [] gs f before fit with_front = absurd before
 fits-join (x ∷ xs) ys h (g ∷ fs) gs f before fit with_front = (before.0, fits-join xs ys h fs gs f before.1 fit with_front)
 
-pub wholes-join : (us vs : List InputPast) (s : InputPast) (xs ys : List InputView) (h : InputView) (fs gs : List Future) (f : Future) → AreInputsBehind us xs → AreFutures xs fs
+pub wholes-join : (us vs : List InputPast) (s : InputPast) (xs ys : List InputView) (h : InputView) (fs gs : List Future) (f : Future) → AreInputsAfter us xs → AreFutures xs fs
     → inputs_with (us ++ s ∷ vs) (xs ++ h ∷ ys) (fs ++ f ∷ gs) ≡ inputs_with us xs fs ++ input_items s h f ∷ inputs_with vs ys gs
 wholes-join [] vs s [] ys h [] gs f st fits = refl
 wholes-join [] vs s [] ys h (g ∷ fs) gs f st fits = absurd fits
@@ -93,21 +93,21 @@ finish-here (a ∷ us) vs s i bytes packets place = rw (← place) (ap (λ (l : 
 
 -- ---- what has come, when one input goes on
 
--- For each future behind the change there is one before it: the whole is the same, and what is left begins with the new events.
+-- For each future after the change there is one before it: the whole is the same, and what is left begins with the new events.
 pub record Carries (s s' : InputPast) (xs ys : List InputView) (h h' : InputView) (order : PacketOrder) (new : List Event) (f' : Future) : Type 0 where
   pub future : Future
   pub fit : Fit h future
   pub same : input_items s h future ≡ input_items s' h' f'
   pub left_is : (fs gs : List Future) → AreFutures xs fs → AreFutures ys gs → sequence_left order (xs ++ h ∷ ys) (inputs_left xs fs ++ items_left h future ∷ inputs_left ys gs) ≡ with_front new (sequence_left order (xs ++ h' ∷ ys) (inputs_left xs fs ++ items_left h' f' ∷ inputs_left ys gs))
 
-pub come-on : (us vs : List InputPast) (s s' : InputPast) (xs ys : List InputView) (h h' : InputView) (order : PacketOrder) (es new : List Event) → AreInputsBehind us xs
+pub come-on : (us vs : List InputPast) (s s' : InputPast) (xs ys : List InputView) (h h' : InputView) (order : PacketOrder) (es new : List Event) → AreInputsAfter us xs
     → AreSettled (us ++ s ∷ vs) (record { order = order; cursors = xs ++ h ∷ ys }) es
     → ((f' : Future) → Fit h' f' → Carries s s' xs ys h h' order new f')
     → AreSettled (us ++ s' ∷ vs) (record { order = order; cursors = xs ++ h' ∷ ys }) (es ++ new)
 come-on us vs s s' xs ys h h' order es new st come carries fs fits =
     let split = fits-split xs ys h' fs fits in
     let c = carries split.here split.fit in
-    let was = come (split.front ++ c.future ∷ split.back) (fits-join xs ys h split.front split.back c.future split.before c.fit split.behind) in
+    let was = come (split.front ++ c.future ∷ split.back) (fits-join xs ys h split.front split.back c.future split.before c.fit split.following) in
     rw split.is
     (ap (sequence_of order)
     (wholes-join us vs s' xs ys h' split.front split.back split.here st split.before
@@ -115,7 +115,7 @@ come-on us vs s s' xs ys h h' order es new st come carries fs fits =
     ∙ sym (wholes-join us vs s xs ys h split.front split.back c.future st split.before))
     ∙ was
     ∙ ap (λ (l : List InputItems). with_front es (sequence_left order (xs ++ h ∷ ys) l)) (rests-join xs ys h split.front split.back c.future split.before)
-    ∙ ap (with_front es) (c.left_is split.front split.back split.before split.behind)
+    ∙ ap (with_front es) (c.left_is split.front split.back split.before split.following)
     ∙ ap (λ (l : List Event). record { events = l; end = (sequence_left order (xs ++ h' ∷ ys) (inputs_left xs split.front ++ items_left h' split.here ∷ inputs_left ys split.back)).end })
     (append-back es new (sequence_left order (xs ++ h' ∷ ys) (inputs_left xs split.front ++ items_left h' split.here ∷ inputs_left ys split.back)).events)
     ∙ ap (λ (l : List InputItems). with_front (es ++ new) (sequence_left order (xs ++ h' ∷ ys) l)) (sym (rests-join xs ys h' split.front split.back split.here split.before)))

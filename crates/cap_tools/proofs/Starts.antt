@@ -13,15 +13,15 @@ use Rattle.cap_packets.specs.Verdict.{Policy}
 use Rattle.cap_octet.specs.Views.{FreshInput}
 use Rattle.cap_inputs.specs.Fresh.{fresh_view, nothing_done, fresh_inputs}
 use Rattle.cap_packets.specs.Selector.{state_with}
-use Rattle.cap_inputs.specs.Inputs.{Future, AreInputsBehind, KnowGreatest, AreFutures, AreSettled, ended_count, inputs_with, inputs_left, input_items, steps_left_in, steps_left, most_steps}
+use Rattle.cap_inputs.specs.Inputs.{Future, AreInputsAfter, KnowGreatest, AreFutures, AreSettled, ended_count, inputs_with, inputs_left, input_items, steps_left_in, steps_left, most_steps}
 use Rattle.cap_tools.specs.Bounds.{reads_of, steps_owed_in_all, owed_in, most_turns}
 use Rattle.cap_tools.specs.Packets.{PacketsDecided}
 use Rattle.cap_tools.proofs.Coming.{come-first}
 use Rattle.cap_tools.proofs.Fetches.{mk}
 
-start-behind : (os : List FreshInput) → AreInputsBehind (map nothing_done os) (map fresh_view os)
-start-behind [] = tt
-start-behind (o ∷ os) = (IsAt-start o.text o.given o.failures o.sure, start-behind os)
+start-following : (os : List FreshInput) → AreInputsAfter (map nothing_done os) (map fresh_view os)
+start-following [] = tt
+start-following (o ∷ os) = (IsAt-start o.text o.given o.failures o.sure, start-following os)
 
 start-wholes : (os : List FreshInput) (fs : List Future) → AreFutures (map fresh_view os) fs → inputs_with (map nothing_done os) (map fresh_view os) fs ≡ inputs_left (map fresh_view os) fs
 start-wholes [] [] fits = refl
@@ -52,10 +52,10 @@ start-greatest (o ∷ os) = (refl, start-greatest os)
 pub nothing-decided : (order : PacketOrder) (os : List FreshInput) (before : List ℕ) (policy : Policy) (names : List (List ℕ)) (w : Writing) (failures room : ℕ)
     → PacketsDecided (map nothing_done os) before (mk (map fresh_view os) order policy (state_with 0 nothing_counted) (record { names = names; target = target_at w before failures room }) 0)
 nothing-decided order os before policy names w failures room = record {
-  behind = start-behind os;
+  following = start-following os;
   greatest = start-greatest os;
   events = [];
-  first = come-first (map nothing_done os) (record { order = order; cursors = map fresh_view os }) [] (start-behind os) (start-come order os);
+  first = come-first (map nothing_done os) (record { order = order; cursors = map fresh_view os }) [] (start-following os) (start-come order os);
   come = start-come order os;
   packets = [];
   reports = [];

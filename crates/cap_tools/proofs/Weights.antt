@@ -9,7 +9,7 @@ use Rattle.cap_io.specs.Source.{SourceView, Phase, Reading, Ended, Failed, Secti
 use Rattle.cap_packets.specs.declared.output.Writing.{Writing}
 use Rattle.cap_packets.specs.declared.output.Writing.TheVariants as writing
 use Rattle.cap_packets.specs.Output.{HasFewOutputInterfaces, Target, Capture, Text, Lines, target_at}
-use Rattle.cap_inputs.specs.Inputs.{InputView, InputsView, IsInput, ReadSteps, MarksDecided, input_after, input_behind}
+use Rattle.cap_inputs.specs.Inputs.{InputView, InputsView, IsInput, ReadSteps, MarksDecided, input_after, input_after_decided}
 use Rattle.cap_packets.specs.Selector.{HasFewMarks}
 use Rattle.cap_octet.specs.Views.{FreshInput}
 use Rattle.cap_inputs.specs.Fresh.{fresh_view}
@@ -25,13 +25,13 @@ small-among (x ∷ xs) back h all = small-among xs back h (All-tail IsSmall x (x
 small-at : (cursors : List InputView) (i : ℕ) (h : InputView) → IsInput cursors i h → All IsSmall cursors → IsSmall h
 small-at cursors i h a all = small-among a.front a.back h (subst (All IsSmall) a.splits all)
 
-decided-small : (h : InputView) → IsSmall h → IsSmall (input_behind h)
+decided-small : (h : InputView) → IsSmall h → IsSmall (input_after_decided h)
 decided-small h small = record { held = small.held; block = small.block; section = small.section }
 
 pub mark_decided-small : (inputs inputs' : InputsView) (i : ℕ) → MarksDecided inputs i inputs' → All IsSmall inputs.cursors → All IsSmall inputs'.cursors
 mark_decided-small inputs inputs' i s all =
     let P : InputsView → Type 0 = λ f. All IsSmall f.cursors in
-    subst P (sym s.is) (All-set IsSmall inputs.cursors i (input_behind s.cursor) (decided-small s.cursor (small-at inputs.cursors i s.cursor s.among all)) all)
+    subst P (sym s.is) (All-set IsSmall inputs.cursors i (input_after_decided s.cursor) (decided-small s.cursor (small-at inputs.cursors i s.cursor s.among all)) all)
 
 steps-small : (old new : SourceView) (r : Result Bool Fault) → Steps old.phase old r new → length old.block ≤ old.room → old.room ≤ most_in_unit
     → (length new.block ≤ new.room) × (new.room ≤ most_in_unit)

@@ -72,7 +72,7 @@ is_fault (Ok found) = false
 is_fault (Err fault) = true
 
 -- A step reads one input on, or decides one packet, or can't decide it, or does neither. It goes on
--- behind an input that gave no fault, or a packet that is decided, and not otherwise.
+-- after an input that gave no fault, or a packet that is decided, and not otherwise.
 pub data StepReads (tells goes : Bool) (old new : JobView) : Type 0 where
   reads_on : (input : ℕ) → (answer : Result Bool Fault) → (goes ≡ true → is_fault answer ≡ false)
       → ReadsOn tells old input answer new → StepReads tells goes old new
@@ -146,7 +146,7 @@ weight m =
     inputs_weight m.inputs.cursors + target_weight m.output.target + 20 * length m.state.window
     + 128
 
--- a unit for each input, 280 bytes for each interface that inputs and output may have, so many
+-- a unit for each input, 280 bytes for each interface that inputs and output may have, these
 -- marks, and the counters
 abbrev pub most_weight : ℕ → ℕ → ℕ
 most_weight inputs marks =

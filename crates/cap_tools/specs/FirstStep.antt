@@ -45,7 +45,7 @@ asking policy m =
       decided = m.decided;
     }
 
--- the job whose packets go through the filter, by these programs, up to so many that pass
+-- the job whose packets go through the filter, by these programs, up to `count` that pass
 abbrev pub filtering : Rule → Option ℕ → List Content → JobView → JobView
 filtering rule count programs j = record {
   preparing = None;

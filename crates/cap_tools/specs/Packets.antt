@@ -22,7 +22,7 @@ use Rattle.cap_packets.specs.Verdict.{Policy, SelectorState, PassesAs, judge}
 use Rattle.cap_packets.specs.Selector.{PolicyState, SelectorView, IsWithin, with_empty_tally, is_count, most_spent, spent_by_verdict}
 use Rattle.cap_packets.specs.Selector as selecting
 use Rattle.cap_packets.specs.Outcome.{Form, JobProgress, Work, ComeFirst, IsNextEvent, AreAllEvents, cut_at, no_progress, apply_events, final_progress, final_text, output_text, closing_text, first_link, packet_bytes, report_bytes, form_refuses, form_takes_memory}
-use Rattle.cap_inputs.specs.Inputs.{InputsView, InputView, InputPast, AreInputsBehind, KnowGreatest, AreSettled, ReadsInput, IsNext, input_after, device_limits}
+use Rattle.cap_inputs.specs.Inputs.{InputsView, InputView, InputPast, AreInputsAfter, KnowGreatest, AreSettled, ReadsInput, IsNext, input_after, device_limits}
 
 -- ---- the view
 
@@ -72,7 +72,7 @@ progress_at m packets reports =
 -- that were read to their ends. By which programs they are judged is said of the whole job
 -- (`Decided`).
 pub record PacketsDecided (ss : List InputPast) (before : List ℕ) (m : JobState) : Type 0 where
-  pub behind : AreInputsBehind ss m.inputs.cursors
+  pub following : AreInputsAfter ss m.inputs.cursors
   pub greatest : KnowGreatest ss m.inputs.cursors
   pub events : List Event
   -- the events are the first of the order of the whole inputs, and they stay the first whatever
@@ -138,7 +138,7 @@ Spends (Some p) old number new =
     (new.programs ≡ spent_by_verdict old.policy number p old.programs)
     × (spent_in new.programs ≤ spent_in old.programs + most_spent old.policy)
 
--- whether an input that was read to its end is reported: where files are counted, one behind
+-- whether an input that was read to its end is reported: where files are counted, one after
 -- another
 abbrev pub asks_report : PacketOrder → Policy → Bool
 asks_report InTurn policy = is_count policy
@@ -195,7 +195,7 @@ finish_at (s ∷ ss) zero bytes packets =
     record { text = s.text; done = s.done ++ bytes; packets = s.packets ++ packets } ∷ ss
 finish_at (s ∷ ss) (suc i) bytes packets = s ∷ finish_at ss i bytes packets
 
--- What a step adds to the output, where the job is at `far` before the step and at `next` behind
+-- What a step adds to the output, where the job is at `far` before the step and at `next` after
 -- it: nothing, a packet that passes, the report of an input, or what a clean end adds.
 pub data OneAnswer (form : Form) (link : Option ℕ) (far next : JobProgress)
     (bytes : List ℕ) : Type 0 where

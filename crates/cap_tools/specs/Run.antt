@@ -23,7 +23,7 @@ use Rattle.cap_octet.specs.Views.{FreshInput}
 use Rattle.cap_packets.specs.declared.output.Writing.{Writing}
 use Rattle.cap_packets.specs.declared.output.Writing.TheVariants as writing
 use Rattle.cap_command.specs.Call.{Call, RunResult}
-use Rattle.cap_packets.specs.Outcome.{Form, AsCapture, AsReports, AsLines, Outcome, Work, IsNextEvent, AreAllEvents, closing_text, cut_at, first_link, form_refuses, form_takes_memory, outcome, progress_behind, text_behind}
+use Rattle.cap_packets.specs.Outcome.{Form, AsCapture, AsReports, AsLines, Outcome, Work, IsNextEvent, AreAllEvents, closing_text, cut_at, first_link, form_refuses, form_takes_memory, outcome, job_progress_after, text_after}
 use Rattle.cap_packets.specs.Reports.{name_at}
 use Rattle.cap_tools.specs.Start.{Assignment, Preparing, ReadsFilter, Compiles}
 use Rattle.cap_octet.specs.Packet.{Captured}
@@ -79,7 +79,7 @@ pub data IsOutcome (asked : Assignment) (call : Call) : Outcome → Type 0 where
       → asked.preparing ≡ Some (Compiles words link) → IsCompiled words link prog
       → IsOutcome asked call (listing_outcome prog)
 
--- The outcome is written behind what the output held, and reported. The output's device didn't
+-- The outcome is written after what the output held, and reported. The output's device didn't
 -- fail.
 pub record HasLeft (call : Call) (o : Outcome) (r : RunResult) : Type 0 where
   pub output : r.output.written ≡ call.output.written ++ o.output
@@ -113,12 +113,12 @@ pub record HasCutInput (call : Call) (work : Work) (r : RunResult) : Type 0 wher
 
 -- ---- memory runs out
 
--- what becomes of a packet that comes behind these events
+-- what becomes of a packet that comes after these events
 abbrev pub next_judgement : Work → List Event → Captured → Judgement
 next_judgement work es p =
-    judge work.policy (progress_behind work es).state ((progress_behind work es).decided + 1) p
+    judge work.policy (job_progress_after work es).state ((job_progress_after work es).decided + 1) p
 
--- behind these events there was no memory to write the next packet, which is kept, and takes some
+-- after these events there was no memory to write the next packet, which is kept, and takes some
 pub record HasLackedMemory (call : Call) (work : Work) (r : RunResult) : Type 0 where
   pub events : List Event
   pub input : ℕ
@@ -126,9 +126,9 @@ pub record HasLackedMemory (call : Call) (work : Work) (r : RunResult) : Type 0 
   pub next : IsNextEvent work (whole_inputs call) events (Packet input packet)
   pub kept : Captured
   pub passes : PassesAs (next_judgement work events packet.packet).verdict kept
-  pub taken : form_refuses work.form (progress_behind work events).packets kept ≡ None
-  pub takes : form_takes_memory work.form (progress_behind work events).packets kept ≡ true
-  pub output : r.output.written ≡ call.output.written ++ text_behind work events
+  pub taken : form_refuses work.form (job_progress_after work events).packets kept ≡ None
+  pub takes : form_takes_memory work.form (job_progress_after work events).packets kept ≡ true
+  pub output : r.output.written ≡ call.output.written ++ text_after work events
   pub failures : r.output.failures ≡ call.output.failures
   pub message : IsTold call.tells call.messages
       (fault_message (name_at call.names input) packet.offset NoMemory) r.messages
@@ -143,13 +143,13 @@ pub record NeverBegan (call : Call) (r : RunResult) : Type 0 where
 
 -- ---- the output fails
 
--- What is next behind what was written: what one event adds, or what ends the output.
+-- What is next after what was written: what one event adds, or what ends the output.
 pub data IsNextAnswer (work : Work) (rs : List InputItems) (written bytes : List ℕ) : Type 0 where
   by_event : (es : List Event) (e : Event) → IsNextEvent work rs es e
-      → written ≡ text_behind work es
-      → text_behind work (es ++ e ∷ []) ≡ written ++ bytes → IsNextAnswer work rs written bytes
-  by_end : (es : List Event) → AreAllEvents work rs es → written ≡ text_behind work es
-      → bytes ≡ closing_text work.form (first_link rs) (progress_behind work es).packets
+      → written ≡ text_after work es
+      → text_after work (es ++ e ∷ []) ≡ written ++ bytes → IsNextAnswer work rs written bytes
+  by_end : (es : List Event) → AreAllEvents work rs es → written ≡ text_after work es
+      → bytes ≡ closing_text work.form (first_link rs) (job_progress_after work es).packets
       → IsNextAnswer work rs written bytes
 
 -- it is a command's; that of a compilation is its listing
@@ -160,7 +160,7 @@ pub data IsAnswer (asked : Assignment) (call : Call) (written bytes : List ℕ) 
       → asked.preparing ≡ Some (Compiles words link) → IsCompiled words link prog
       → written ≡ [] → bytes ≡ listing prog → IsAnswer asked call written bytes
 
--- the output's device failed once, behind a prefix of one answer, not the whole
+-- the output's device failed once, after a prefix of one answer, not the whole
 pub record HasLostOutput (asked : Assignment) (call : Call) (r : RunResult) : Type 0 where
   pub written : List ℕ
   pub bytes : List ℕ

@@ -15,7 +15,7 @@ use Rattle.cap_io.specs.Sequence.{PacketOrder, InTurn, order_of}
 use Rattle.cap_packets.specs.Verdict.{Policy, Edit, KeepAll, Count}
 use Rattle.cap_packets.specs.Selector.{edit_rule_of}
 
--- a filter by these words, or by a listing, for so many packets at most
+-- a filter by these words, or by a listing, for `count` packets at most
 pub record FilterAsked : Type 0 where
   pub words : List ℕ
   pub code : Option (List ℕ)

@@ -224,7 +224,7 @@ impl<I: Input, O: Output, E: Output, A: Allocator + Copy + Drop> Job<I, O, E, A>
         }
     }
 
-    /// One step on behind what is prepared: reads one input on, decides one packet or ends the
+    /// One step on after what is prepared: reads one input on, decides one packet or ends the
     /// output, and reports how the job ended where it did.
     // Two calls a packet: in the loop they save about 70 instructions.
     #[inline(always)]
@@ -299,7 +299,7 @@ impl<I: Input, O: Output, E: Output, A: Allocator + Copy + Drop> Job<I, O, E, A>
         }
     }
 
-    /// Reads an input on; behind what is decided, where somebody may be waiting for it while the
+    /// Reads an input on; after what is decided, where somebody may be waiting for it while the
     /// input is.
     fn read_next(&mut self, input: usize) -> Option<JobEnd>
         requires prepared { self.old.preparing ≡ None }
@@ -377,7 +377,7 @@ impl<I: Input, O: Output, E: Output, A: Allocator + Copy + Drop> Job<I, O, E, A>
         Turn::Done(status)
     }
 
-    /// From here on packets are judged by this filter, up to so many that pass. It is one step.
+    /// From here on packets are judged by this filter, up to `count` that pass. It is one step.
     fn filter(&mut self, filter: Filter<A>, count: Option<u64>) -> Turn
         requires fresh { IsFresh self.old }
         requires taken { self.old.preparing ≡ None }

@@ -31,7 +31,7 @@ pub struct Assignment<A: Allocator> {
     /// By what packets are judged.
     pub policy: Policy<A>,
     pub writing: Writing,
-    /// Whether the inputs are merged by their times, in place of one behind another.
+    /// Whether the inputs are merged by their times, in place of one after another.
     pub merges: bool,
 }
 

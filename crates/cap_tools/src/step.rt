@@ -69,7 +69,7 @@ pub(crate) fn decide<I: Input, O: Output, A: Allocator + Copy + Drop>(
     put(verdict, &packet, output)
 }
 
-/// Reports an input that was read to its end, where files are counted, one behind another. It
+/// Reports an input that was read to its end, where files are counted, one after another. It
 /// returns the end where the job ends here.
 pub(crate) fn close<I: Input, O: Output, E: Output, A: Allocator>(
     inputs: &Inputs<I, A>,

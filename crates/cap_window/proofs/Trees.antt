@@ -249,7 +249,7 @@ placing_next ms start now first newest depth place d top bit l p at within upper
 pub step_at : (ms : List Mark) (start now : List Links) (first : Mark → Bool) (newest depth place d : ℕ) → IsPlacing ms start now first newest depth place d → 1 ≤ d
 step_at ms start now first newest depth place d p = step_of ms now p.class (but p.wanted (mark_at ms place)) depth place d p.tree
 
-pub behind_links : (old new : Links) (d : ℕ) → new.zeros ≡ min (old.zeros + d) (2 ^ 32 - 1) → new.ones ≡ min (old.ones + d) (2 ^ 32 - 1)
+pub after_links : (old new : Links) (d : ℕ) → new.zeros ≡ min (old.zeros + d) (2 ^ 32 - 1) → new.ones ≡ min (old.ones + d) (2 ^ 32 - 1)
     → (bit : Bool) → link_by_bit new bit ≡ min (link_by_bit old bit + d) (2 ^ 32 - 1)
-behind_links old new d zeros ones true = ones
-behind_links old new d zeros ones false = zeros
+after_links old new d zeros ones true = ones
+after_links old new d zeros ones false = zeros

@@ -27,9 +27,9 @@ impl Links {
         if bit { self.ones } else { self.zeros }
     }
 
-    /// The same links from a mark that is so many places behind.
+    /// The same links from a mark that is `step` places after.
     #[inline]
-    fn behind(&self, step: u32) -> Links
+    fn following(&self, step: u32) -> Links
         ensures zeros { result.zeros ≡ min (self.now.zeros + step) (2 ^ 32 - 1) }
         ensures ones { result.ones ≡ min (self.now.ones + step) (2 ^ 32 - 1) }
     {
@@ -98,11 +98,11 @@ pub fn place_newest<A: Allocator>(
         let (above, below) = (marks.get(place).unwrap(), marks.get(lower).unwrap());
         let under = *links.get(lower).unwrap();
         if same(above, below) {
-            *links.get_mut(place).unwrap() = under.behind(step);
+            *links.get_mut(place).unwrap() = under.following(step);
             return;
         }
         let bit = is_one(below, depth);
-        *links.get_mut(place).unwrap() = under.behind(step).with(bit, step);
+        *links.get_mut(place).unwrap() = under.following(step).with(bit, step);
         (place, step, depth) = (lower, under.link(bit), depth + 1);
     }
     *links.get_mut(place).unwrap() = Links {

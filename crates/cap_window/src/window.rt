@@ -8,7 +8,7 @@ use circular_buffer::HeapCircularBuffer;
 use std::alloc::{AllocError, Allocator};
 use std::marker::Model;
 
-/// At most so many trees: at 4 bytes each their heads take 4 MiB.
+/// The most trees: at 4 bytes each their heads take 4 MiB.
 const MOST_HEADS: u32 = 0x0010_0000;
 
 /// The marks of the last packets, as many as fit.
@@ -48,7 +48,7 @@ impl<A: Allocator> Window<A> {
     ghost use Rattle.cap_window.specs.Marks.{last, mark_of};
     ghost use Rattle.cap_window.specs.View.{window};
 
-    /// A window for the marks of so many packets. It takes all its memory here: 28 bytes for each,
+    /// A window for `capacity` packets' marks. It takes all its memory here: 28 bytes for each,
     /// and 4 for each of its heads, which are as many, rounded up to a power of two, and 2^20 at
     /// most.
     pub fn new(alloc: A, capacity: u32) -> Result<Self, AllocError>
@@ -147,7 +147,7 @@ fn lower(numbers: &mut [u32], less: u32)
     }
 }
 
-/// The number of the newest mark, of which so many are kept. Where the numbers run out all become
+/// The number of the newest mark, of which `kept` are kept. Where the numbers run out all become
 /// smaller by one difference, and what left the window becomes 0.
 fn renumbered(heads: &mut [u32], newest: u32, kept: u32) -> u32
     requires { (kept ≤ newest) × (kept + 1 < 2 ^ 32) }

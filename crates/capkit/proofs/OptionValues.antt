@@ -1,4 +1,4 @@
--- What the options of an edit and of a print come to.
+-- What the options of an edit and of a print mean.
 use Rattle.std.proofs.Common.{◌≡◌, ◌≤◌, ◌^◌, ◌+◌, ◌-◌, ◌*◌, ◌∙◌, ◌==◌, ap, refl, ℕ, Bool, true, false, length, take, drop, Option, Some, None, Result, Ok, Err, arith}
 use Rattle.std.specs.Prelude.{◌&&◌, IfSome, nat_le, nat_lt, if◌then◌else◌}
 use Rattle.std.specs.List.{position}
@@ -75,7 +75,7 @@ at_within : (text : Text) (point : Option ℕ) → option_map_or is_time (span_a
 at_within text None = span_within (number_of text) (Some 0)
 at_within text (Some point) = span_within (number_of (take point text)) (fraction_of (drop (point + 1) text))
 
--- a number of seconds comes to less than 2^63 nanoseconds
+-- a number of seconds is less than 2^63 nanoseconds
 pub proper_span : (text : Text) → option_map_or is_time (span_value text) true ≡ true
 unfolding span_value
 proper_span text = at_within text (position (λ b. b == 46) text)

@@ -69,7 +69,7 @@ argument_number least most id matches =
 abbrev pub time_in : Text → List Row → Option ℕ
 time_in id matches = option_and_then time_value (first_of id matches)
 
--- the nanoseconds that an argument's number of seconds comes to
+-- the nanoseconds of an argument's number of seconds
 abbrev pub span_in : Text → List Row → Option ℕ
 span_in id matches = option_and_then span_value (first_of id matches)
 

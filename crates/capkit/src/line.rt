@@ -45,7 +45,7 @@ fn line_of(alloc: Global, asked: Subcommand, matches: &ArgMatches<'_>) -> Result
     }
 }
 
-/// The line that the words behind the program's name ask for.
+/// The line that the words after the program's name ask for.
 ///
 /// An error is the first of these that holds: clap refuses the words (also where it is out of
 /// memory), there are more than 512 ranges or 256 inputs, a word is no range, a word is no time or

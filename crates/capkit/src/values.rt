@@ -104,7 +104,7 @@ pub fn time(matches: &ArgMatches<'_>, id: &str) -> Option<u64>
     }
 }
 
-/// The nanoseconds that the argument's number of seconds comes to.
+/// The nanoseconds of the argument's number of seconds.
 pub fn span(matches: &ArgMatches<'_>, id: &str) -> Option<u64>
     ensures value { result ≡ span_in id.now (rows_of (found_of matches.now)) }
     ensures proper { option_map_or is_time result true ≡ true }

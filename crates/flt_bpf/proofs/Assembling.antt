@@ -41,7 +41,7 @@ pub front_more : (is : List Insn) (k : ℕ) (d : Insn) → k < length is → fro
 front_more is k d l =
     ap (λ (js : List Insn). decimal (length is) ++ LINE_FEED ∷ insn_lines js) (take_more is k d l) ∙ front_joined is (take k is) (get_or is k d ∷ [])
 
--- a front and what stands behind it
+-- a front and what follows it
 listing_split : (is : List Insn) (k : ℕ) → listing is ≡ front_of is k ++ insn_lines (drop k is)
 listing_split is k =
     ap (λ (js : List Insn). decimal (length is) ++ LINE_FEED ∷ insn_lines js) (sym (take-append-drop k is)) ∙ front_joined is (take k is) (drop k is)

@@ -18,7 +18,7 @@ cut_here c (b ∷ bs) (suc at) before l here =
     let t : (b == c) ≡ false = grind (arith, nat_tests) in
     slice_split-cons_no (λ x. x == c) b bs t ∙ ap (onto_first b) (cut_here c bs at (λ k less. before (suc k) (omega arith)) (omega arith) here)
 
--- the same, with what stands behind as a range
+-- the same, with what follows as a range
 pub cut_range : (c : ℕ) (bs : List ℕ) (at : ℕ) → ((k : ℕ) → k < at → get_or bs k 0 ≡ c → ⊥) → at < length bs → get_or bs at 0 ≡ c → slice_split (λ b. b == c) bs ≡ take at bs ∷ slice_split (λ b. b == c) (take (length bs - (at + 1)) (drop (at + 1) bs))
 cut_range c bs at before l here =
     let next : suc at ≡ at + 1 = omega arith in

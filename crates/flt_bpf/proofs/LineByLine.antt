@@ -9,7 +9,7 @@ use Rattle.flt_bpf.specs.declared.insn.Insn.{Insn}
 use Rattle.flt_bpf.specs.Listing.{LINE_FEED, lines_from, lines_of}
 use Rattle.flt_bpf.specs.Reading.{line_numbers, insn_of, onto, read_insn, read_insns}
 
--- a line with others behind it
+-- a line with others after it
 pub line_more : (text piece rest : List ℕ) → slice_split (λ b. b == LINE_FEED) text ≡ piece ∷ slice_split (λ b. b == LINE_FEED) rest → lines_of text ≡ piece ∷ lines_of rest
 line_more text piece rest s =
     let some : 0 < length (slice_split (λ b. b == LINE_FEED) rest) = omega (arith, length-slice_split (λ b. b == LINE_FEED) rest) in

@@ -11,7 +11,7 @@ numbers_more : (w : List ℕ) (ws : List (List ℕ)) → 0 < length ws → numbe
 numbers_more w [] l = absurd (omega arith)
 numbers_more w (v ∷ ws) l = refl
 
--- a number with others behind it
+-- a number with others after it
 pub number_first : (line piece rest next : List ℕ) (n : ℕ) → slice_split (λ b. b == BLANK) line ≡ piece ∷ slice_split (λ b. b == BLANK) rest → numeral piece ≡ Some n → later_numbers (slice_split (λ b. b == BLANK) rest) ≡ line_numbers next → line_numbers line ≡ after (Some n) (line_numbers next)
 number_first line piece rest next n s e l =
     let some : 0 < length (slice_split (λ b. b == BLANK) rest) = omega (arith, length-slice_split (λ b. b == BLANK) rest) in

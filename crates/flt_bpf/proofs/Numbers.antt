@@ -48,7 +48,7 @@ more_numbers w line n (m ∷ ms) e r =
       rest_is = r.numbers;
     }
 
--- the numbers of later pieces are those of their text, behind blanks
+-- the numbers of later pieces are those of their text, after blanks
 later_are : (ws : List (List ℕ)) (ns : List ℕ) → later_numbers ws ≡ Some ns → Indented (join_with_byte BLANK ws) ns
 later_are [] ns e = cc
 later_are (w ∷ []) ns e = record { blanks = 0; rest = w; line_is = refl; numbers = one_number w ns e }
@@ -122,9 +122,9 @@ line_numbers_read line (n ∷ []) h =
     ap numbers_of (slice_split_none (λ b. b == BLANK) line (number_lacks BLANK line n (omega arith) h)) ∙ ap (λ o. after o (Some [])) (numeral_read line n h)
 line_numbers_read line (n ∷ m ∷ ns) h =
     let p : ℕ → Bool = λ b. b == BLANK in
-    let behind = replicate h.more_blanks BLANK ++ h.rest in
+    let following = replicate h.more_blanks BLANK ++ h.rest in
     ap line_numbers (h.line_is ∙ append_assoc h.digits (BLANK ∷ replicate h.more_blanks BLANK) h.rest)
-    ∙ ap numbers_of (slice_split_at p h.digits BLANK behind (number_lacks BLANK h.digits n (omega arith) h.number) refl)
-    ∙ numbers_split h.digits (slice_split p behind) (omega (arith, length-slice_split p behind))
-    ∙ ap (λ o. after o (later_numbers (slice_split p behind))) (numeral_read h.digits n h.number)
+    ∙ ap numbers_of (slice_split_at p h.digits BLANK following (number_lacks BLANK h.digits n (omega arith) h.number) refl)
+    ∙ numbers_split h.digits (slice_split p following) (omega (arith, length-slice_split p following))
+    ∙ ap (λ o. after o (later_numbers (slice_split p following))) (numeral_read h.digits n h.number)
     ∙ ap (after (Some n)) (later_blanks h.more_blanks h.rest ∙ later_as_line h.rest (m ∷ ns) h.rest_is ∙ line_numbers_read h.rest (m ∷ ns) h.rest_is)

@@ -20,7 +20,7 @@ onto_ok : (i : Insn) (r : Result (List Insn) ℕ) (is : List Insn) → onto i r 
 onto_ok i (Ok js) is e = record { others = js; rest = refl; all = cc }
 onto_ok i (Err line) is e = cc
 
--- the instructions of so many lines
+-- the instructions of a given number of lines
 record InsnLines (n : ℕ) (lines : List (List ℕ)) (is : List Insn) : Type 0 where
   count : length is ≡ n
   each : AllZip IsInsnLine lines is

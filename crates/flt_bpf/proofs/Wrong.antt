@@ -14,7 +14,7 @@ use Rattle.flt_bpf.proofs.InsnLines.{insn_is, insn_read}
 abbrev HasInsn : Option (List ℕ) → Insn → Type 0
 HasInsn o i = IsSomeAnd o (λ line. IsInsnLine line i)
 
--- the line behind k of the lines behind the first: it should be an instruction, or is one too many
+-- the line after k of the lines after the first: it should be an instruction, or is one too many
 record WrongAfter (n : ℕ) (lines : List (List ℕ)) (k : ℕ) : Type 0 where
   wrong : ((k < n) × ((i : Insn) → ¬ HasInsn (slice_get lines k) i)) ⊎ ((n ≤ k) × (k < length lines))
   insns : (j : ℕ) → j < k → (j < n) × ((i : Insn) × HasInsn (slice_get lines j) i)
@@ -71,7 +71,7 @@ insns_wrong (suc n) (l ∷ lines) at line e = with_first (insn_of (line_numbers 
 same_number : (digits : List ℕ) (m n : ℕ) → IsWrittenNumber digits m → IsWrittenNumber digits n → m ≡ n
 same_number digits m n a b = sym a.value ∙ b.value
 
--- a wrong line among those behind the first is the first wrong one of all
+-- a wrong line among those after the first is the first wrong one of all
 first_wrong : (first : List ℕ) (others : List (List ℕ)) (n k : ℕ) → IsWrittenNumber first n → n ≤ MOST_INSTRUCTIONS → WrongAfter n others k → FirstWrong (first ∷ others) (suc k)
 first_wrong first others n k number upper_bound w =
     record { wrong = (n, record { number = number; upper_bound = upper_bound }, here w.wrong); first = λ j less h. earlier j less h }
@@ -92,7 +92,7 @@ first_wrong first others n k number upper_bound w =
 count_wrong : (lines : List (List ℕ)) → ((count : ℕ) → ¬ HasCount lines count) → FirstWrong lines 0
 count_wrong lines h = record { wrong = h; first = λ j less w. omega arith }
 
--- where a text was refused behind a line of numbers
+-- where a text was refused after a line of numbers
 record Refused (lines : List (List ℕ)) (line : ℕ) : Type 0 where
   k : ℕ
   first : FirstWrong lines k

@@ -91,7 +91,7 @@ pub record HasCount (lines : List (List ℕ)) (count : ℕ) : Type 0 where
   pub number : IsSomeAnd (slice_get lines 0) (λ line. IsWrittenNumber line count)
   pub upper_bound : count ≤ MOST_INSTRUCTIONS
 
--- The line behind k others is wrong: the first one where it is no count; a later one where it
+-- The line after k others is wrong: the first one where it is no count; a later one where it
 -- should be an instruction and is none or is missing, or where it is one too many.
 abbrev pub IsWrong : List (List ℕ) → ℕ → Type 0
 IsWrong lines zero = (count : ℕ) → ¬ HasCount lines count
@@ -100,7 +100,7 @@ IsWrong lines (suc k) = (count : ℕ) × HasCount lines count
     × ((i : Insn) → ¬ IsSomeAnd (slice_get lines (suc k)) (λ line. IsInsnLine line i)))
     ⊎ ((count ≤ k) × (suc k < length lines)))
 
--- the line behind k others is the first wrong one
+-- the line after k others is the first wrong one
 pub record FirstWrong (lines : List (List ℕ)) (k : ℕ) : Type 0 where
   pub wrong : IsWrong lines k
   pub first : (j : ℕ) → j < k → ¬ IsWrong lines j

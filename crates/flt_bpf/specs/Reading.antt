@@ -9,7 +9,7 @@ use Rattle.flt_bpf.specs.declared.fault.ListingFault.TheVariants.{NotListing, Me
 use Rattle.flt_bpf.specs.Listing.{BLANK, MOST_BYTES, lines_of}
 use Rattle.flt_bpf.specs.Valid.{MOST_INSTRUCTIONS}
 
--- the pieces of a text behind the first
+-- the pieces of a text after the first
 abbrev pub pieces_after : ℕ → Option (Bor (List ℕ)) → List (List ℕ)
 pieces_after stop None = []
 pieces_after stop (Some rest) = slice_split (λ b. b == stop) rest.now
@@ -71,7 +71,7 @@ abbrev pub read_insn : Option Insn → Result (List Insn) ℕ → ℕ → Result
 read_insn None others at = Err at
 read_insn (Some i) others at = onto i others
 
--- so many instructions from lines, the first of which has the number `at`; else the number of the
+-- instructions from lines, the first of which has the number `at`; else the number of the
 -- first wrong line
 abbrev pub read_insns : ℕ → List (List ℕ) → ℕ → Result (List Insn) ℕ
 read_insns zero [] at = Ok []

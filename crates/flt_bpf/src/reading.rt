@@ -24,7 +24,7 @@ pub(crate) const BLANK: u8 = b' ';
 /// What ends a line.
 pub(crate) const LINE_FEED: u8 = b'\n';
 
-/// A text up to the first of some byte, and what stands behind that byte, where there is one.
+/// A text up to the first of some byte, and what follows that byte, where there is one.
 #[derive(Clone, Copy)]
 struct Cut<'a> {
     piece: &'a [u8],
@@ -61,14 +61,14 @@ fn number(digits: &[u8]) -> Option<u64>
     number_of(digits)
 }
 
-/// A number, and what stands behind it and the blanks after it.
+/// A number, and what follows it and the blanks after it.
 #[derive(Clone, Copy)]
 struct Numbered<'a> {
     number: u64,
     rest: &'a [u8],
 }
 
-/// What stands behind the blanks at the beginning of a text.
+/// What follows the blanks at the beginning of a text.
 fn after_blanks(text: &[u8]) -> &[u8]
     ensures { later_numbers (slice_split (λ b. b == BLANK) text.now) ≡ line_numbers result.now }
 {
@@ -80,7 +80,7 @@ fn after_blanks(text: &[u8]) -> &[u8]
     &text[text.len()..]
 }
 
-/// The number at the beginning of a line, where blanks stand behind it.
+/// The number at the beginning of a line, where blanks follow it.
 fn first_number(line: &[u8]) -> Option<Numbered<'_>>
     ensures first { IfSome result (λ first. line_numbers line.now
         ≡ after (Some first.number) (line_numbers first.rest.now)) }
@@ -132,7 +132,7 @@ fn insn_on(line: &[u8]) -> Option<Insn>
     }
 }
 
-/// The first line of a text, and what stands behind it.
+/// The first line of a text, and what follows it.
 #[derive(Clone, Copy)]
 struct FirstLine<'a> {
     line: &'a [u8],
@@ -157,7 +157,7 @@ fn first_line(text: &[u8]) -> FirstLine<'_>
     }
 }
 
-/// So many instructions, one on each line of a text, behind the first line of a listing.
+/// `count` instructions, one on each line of a text, after the first line of a listing.
 fn insns_on<A: Allocator>(alloc: A, count: usize, text: &[u8]) -> Result<Vec<Insn, A>, ListingFault>
     requires { count ≤ 32768 }
     ensures { MatchResult result

@@ -11,7 +11,7 @@ use crate::reading::{BLANK, LINE_FEED};
 use cap_octet::{Output, Stopped, write_all};
 use std::alloc::Allocator;
 
-/// How many bytes a line has at most: numbers of 5, 3, 3 and 10 digits, and a byte behind each.
+/// How many bytes a line has at most: numbers of 5, 3, 3 and 10 digits, and a byte after each.
 const MOST_LINE: usize = 25;
 
 /// Writes the listing of a program, and takes no memory. An error is a failure of the output in
@@ -66,12 +66,12 @@ fn put_insn(line: &mut [u8; MOST_LINE], insn: &Insn) -> usize
 }
 
 /// Puts a number and a byte in front of what is at `end`, and returns where the number starts.
-fn put_number(line: &mut [u8; MOST_LINE], end: usize, number: u64, behind: u8) -> usize
+fn put_number(line: &mut [u8; MOST_LINE], end: usize, number: u64, following: u8) -> usize
     requires room { length (decimal number) + 1 ≤ end }
     requires inside { end ≤ 25 }
     ensures start { result + length (decimal number) + 1 ≡ end }
-    ensures written { drop result line.new ≡ decimal number ++ behind ∷ drop end line.old }
+    ensures written { drop result line.new ≡ decimal number ++ following ∷ drop end line.old }
 {
-    line[end - 1] = behind;
+    line[end - 1] = following;
     itoa::write_digits(number, line, end - 1)
 }

@@ -39,7 +39,7 @@ pub search_chain : (k : ℕ) (vs : List ℕ) (hit miss : ℕ) (c : List Insn) �
 search_chain k vs hit miss c (inl e) = ap (λ j. emit_search j vs hit miss c) e ∙ search_none vs hit miss c
 search_chain k vs hit miss c (inr h) = search_few k vs hit miss c h.1
 
--- numbers in two lists, one behind the other
+-- numbers in two lists, one after the other
 pub chain_both : (xs ys : List ℕ) (hit miss : ℕ) (c : List Insn) → emit_chain (xs ++ ys) hit miss c ≡ (let e = emit_chain ys hit miss c in emit_chain xs hit e.entry e.code)
 chain_both [] ys hit miss c = refl
 chain_both (x ∷ xs) ys hit miss c = ap (λ (e : Block). at_top (emit_branch test.Equal Constant x hit e.entry e.code)) (chain_both xs ys hit miss c)

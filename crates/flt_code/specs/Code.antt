@@ -92,7 +92,7 @@ branch_insn test operand k jt jf = record {
 abbrev pub emit_jump : ℕ → List Insn → List Insn
 emit_jump to c = plain Jump (length c - to) ∷ c
 
--- how a test reaches its two places: one that is too far by a jump right behind the test
+-- how a test reaches its two places: one that is too far by a jump right after the test
 abbrev pub reach : ℕ → ℕ → List Insn → Reach
 reach hit miss c =
     if nat_le (length c - hit) NEAR && nat_le (length c - miss) NEAR then Near
@@ -159,7 +159,7 @@ emit_accessor link _ width c = emit_base (network_offset link) width c
 abbrev pub emit_operands : ℕ → List Insn → List Insn
 emit_operands slot c = plain CopyToIndex 0 ∷ plain (Load Accumulator Memory) slot ∷ c
 
--- what is behind a left operand: an instruction with the right one in it; or the left one goes into
+-- what is after a left operand: an instruction with the right one in it; or the left one goes into
 -- a word, and then the right one is computed
 abbrev pub emit_right : Option ℕ → ℕ → (ℕ → List Insn) → List Insn → List Insn
 emit_right (Some k) slot short long = short k
@@ -214,8 +214,8 @@ emit_fork known t u hit miss c =
     emit_elementary known t hit e.entry e.code
 
 -- a test in front of code, which is entered where the test is yes
-abbrev pub emit_behind : Knowledge → Elementary → ℕ → Block → Block
-emit_behind known t miss e = emit_elementary known t e.entry miss e.code
+abbrev pub emit_after : Knowledge → Elementary → ℕ → Block → Block
+emit_after known t miss e = emit_elementary known t e.entry miss e.code
 
 -- whether A is one of some numbers, by one test after the other
 abbrev pub emit_chain : List ℕ → ℕ → ℕ → List Insn → Block
@@ -261,13 +261,13 @@ emit_formula link known (Either a b) hit miss c =
     let e = emit_formula link known b hit miss c in emit_formula link known a hit e.entry e.code
 emit_formula link known (Except a) hit miss c = emit_formula link known a miss hit c
 emit_formula link known (Guard t a) hit miss c =
-    emit_behind known t miss (emit_formula link (and_fact (fact t true) known) a hit miss c)
+    emit_after known t miss (emit_formula link (and_fact (fact t true) known) a hit miss c)
 emit_formula link known (Fork t u a) hit miss c =
     let e = emit_formula link (and_fork t u known) a hit miss c in
     emit_fork known t u e.entry miss e.code
 emit_formula link known (Choose t a b) hit miss c =
     let e = emit_formula link (and_fact (fact t false) known) b hit miss c in
-    emit_behind known t e.entry (emit_formula link (and_fact (fact t true) known) a hit miss e.code)
+    emit_after known t e.entry (emit_formula link (and_fact (fact t true) known) a hit miss e.code)
 emit_formula link known (Among f vs) hit miss c = emit_among known f vs hit miss c
 
 -- all of some tests, from the last to the first

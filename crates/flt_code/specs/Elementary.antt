@@ -130,7 +130,7 @@ kind_test link kind = type_test (type_offset link) kind
 abbrev pub first_fragment : Link → Elementary
 first_fragment link = is_masked (network_offset link + 6) HalfWord 0x1fff 0
 
--- the protocol behind an IPv4 header, and behind an IPv6 header
+-- the protocol after an IPv4 header, and after an IPv6 header
 abbrev pub has_ip_proto : Link → ℕ → Elementary
 has_ip_proto link n = is_at (network_offset link + 9) Byte n
 

@@ -84,7 +84,7 @@ past_load facts place load at (m ∷ is) =
     then past_mask facts place load at (Some m.k) is
     else past_mask facts place load at None (m ∷ is)
 
--- the place where the code behind a place goes on: past a jump, and past a test that is decided
+-- the place where the code after a place goes on: past a jump, and past a test that is decided
 abbrev pub onward : List Fact → ℕ → List Insn → ℕ
 onward facts place [] = place
 onward facts place (i ∷ is) =
@@ -94,7 +94,7 @@ onward facts place (i ∷ is) =
 abbrev pub step_from : List Insn → List Fact → ℕ → ℕ
 step_from c facts place = onward facts place (drop (length c - place) c)
 
--- so many steps from a place
+-- some steps from a place
 unfoldable pub follow : ℕ → List Insn → List Fact → ℕ → ℕ
 follow zero c facts place = place
 follow (suc k) c facts place = follow k c facts (step_from c facts place)
@@ -139,7 +139,7 @@ followed_place c known own place =
     (follow MOST_STEPS c (own ∷ fact known.either.second true ∷ facts_of known) place)
     (follow MOST_STEPS c (own ∷ facts_of known) place)
 
--- behind a test past a header X holds the header's length: code that begins by loading it is
+-- after a test past a header X holds the header's length: code that begins by loading it is
 -- entered past that load
 abbrev pub past_index : Offset → ℕ → List Insn → ℕ
 past_index (Fixed a) place c = place
@@ -150,7 +150,7 @@ past_index (AfterHeader header a) place (i ∷ is) =
 abbrev pub entry_at : Offset → List Insn → ℕ → ℕ
 entry_at place c r = past_index place r (drop (length c - r) c)
 
--- where a jump behind a test at a place goes, which is taken where a fact holds: its target
+-- where a jump after a test at a place goes, which is taken where a fact holds: its target
 -- followed, and past a load of X
 unfoldable pub target : List Insn → Knowledge → Offset → Fact → ℕ → ℕ
 target c known tested own place = entry_at tested c (followed_place c known own place)

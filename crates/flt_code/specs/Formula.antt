@@ -106,7 +106,7 @@ sides (direction.Both And) source destination = Both (all_of source) (all_of des
 
 -- several numbers on a side, or on either. The source is compared with the first alone before the
 -- destination is looked at: so a packet that ends between the two is read as by tests of one number
--- after the other. Behind the destination the source is known not to be the first
+-- after the other. After the destination the source is known not to be the first
 
 abbrev pub whole_field : Offset → Width → MaskedField
 whole_field offset width = record { offset = offset; width = width; mask = None }
@@ -116,7 +116,7 @@ abbrev pub without : ℕ → List ℕ → List ℕ
 without a [] = []
 without a (v ∷ vs) = if v == a then vs else v ∷ without a vs
 
--- those that are left behind the first, of which there is one at least
+-- those that are left after the first, of which there is one at least
 abbrev pub remaining : ℕ → List ℕ → List ℕ
 remaining first numbers = if nat_lt (length numbers) 2 then numbers else without first numbers
 

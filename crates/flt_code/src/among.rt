@@ -40,7 +40,7 @@ fn emit_chain<A: Allocator>(
     }
 }
 
-/// The same of numbers in two slices, the second behind the first.
+/// The same of numbers in two slices, the second after the first.
 #[tactic(auto, using(crate::proofs::Search::chain_both))]
 fn emit_chains<A: Allocator>(
     code: &mut Code<A>,
@@ -56,7 +56,7 @@ fn emit_chains<A: Allocator>(
     emit_chain(code, lower, Targets { yes: to.yes, no })
 }
 
-/// The number at a place of two slices, the second behind the first.
+/// The number at a place of two slices, the second after the first.
 fn number_at(lower: &[u32], upper: &[u32], at: usize) -> u32
     requires { at < length lower.now + length upper.now }
     ensures { result ≡ get_or (lower.now ++ upper.now) at 0 }
@@ -68,7 +68,7 @@ fn number_at(lower: &[u32], upper: &[u32], at: usize) -> u32
     }
 }
 
-/// The same of numbers that ascend, by halves. They are in two slices, the second behind the
+/// The same of numbers that ascend, by halves. They are in two slices, the second after the
 /// first.
 #[tactic(auto, unfolding(crate::specs::Code::emit_search))]
 fn emit_search<A: Allocator>(
@@ -96,7 +96,7 @@ fn emit_search<A: Allocator>(
     Ok(code.top())
 }
 
-/// Whether a field is one of some numbers, which ascend and are in two slices, the second behind
+/// Whether a field is one of some numbers, which ascend and are in two slices, the second after
 /// the first. The result is where the code begins.
 fn emit_among<A: Allocator>(
     code: &mut Code<A>,
@@ -147,7 +147,7 @@ fn place_of(number: u32, numbers: &[u32]) -> usize
     at
 }
 
-/// The numbers that are left behind the first, in two slices, the second behind the first.
+/// The numbers that are left after the first, in two slices, the second after the first.
 fn remaining(first: u32, numbers: &[u32]) -> (&[u32], &[u32])
     ensures numbers { result.0.now ++ result.1.now ≡ remaining first numbers.now }
     ensures upper_bound { length result.0.now + length result.1.now ≤ length numbers.now }

@@ -19,7 +19,7 @@ const NEAR: usize = 255;
 /// How many steps a jump's target is followed at most.
 const MOST_STEPS: usize = 8;
 
-/// How a test reaches its two targets: a far one by a jump right behind the test.
+/// How a test reaches its two targets: a far one by a jump right after the test.
 #[derive(Clone, Copy)]
 pub enum Reach {
     Near,
@@ -235,7 +235,7 @@ impl<A: Allocator> Code<A> {
         }
     }
 
-    /// Where code is entered behind a test at a place.
+    /// Where code is entered after a test at a place.
     fn entry_at(&self, tested: Offset, place: usize) -> usize
         ensures { result ≡ entry_at tested self.now place }
     {

@@ -8,7 +8,7 @@ use crate::elementary::Elementary;
 use crate::follow::Knowledge;
 use cap_octet::Link;
 
-/// What code is emitted for: the link, what is known of a packet that comes to the code, and where
+/// What code is emitted for: the link, what is known of a packet that reaches the code, and where
 /// the packet goes on.
 #[derive(Clone, Copy)]
 pub struct Context {
@@ -26,8 +26,8 @@ impl Context {
         Context { link, known, to }
     }
 
-    /// The same behind a test that was yes.
-    pub fn behind(self, test: Elementary) -> Self
+    /// The same after a test that was yes.
+    pub fn following(self, test: Elementary) -> Self
         ensures { result ≡ record self { known = and_fact (fact test true) self.known } }
     {
         Context {
@@ -36,7 +36,7 @@ impl Context {
         }
     }
 
-    /// The same behind a test that was no.
+    /// The same after a test that was no.
     pub fn elsewhere(self, test: Elementary) -> Self
         ensures { result ≡ record self { known = and_fact (fact test false) self.known } }
     {
@@ -46,8 +46,8 @@ impl Context {
         }
     }
 
-    /// The same behind two tests of which one was yes.
-    pub fn behind_one_of(self, first: Elementary, second: Elementary) -> Self
+    /// The same after two tests of which one was yes.
+    pub fn after_one_of(self, first: Elementary, second: Elementary) -> Self
         ensures { result ≡ record self { known = and_fork first second self.known } }
     {
         Context {

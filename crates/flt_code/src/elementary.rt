@@ -16,9 +16,9 @@ pub enum FrameKind {
 /// Where a field stands, in bytes.
 #[derive(Clone, Copy)]
 pub enum Offset {
-    /// So many bytes behind the start of the packet.
+    /// A given number of bytes after the start of the packet.
     Fixed(u32),
-    /// Behind the header that begins at the first offset: the second number and the header's length
+    /// After the header that begins at the first offset: the second number and the header's length
     /// are added up, which the low half of its first byte gives in words of 4 bytes.
     AfterHeader(u32, u32),
 }

@@ -143,35 +143,35 @@ impl Knowledge {
 
 /// The instruction that stands first, of those that are given from the last to the first, and the
 /// others.
-fn first_insn(behind: &[Insn]) -> Option<(Insn, &[Insn])>
-    ensures { MatchOption result (reverse behind.now ≡ [])
-        (λ parts. (reverse behind.now ≡ parts.0 ∷ reverse parts.1.now)
+fn first_insn(following: &[Insn]) -> Option<(Insn, &[Insn])>
+    ensures { MatchOption result (reverse following.now ≡ [])
+        (λ parts. (reverse following.now ≡ parts.0 ∷ reverse parts.1.now)
         × (length (reverse parts.1.now) ≡ length parts.1.now)) }
 {
-    match behind {
+    match following {
         [] => None,
         [others @ .., first] => Some((*first, others)),
     }
 }
 
-/// The place of the instruction behind so many skipped ones, or the last place.
-fn place_behind(insns: &[Insn], skipped: usize) -> usize
+/// The place of the instruction after `skipped` skipped ones, or the last place.
+fn place_after(insns: &[Insn], skipped: usize) -> usize
     ensures { result ≡ max 1 (length insns.now - skipped) }
 {
     insns.len().saturating_sub(skipped).max(1)
 }
 
-fn past_mask(behind: &[Insn], facts: &[Fact], look: Look, place: usize) -> usize
-    ensures { result ≡ past_mask facts.now place look.load look.at look.mask (reverse behind.now) }
+fn past_mask(following: &[Insn], facts: &[Fact], look: Look, place: usize) -> usize
+    ensures { result ≡ past_mask facts.now place look.load look.at look.mask (reverse following.now) }
 {
-    match first_insn(behind) {
+    match first_insn(following) {
         None => place,
         Some((insn, others)) => {
             if insn.code == Operation::JumpIf(Test::Equal, Operand::Constant).code() {
                 match known_outcome(facts, look, insn.k) {
                     None => place,
-                    Some(true) => place_behind(others, usize::from(insn.jt)),
-                    Some(false) => place_behind(others, usize::from(insn.jf)),
+                    Some(true) => place_after(others, usize::from(insn.jt)),
+                    Some(false) => place_after(others, usize::from(insn.jf)),
                 }
             } else {
                 place
@@ -180,10 +180,10 @@ fn past_mask(behind: &[Insn], facts: &[Fact], look: Look, place: usize) -> usize
     }
 }
 
-fn past_load(behind: &[Insn], facts: &[Fact], load: u16, at: u32, place: usize) -> usize
-    ensures { result ≡ past_load facts.now place load at (reverse behind.now) }
+fn past_load(following: &[Insn], facts: &[Fact], load: u16, at: u32, place: usize) -> usize
+    ensures { result ≡ past_load facts.now place load at (reverse following.now) }
 {
-    match first_insn(behind) {
+    match first_insn(following) {
         None => place,
         Some((insn, others)) => {
             if insn.code == Operation::Compute(AluOperation::And, Operand::Constant).code() {
@@ -191,22 +191,22 @@ fn past_load(behind: &[Insn], facts: &[Fact], load: u16, at: u32, place: usize) 
                 past_mask(others, facts, Look { load, at, mask }, place)
             } else {
                 let mask = None;
-                past_mask(behind, facts, Look { load, at, mask }, place)
+                past_mask(following, facts, Look { load, at, mask }, place)
             }
         }
     }
 }
 
-/// The place where the code behind a place goes on: past a jump, and past a test that is decided.
+/// The place where the code after a place goes on: past a jump, and past a test that is decided.
 /// The instructions are given from the last to the first.
-pub fn onward(behind: &[Insn], facts: &[Fact], place: usize) -> usize
-    ensures { result ≡ onward facts.now place (reverse behind.now) }
+pub fn onward(following: &[Insn], facts: &[Fact], place: usize) -> usize
+    ensures { result ≡ onward facts.now place (reverse following.now) }
 {
-    match first_insn(behind) {
+    match first_insn(following) {
         None => place,
         Some((insn, others)) => {
             if insn.code == Operation::Jump.code() {
-                place_behind(others, insn.k as usize)
+                place_after(others, insn.k as usize)
             } else {
                 past_load(others, facts, insn.code, insn.k, place)
             }
@@ -214,18 +214,18 @@ pub fn onward(behind: &[Insn], facts: &[Fact], place: usize) -> usize
     }
 }
 
-/// Where code is entered behind a test at a place: past its first load if that loads the header
+/// Where code is entered after a test at a place: past its first load if that loads the header
 /// length that the test left in X. The instructions are given from the last to the first.
-pub fn past_index(behind: &[Insn], tested: Offset, place: usize) -> usize
-    ensures { result ≡ past_index tested place (reverse behind.now) }
+pub fn past_index(following: &[Insn], tested: Offset, place: usize) -> usize
+    ensures { result ≡ past_index tested place (reverse following.now) }
 {
     match tested {
         Offset::Fixed(_) => place,
-        Offset::AfterHeader(header, _) => match first_insn(behind) {
+        Offset::AfterHeader(header, _) => match first_insn(following) {
             None => place,
             Some((insn, others)) => {
                 if insn.code == Operation::LoadHeaderLength.code() && insn.k == header {
-                    place_behind(others, 0)
+                    place_after(others, 0)
                 } else {
                     place
                 }

@@ -1,4 +1,4 @@
-//! Code for the packet-filter machine that is written from behind: tests of fields, and branches
+//! Code for the packet-filter machine, written from its last instruction on: tests, and branches
 //! that go past what is known of a packet.
 #![tactic(auto)]
 

@@ -105,14 +105,14 @@ pub fn first_fragment(link: Link) -> Elementary
     is_masked(network_offset(link) + 6, Width::HalfWord, 0x1fff, 0)
 }
 
-/// The protocol behind an IPv4 header (RFC 791, section 3.1).
+/// The protocol after an IPv4 header (RFC 791, section 3.1).
 pub fn has_ip_proto(link: Link, protocol: u32) -> Elementary
     ensures { result ≡ has_ip_proto link protocol }
 {
     is_at(network_offset(link) + 9, Width::Byte, protocol)
 }
 
-/// The protocol behind an IPv6 header (RFC 8200, section 3).
+/// The protocol after an IPv6 header (RFC 8200, section 3).
 pub fn has_ip6_proto(link: Link, protocol: u32) -> Elementary
     ensures { result ≡ has_ip6_proto link protocol }
 {

@@ -11,7 +11,7 @@ pub if_case : {A : Type 0} (P : A → Type 0) (b : Bool) (x y : A) → (b ≡ tr
 if_case P true x y t f = t refl
 if_case P false x y t f = f refl
 
--- behind smaller numbers a number is put before the first that isn't smaller
+-- after smaller numbers a number is put before the first that isn't smaller
 pub inserted_at : (a : ℕ) (vs : List ℕ) (at : ℕ) → at ≤ length vs → ((i : ℕ) → i < at → get_or vs i 0 < a) → (at < length vs → a ≤ get_or vs at 0) → insert vs at a ≡ insert_ascending a vs
 inserted_at a [] zero l low high = refl
 inserted_at a [] (suc at) l low high = absurd (omega arith)

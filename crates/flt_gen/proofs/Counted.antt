@@ -30,7 +30,7 @@ use Rattle.flt_gen.specs.declared.wanted.Transport.{Transport}
 use Rattle.flt_code.specs.Elementary.{has_ip_proto, has_ip6_proto}
 use Rattle.flt_code.specs.Numbers.{accessors, accessor_tests}
 use Rattle.flt_code.specs.Formula.{Formula, Single, Compare, Both, Either, Guard, Choose, Among, all_of, sides, checked_formula, guarded_formula}
-use Rattle.flt_gen.specs.Primitives.{any_proto, mac_tests, check_formula, cast_formula, proto_formula, hosts_of_kind, net_formula, net_test, ip6_formula, ether_host, port_formula, port_test, port_places, port_sides, ports_behind, ip_transport, ip6_transport, transport, value_formula}
+use Rattle.flt_gen.specs.Primitives.{any_proto, mac_tests, check_formula, cast_formula, proto_formula, hosts_of_kind, net_formula, net_test, ip6_formula, ether_host, port_formula, port_test, port_places, port_sides, ports_after, ip_transport, ip6_transport, transport, value_formula}
 use Rattle.flt_code.specs.Formula.{whole_field, remaining, any_sides}
 use Rattle.flt_gen.specs.Reading.{formula}
 use Rattle.flt_gen.specs.Counts.{tests, nodes, words}
@@ -134,8 +134,8 @@ sides_tests d (Several n) header e = absurd e
 pub port_tests_by : (link : Link) (p : Option Protocol) (d : Direction) (ports : Ports) (numbers : List ℕ) → tests (port_formula link (port_test p d ports) numbers) ≤ 3 + count.transport_tests p + tests (port_sides ports d (ip_transport link) numbers) + count.transport_tests p + tests (port_sides ports d (ip6_transport link) numbers)
 port_tests_by link p d ports numbers =
     let wanted = port_test p d ports in
-    let t = transport_tests_fit p (has_ip_proto link 6) (has_ip_proto link 17) (ports_behind (ip_transport link) wanted numbers) in
-    let u = transport_tests_fit p (has_ip6_proto link 6) (has_ip6_proto link 17) (ports_behind (ip6_transport link) wanted numbers) in
+    let t = transport_tests_fit p (has_ip_proto link 6) (has_ip_proto link 17) (ports_after (ip_transport link) wanted numbers) in
+    let u = transport_tests_fit p (has_ip6_proto link 6) (has_ip6_proto link 17) (ports_after (ip6_transport link) wanted numbers) in
     omega arith
 
 pub port_tests_fit : (link : Link) (p : Option Protocol) (d : Direction) (ports : Ports) → IsTold ports → tests (port_formula link (port_test p d ports) []) ≤ count.port_tests p d (a_side ports)

@@ -232,7 +232,7 @@ module _ (p : List ℕ) (n : ℕ) where
       ap (λ o. reading_of (with o (λ x. with (number link (folded_number b) p n) (λ y. Some (compares c x y))))) (number_folded link a)
       ∙ ap (λ o. reading_of (with (number link a p n) (λ x. with o (λ y. Some (compares c x y))))) (number_folded link b)
 
-  -- behind the same tests
+  -- after the same tests
   guarded_same : (link : Link) (ts : List Elementary) (f g : Formula) → reads link f p n ≡ reads link g p n → reads link (guarded_formula ts f) p n ≡ reads link (guarded_formula ts g) p n
   guarded_same link [] f g h = h
   guarded_same link (t ∷ ts) f g h = ap (λ r. both (elementary_reads t p) r) (guarded_same link ts f g h)

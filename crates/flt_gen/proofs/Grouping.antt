@@ -143,7 +143,7 @@ group_tests_fit link group (b ∷ c ∷ bs) e l =
     let n : length group.numbers ≡ length (b ∷ c ∷ bs) = ap length e in
     several_tests link group.value_type group.protocol group.direction group.first group.numbers (omega arith)
 
--- what is read of a truth, or else of the group behind it
+-- what is read of a truth, or else of the group after it
 abbrev pub or_reads : List ℕ → Reading → Reading → Reading
 or_reads [] r s = r
 or_reads (b ∷ bs) r s = either r s
@@ -186,7 +186,7 @@ group_fit : (link : Link) (group : Group) → Kept group → 0 < length group.nu
 group_fit link group h l =
     (bare_group link group group.numbers (searchable_if group.numbers l h.ascending), group_tests_fit link group group.numbers refl l)
 
--- a group behind a formula that stands for another
+-- a group after a formula that stands for another
 or_stands : (link : Link) (f g : Formula) (t : ℕ) (group : Group) → Kept group → Stands link f g t [] (group_formula link no_group) 0 → StandsBy link (or_group link f group) g t group
 or_stands link f g t group k h =
     or_stands_by link f g t (group_formula link group) (group_tests group) group.numbers
@@ -319,7 +319,7 @@ module _ (link : Link) (p : List ℕ) (n : ℕ) where
       ∙ ap (λ x. either one (reads link (group_formula link (group_of k x q.direction f (b ∷ bs))) p n)) (sym s.protocols)
       ∙ ap (λ x. either one (reads link (group_formula link (group_of k protocol x f (b ∷ bs))) p n)) (sym s.directions)
 
--- what a member and those behind it are, and how they read
+-- what a member and those after it are, and how they read
 record Taken (link : Link) (q : CompleteQualifiers) (v : Value) (group more : Group) : Type 0 where
   kept : Kept more
   some : 0 < length more.numbers
@@ -364,7 +364,7 @@ taken link q v group more k e = by_address (member_number q.value_type v) refl e
     by_address None h e = cc
     by_address (Some a) h e = by_test a (goes_with q group group.numbers) h refl e
 
--- readings behind readings
+-- readings after readings
 or_again : (bs : List ℕ) (a b o : Reading) → either a (or_reads bs b o) ≡ or_reads bs (either a b) o
 or_again [] a b o = refl
 or_again (x ∷ bs) Yes b o = refl

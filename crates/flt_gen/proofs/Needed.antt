@@ -122,7 +122,7 @@ module _ (link : Link) (p : List ℕ) (n : ℕ) where
   all_put t [] = sym (and_yes (elementary_reads t p))
   all_put t (u ∷ ts) = refl
 
-  -- tests of words, each behind the one before
+  -- tests of words, each after the one before
   abbrev Words : ℕ → List Elementary → Type 0
   Words at [] = Unit {0}
   Words at (t ∷ ts) = (mask : Option ℕ) × (a : ℕ) × (t ≡ address_test mask a (Fixed at)) × Words (at + 4) ts

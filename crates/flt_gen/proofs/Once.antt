@@ -72,7 +72,7 @@ both_again Yes b r = refl
 both_again No b r = refl
 both_again Rejected b r = refl
 
--- behind a test that holds
+-- after a test that holds
 if_yes : (a r s : Reading) → (a ≡ Yes → r ≡ s) → both a r ≡ both a s
 if_yes Yes r s h = h refl
 if_yes No r s h = refl
@@ -90,22 +90,22 @@ module _ (link : Link) (p : List ℕ) (n : ℕ) where
   guarded_read [] f = refl
   guarded_read (t ∷ ts) f = ap (λ r. both (elementary_reads t p) r) (guarded_read ts f) ∙ both_again (elementary_reads t p) (all_read ts) (reads link f p n)
 
-  -- what is read behind the tests of protocols
-  abbrev behind : List Protocol → Formula → Reading
-  behind qs f = reads link (checked_formula link qs f) p n
+  -- what is read after the tests of protocols
+  abbrev following : List Protocol → Formula → Reading
+  following qs f = reads link (checked_formula link qs f) p n
 
-  one_read : (q : Protocol) (qs : List Protocol) (f : Formula) → behind (q ∷ qs) f ≡ both (told q) (behind qs f)
+  one_read : (q : Protocol) (qs : List Protocol) (f : Formula) → following (q ∷ qs) f ≡ both (told q) (following qs f)
   one_read q qs f = guarded_read (accessor_tests link q) (checked_formula link qs f)
 
-  without_read : (q : Protocol) (qs : List Protocol) (f : Formula) → told q ≡ Yes → behind (without_protocol q qs) f ≡ behind qs f
+  without_read : (q : Protocol) (qs : List Protocol) (f : Formula) → told q ≡ Yes → following (without_protocol q qs) f ≡ following qs f
   without_read q [] f sure = refl
   without_read q (r ∷ qs) f sure =
       let h = without_read q qs f sure in
-      if_case (λ xs. behind xs f ≡ behind (r ∷ qs) f) (equals q r) (without_protocol q qs) (r ∷ without_protocol q qs)
-      (λ e. h ∙ sym (one_read r qs f ∙ ap (λ a. both a (behind qs f)) (ap told (sym (equal_are q r e)) ∙ sure)))
+      if_case (λ xs. following xs f ≡ following (r ∷ qs) f) (equals q r) (without_protocol q qs) (r ∷ without_protocol q qs)
+      (λ e. h ∙ sym (one_read r qs f ∙ ap (λ a. both a (following qs f)) (ap told (sym (equal_are q r e)) ∙ sure)))
       (λ e. one_read r (without_protocol q qs) f ∙ ap (λ a. both (told r) a) h ∙ sym (one_read r qs f))
 
-  protocols_read : (a : NumberTree) (ps qs : List Protocol) (f : Formula) → behind ps f ≡ behind qs f → behind (protocols_of a ps) f ≡ behind (accessors a qs) f
+  protocols_read : (a : NumberTree) (ps qs : List Protocol) (f : Formula) → following ps f ≡ following qs f → following (protocols_of a ps) f ≡ following (accessors a qs) f
   protocols_read (literal k) ps qs f h = h
   protocols_read (named k) ps qs f h = h
   protocols_read len ps qs f h = h

@@ -115,7 +115,7 @@ module _ (p : List ℕ) (n : ℕ) where
   leads_on c d place v l e h =
       record { by = λ s long. sym (answer_drop d p n (length d - place) s) ∙ ap (λ is. answer_of is p n 0 s) (e.same place l) ∙ answer_drop c p n (length c - place) s ∙ h.by s long }
 
-  -- the code behind some instructions has an answer, whatever the state
+  -- the code after some instructions has an answer, whatever the state
   pub record Settles (c : List Insn) (k : ℕ) : Type 0 where
     pub v : ℕ
     pub by : (s : State) → length s.memory ≡ 16 → answer_of c p n k s ≡ Some v
@@ -125,12 +125,12 @@ module _ (p : List ℕ) (n : ℕ) where
   Branches [] = Unit {0}
   Branches (j ∷ is) = j.code ≡ 21 → Settles is j.jt × Settles is j.jf
 
-  -- the same behind a mask
+  -- the same after a mask
   abbrev pub MaskedBranches : List Insn → Type 0
   MaskedBranches [] = Unit {0}
   MaskedBranches (m ∷ is) = m.code ≡ 84 → Branches is
 
-  -- each test of a field at a place does so. One past a header does not: the code behind it may need the length in X
+  -- each test of a field at a place does so. One past a header does not: the code after it may need the length in X
   abbrev pub Settled : List Insn → Type 0
   Settled [] = Unit {0}
   Settled (i ∷ is) = (is_load i.code ≡ true → Branches is × MaskedBranches is) × Settled is
@@ -225,7 +225,7 @@ module _ (p : List ℕ) (n : ℕ) where
   stays : (c : List Insn) (facts : List Fact) (u place : ℕ) → place ≤ length c → Leads c place u → Onward c facts u place
   stays c facts u place l h = record { v = u; leads = h; inside = l; right = λ f. refl }
 
-  -- behind some instructions an answer is that at a place
+  -- after some instructions an answer is that at a place
   settled_leads : (c : List Insn) (k : ℕ) (h : Settles c k) → Leads c (max 1 (length c - k)) h.v
   settled_leads c k h =
       let l = answer_within c k start h.v (h.by start refl) in
@@ -241,7 +241,7 @@ module _ (p : List ℕ) (n : ℕ) where
   leads_same : (c : List Insn) (place v w : ℕ) → Leads c place v → Leads c place w → v ≡ w
   leads_same c place v w h g = some_is v w (sym (h.by start refl) ∙ g.by start refl)
 
-  -- the code d runs into the code e behind it, with a field in A, wherever the field is there
+  -- the code d runs into the code e after it, with a field in A, wherever the field is there
   abbrev RunsInto : List Insn → List Insn → ℕ → ℕ → Option ℕ → Type 0
   RunsInto d e load at mask =
       (w : Width) (x : ℕ) (s : State) → length s.memory ≡ 16 → load ≡ load_code w → field p at w ≡ Some x → answer_of d p n 0 s ≡ answer_of e p n 0 (record s { accumulator = under_mask mask x })
@@ -374,7 +374,7 @@ module _ (p : List ℕ) (n : ℕ) where
   followed_leads c known own u place s l h =
       agreed_followed c known own u _ _ _ (follow_leads MOST_STEPS c _ u place s l h) (follow_leads MOST_STEPS c _ u place s l h) (follow_leads MOST_STEPS c _ u place s l h)
 
-  -- X is ready for code behind a test at a place: past a header it holds that header's length
+  -- X is ready for code after a test at a place: past a header it holds that header's length
   abbrev pub Ready : Offset → ℕ → Type 0
   Ready (Fixed a) x = Unit {0}
   Ready (AfterHeader header a) x = option_map header_length (field p header Byte) ≡ Some x
@@ -407,14 +407,14 @@ module _ (p : List ℕ) (n : ℕ) where
       record { by = λ s long ready. skipped code same s long ready })
       (λ e. ready_anyhow (AfterHeader header a) (i ∷ is) (length (i ∷ is)) v h)
     where
-      behind : i.code ≡ 177 → i.k ≡ header → (s : State) → length s.memory ≡ 16 → Ready (AfterHeader header a) s.index → answer_of is p n 0 s ≡ Some v
-      behind code same s long ready =
+      following : i.code ≡ 177 → i.k ≡ header → (s : State) → length s.memory ≡ 16 → Ready (AfterHeader header a) s.index → answer_of is p n 0 s ≡ Some v
+      following code same s long ready =
           sym (run_index i is s code ∙ ap (λ k. answer_after (answer_of is p n) (into Index (option_map header_length (field p k Byte)) s)) same ∙ ap (λ o. answer_after (answer_of is p n) (into Index o s)) ready)
           ∙ (let none : 0 ≡ length (i ∷ is) - length (i ∷ is) = omega arith in ap (λ k. answer_of (i ∷ is) p n k s) none) ∙ h.by s long
 
       skipped : i.code ≡ 177 → i.k ≡ header → (s : State) → length s.memory ≡ 16 → Ready (AfterHeader header a) s.index → answer_of (i ∷ is) p n (length (i ∷ is) - max 1 (length is)) s ≡ Some v
       skipped code same s long ready =
-          let there = behind code same s long ready in
+          let there = following code same s long ready in
           let some = answer_within is 0 s v there in
           let one : length (i ∷ is) - max 1 (length is) ≡ suc 0 = omega arith in
           ap (λ k. answer_of (i ∷ is) p n k s) one ∙ there

@@ -80,7 +80,7 @@ module _ (p : List ℕ) (n : ℕ) where
   two_ways c jt jf v w s true e f = e
   two_ways c jt jf v w s false e f = f
 
-  -- what a long jump's code does from its top, and from behind it
+  -- what a long jump's code does from its top, and from its end it
   jump_top : (tested : Offset) (c : List Insn) (to v : ℕ) (s : State) → length s.memory ≡ 16 → Ready p n tested s.index → LeadsReady p n tested c to v → answer_of (emit_jump to c) p n 0 s ≡ Some v
   jump_top tested c to v s long ready h = run_jump p n (length c - to) c s ∙ h.by s long ready
 
@@ -307,25 +307,25 @@ module _ (p : List ℕ) (n : ℕ) where
       (settled_put (emit_jump miss c) _ (test_no_load t operand) (settled_put c _ refl z))
       (settled_put (emit_jump hit (emit_jump miss c)) _ (test_no_load t operand) (settled_put (emit_jump miss c) _ refl (settled_put c _ refl z)))
 
-  -- what may stand behind the load of a field at a place: a test that goes on where there is an answer
-  record Behind (c : List Insn) : Type 0 where
+  -- what may follow the load of a field at a place: a test that goes on where there is an answer
+  record Following (c : List Insn) : Type 0 where
     branches : Branches p n c
     under_mask : MaskedBranches p n c
 
-  branch_behind : (t : Test) (operand : Operand) (k hit miss v w : ℕ) (c : List Insn) → hit ≤ length c → miss ≤ length c → Leads p n c hit v → Leads p n c miss w → Behind (emit_branch t operand k hit miss c)
+  branch_after : (t : Test) (operand : Operand) (k hit miss v w : ℕ) (c : List Insn) → hit ≤ length c → miss ≤ length c → Leads p n c hit v → Leads p n c miss w → Following (emit_branch t operand k hit miss c)
   unfolding emit_branch
-  branch_behind t operand k hit miss v w c lh lm h m =
-      by_reach (λ d. Behind d) (reach hit miss c) t operand k hit miss c
+  branch_after t operand k hit miss v w c lh lm h m =
+      by_reach (λ d. Following d) (reach hit miss c) t operand k hit miss c
       (record { branches = λ e. (settles_at c hit v h, settles_at c miss w m); under_mask = λ e. absurd (test_no_mask t operand e) })
       (record { branches = λ e. (settles_jump c hit v h, settles_past c (plain Jump (length c - hit)) miss w lm m); under_mask = λ e. absurd (test_no_mask t operand e) })
       (record { branches = λ e. (settles_past c (plain Jump (length c - miss)) hit v lh h, settles_jump c miss w m); under_mask = λ e. absurd (test_no_mask t operand e) })
-      (record { branches = λ e. (settles_jump (emit_jump miss c) hit v far, behind); under_mask = λ e. absurd (test_no_mask t operand e) })
+      (record { branches = λ e. (settles_jump (emit_jump miss c) hit v far, following); under_mask = λ e. absurd (test_no_mask t operand e) })
     where
       far : Leads p n (emit_jump miss c) hit v
       far = leads_on p n c (emit_jump miss c) hit v lh (extends_put c c _ (extends_none c)) h
 
-      behind : Settles p n (emit_jump hit (emit_jump miss c)) 1
-      behind = record { v = w; by = λ s long. jump_top (Fixed 0) c miss w s long tt (ready_anyhow p n (Fixed 0) c miss w m) }
+      following : Settles p n (emit_jump hit (emit_jump miss c)) 1
+      following = record { v = w; by = λ s long. jump_top (Fixed 0) c miss w s long tt (ready_anyhow p n (Fixed 0) c miss w m) }
 
   indirect_no_load : (w : Width) → is_load (code_of (LoadIndirect w)) ≡ false
   indirect_no_load Word = refl
@@ -358,9 +358,9 @@ module _ (p : List ℕ) (n : ℕ) where
   mask_settled None c h = h
   mask_settled (Some mask) c h = settled_put c _ refl h
 
-  mask_behind : (mask : Option ℕ) (c : List Insn) → Behind c → Behind (emit_mask mask c)
-  mask_behind None c h = h
-  mask_behind (Some mask) c h = record { branches = λ e. absurd (omega arith); under_mask = λ e. h.branches }
+  mask_after : (mask : Option ℕ) (c : List Insn) → Following c → Following (emit_mask mask c)
+  mask_after None c h = h
+  mask_after (Some mask) c h = record { branches = λ e. absurd (omega arith); under_mask = λ e. h.branches }
 
   comparison_settled : (comparison : Comparison) (o : Operand) (k hit miss : ℕ) (c : List Insn) → Calm c → Calm (emit_comparison comparison o k hit miss c)
   comparison_settled Equal o k hit miss c z = branch_settled test.Equal o k hit miss c z
@@ -370,20 +370,20 @@ module _ (p : List ℕ) (n : ℕ) where
   comparison_settled Greater o k hit miss c z = branch_settled test.Greater o k hit miss c z
   comparison_settled AtLeast o k hit miss c z = branch_settled test.AtLeast o k hit miss c z
 
-  comparison_behind : (comparison : Comparison) (o : Operand) (k hit miss v w : ℕ) (c : List Insn) → hit ≤ length c → miss ≤ length c → Leads p n c hit v → Leads p n c miss w → Behind (emit_comparison comparison o k hit miss c)
-  comparison_behind Equal o k hit miss v w c lh lm h m = branch_behind test.Equal o k hit miss v w c lh lm h m
-  comparison_behind NotEqual o k hit miss v w c lh lm h m = branch_behind test.Equal o k miss hit w v c lm lh m h
-  comparison_behind Less o k hit miss v w c lh lm h m = branch_behind test.AtLeast o k miss hit w v c lm lh m h
-  comparison_behind AtMost o k hit miss v w c lh lm h m = branch_behind test.Greater o k miss hit w v c lm lh m h
-  comparison_behind Greater o k hit miss v w c lh lm h m = branch_behind test.Greater o k hit miss v w c lh lm h m
-  comparison_behind AtLeast o k hit miss v w c lh lm h m = branch_behind test.AtLeast o k hit miss v w c lh lm h m
+  comparison_after : (comparison : Comparison) (o : Operand) (k hit miss v w : ℕ) (c : List Insn) → hit ≤ length c → miss ≤ length c → Leads p n c hit v → Leads p n c miss w → Following (emit_comparison comparison o k hit miss c)
+  comparison_after Equal o k hit miss v w c lh lm h m = branch_after test.Equal o k hit miss v w c lh lm h m
+  comparison_after NotEqual o k hit miss v w c lh lm h m = branch_after test.Equal o k miss hit w v c lm lh m h
+  comparison_after Less o k hit miss v w c lh lm h m = branch_after test.AtLeast o k miss hit w v c lm lh m h
+  comparison_after AtMost o k hit miss v w c lh lm h m = branch_after test.Greater o k miss hit w v c lm lh m h
+  comparison_after Greater o k hit miss v w c lh lm h m = branch_after test.Greater o k hit miss v w c lh lm h m
+  comparison_after AtLeast o k hit miss v w c lh lm h m = branch_after test.AtLeast o k hit miss v w c lh lm h m
 
   -- a test of a field: its targets need X only where it is past a header
   field_settled : (place : Offset) (k : FieldTest) (hit miss v w : ℕ) (c : List Insn) → hit ≤ length c → miss ≤ length c → Calm c → LeadsReady p n place c hit v → LeadsReady p n place c miss w → Calm (emit_field place k.width (emit_mask k.mask (emit_comparison k.comparison Constant k.value hit miss c)))
   field_settled (Fixed a) k hit miss v w c lh lm z h m =
-      let behind = mask_behind k.mask _ (comparison_behind k.comparison Constant k.value hit miss v w c lh lm (record { by = λ s long. h.by s long tt }) (record { by = λ s long. m.by s long tt })) in
+      let following = mask_after k.mask _ (comparison_after k.comparison Constant k.value hit miss v w c lh lm (record { by = λ s long. h.by s long tt }) (record { by = λ s long. m.by s long tt })) in
       let z' = mask_settled k.mask _ (comparison_settled k.comparison Constant k.value hit miss c z) in
-      record { by = (λ e. (behind.branches, behind.under_mask), z'.by) }
+      record { by = (λ e. (following.branches, following.under_mask), z'.by) }
   field_settled (AfterHeader header a) k hit miss v w c lh lm z h m =
       settled_put _ _ refl (settled_put _ _ (indirect_no_load k.width) (mask_settled k.mask _ (comparison_settled k.comparison Constant k.value hit miss c z)))
 
@@ -402,27 +402,27 @@ module _ (p : List ℕ) (n : ℕ) where
       (λ e. branch_settled test.AtLeast Constant (get_or vs half 0) _ _ _ (search_settled k (take half vs) hit miss upper.code (search_settled k (drop half vs) hit miss c z)))
 
   -- a test that isn't one for equality
-  other_behind : (k hit miss : ℕ) (c : List Insn) → Behind (emit_branch test.AtLeast Constant k hit miss c)
+  other_after : (k hit miss : ℕ) (c : List Insn) → Following (emit_branch test.AtLeast Constant k hit miss c)
   unfolding emit_branch
-  other_behind k hit miss c =
-      by_reach (λ d. Behind d) (reach hit miss c) test.AtLeast Constant k hit miss c
+  other_after k hit miss c =
+      by_reach (λ d. Following d) (reach hit miss c) test.AtLeast Constant k hit miss c
       (record { branches = λ e. absurd (omega arith); under_mask = λ e. absurd (omega arith) })
       (record { branches = λ e. absurd (omega arith); under_mask = λ e. absurd (omega arith) })
       (record { branches = λ e. absurd (omega arith); under_mask = λ e. absurd (omega arith) })
       (record { branches = λ e. absurd (omega arith); under_mask = λ e. absurd (omega arith) })
 
   -- of several numbers the first test is one of their order
-  search_behind : (k : ℕ) (vs : List ℕ) (hit miss v w : ℕ) (c : List Insn) → Searchable vs → hit ≤ length c → miss ≤ length c → Leads p n c hit v → Leads p n c miss w → Behind (emit_search (suc k) vs hit miss c).code
+  search_after : (k : ℕ) (vs : List ℕ) (hit miss v w : ℕ) (c : List Insn) → Searchable vs → hit ≤ length c → miss ≤ length c → Leads p n c hit v → Leads p n c miss w → Following (emit_search (suc k) vs hit miss c).code
   unfolding emit_search
-  search_behind k [] hit miss v w c h lh lm a b = absurd h
-  search_behind k (x ∷ []) hit miss v w c h lh lm a b = branch_behind test.Equal Constant x hit miss v w c lh lm a b
-  search_behind k (x ∷ y ∷ vs) hit miss v w c h lh lm a b =
+  search_after k [] hit miss v w c h lh lm a b = absurd h
+  search_after k (x ∷ []) hit miss v w c h lh lm a b = branch_after test.Equal Constant x hit miss v w c lh lm a b
+  search_after k (x ∷ y ∷ vs) hit miss v w c h lh lm a b =
       let half = length (x ∷ y ∷ vs) / 2 in
       let upper = emit_search k (drop half (x ∷ y ∷ vs)) hit miss c in
       let lower = emit_search k (take half (x ∷ y ∷ vs)) hit miss upper.code in
-      by_test (λ (e : Block). Behind e.code) (nat_lt (length (x ∷ y ∷ vs)) 2) _ _
+      by_test (λ (e : Block). Following e.code) (nat_lt (length (x ∷ y ∷ vs)) 2) _ _
       (λ upper_bound. absurd (let no : length (x ∷ y ∷ vs) < 2 = grind (arith, nat_tests) in omega arith))
-      (λ many. other_behind (get_or (x ∷ y ∷ vs) half 0) upper.entry lower.entry lower.code)
+      (λ many. other_after (get_or (x ∷ y ∷ vs) half 0) upper.entry lower.entry lower.code)
 
   base_settled : (at : ℕ) (w : Width) (c : List Insn) → Calm c → Calm (emit_base at w c)
   base_settled at w c h = settled_put _ _ refl (settled_put c _ (indirect_no_load w) h)
@@ -494,8 +494,8 @@ module _ (p : List ℕ) (n : ℕ) where
   knows f known k h = record { facts = (h, (k.facts.0, (k.facts.1.0, tt))); either = k.either }
 
   -- code in front of code that works; what is small here is large where it is used
-  works_behind : (c d : List Insn) (f : Block) (known : Knowledge) (v w : ℕ) → Extends c d → (r : Works f d known v) → (KnowledgeHolds p n known → r.u ≡ w) → Works f c known w
-  works_behind c d f known v w e r right =
+  works_after : (c d : List Insn) (f : Block) (known : Knowledge) (v w : ℕ) → Extends c d → (r : Works f d known v) → (KnowledgeHolds p n known → r.u ≡ w) → Works f c known w
+  works_after c d f known v w e r right =
       record { inside = r.inside; extends = extends_on c d f.code e r.extends; flush_group = r.flush_group; u = r.u; leads = r.leads; right = right }
 
   fork_right : (known : Knowledge) (t u : Elementary) (r : Reading) (x y z v w : ℕ) → (KnowledgeHolds p n known → x ≡ pick (elementary_reads t p) y z) → (KnowledgeHolds p n (and_fork t u known) → y ≡ pick r v w) → (KnowledgeHolds p n (and_fact (fact t false) known) → z ≡ pick (elementary_reads u p) y w) → KnowledgeHolds p n known → x ≡ pick (both (either (elementary_reads t p) (elementary_reads u p)) r) v w
@@ -546,7 +546,7 @@ module _ (p : List ℕ) (n : ℕ) where
       masks None = refl
       masks (Some mask) = run_mask p n mask d (record s { accumulator = x })
 
-  -- the same behind what loads the field
+  -- the same after what loads the field
   abbrev Finds : Offset → List ℕ → List Insn → ℕ → ℕ → Type 0
   Finds place vs d v w =
       (s : State) → length s.memory ≡ 16 → Ready p n place s.index → answer_of d p n 0 s ≡ Some (if is_one_of s.accumulator vs then v else w)
@@ -565,9 +565,9 @@ module _ (p : List ℕ) (n : ℕ) where
 
   among_settled : (place : Offset) (width : Width) (mask : Option ℕ) (vs : List ℕ) (hit miss v w : ℕ) (c : List Insn) → Searchable vs → hit ≤ length c → miss ≤ length c → Calm c → LeadsReady p n place c hit v → LeadsReady p n place c miss w → Calm (emit_field place width (emit_mask mask (emit_search LEVELS vs hit miss c).code))
   among_settled (Fixed a) width mask vs hit miss v w c up lh lm z h m =
-      let behind = mask_behind mask _ (search_behind 15 vs hit miss v w c up lh lm (record { by = λ s long. h.by s long tt }) (record { by = λ s long. m.by s long tt })) in
+      let following = mask_after mask _ (search_after 15 vs hit miss v w c up lh lm (record { by = λ s long. h.by s long tt }) (record { by = λ s long. m.by s long tt })) in
       let z' = mask_settled mask _ (search_settled LEVELS vs hit miss c z) in
-      record { by = (λ e. (behind.branches, behind.under_mask), z'.by) }
+      record { by = (λ e. (following.branches, following.under_mask), z'.by) }
   among_settled (AfterHeader header a) width mask vs hit miss v w c up lh lm z h m =
       settled_put _ _ refl (settled_put _ _ (indirect_no_load width) (mask_settled mask _ (search_settled LEVELS vs hit miss c z)))
 
@@ -663,7 +663,7 @@ module _ (p : List ℕ) (n : ℕ) where
       let le : e.entry ≤ length d.code = (let l = wb.inside in omega (arith, wu.extends.longer)) in
       let wa = elementary_works known t e.entry d.entry wb.u wu.u d.code le wu.inside wu.flush_group (leads_on p n e.code d.code e.entry wb.u wb.inside wu.extends wb.leads) wu.leads in
       let f = emit_elementary known t e.entry d.entry d.code in
-      works_behind c d.code f known _ _ (extends_on c e.code d.code wb.extends wu.extends) wa (fork_right known t u (reads link a p n) wa.u wb.u wu.u v w wa.right wb.right wu.right)
+      works_after c d.code f known _ _ (extends_on c e.code d.code wb.extends wu.extends) wa (fork_right known t u (reads link a p n) wa.u wb.u wu.u v w wa.right wb.right wu.right)
   emitted_works link known (Choose t a b) hit miss v w c upper_bound apt lh lm z h m =
       let yes = and_fact (fact t true) known in
       let no = and_fact (fact t false) known in
@@ -676,5 +676,5 @@ module _ (p : List ℕ) (n : ℕ) where
       let le : e.entry ≤ length d.code = (let l = wb.inside in omega (arith, wa.extends.longer)) in
       let wt = elementary_works known t d.entry e.entry wa.u wb.u d.code wa.inside le wa.flush_group wa.leads (leads_on p n e.code d.code e.entry wb.u wb.inside wa.extends wb.leads) in
       let f = emit_elementary known t d.entry e.entry d.code in
-      works_behind c d.code f known _ _ (extends_on c e.code d.code wb.extends wa.extends) wt (choice_right known t (reads link a p n) (reads link b p n) wt.u wa.u wb.u v w (excluded_no p n link t b apt.0) wt.right wa.right wb.right)
+      works_after c d.code f known _ _ (extends_on c e.code d.code wb.extends wa.extends) wt (choice_right known t (reads link a p n) (reads link b p n) wt.u wa.u wb.u v w (excluded_no p n link t b apt.0) wt.right wa.right wb.right)
   emitted_works link known (Among f vs) hit miss v w c upper_bound apt lh lm z h m = among_works known f vs hit miss v w c apt lh lm z h m

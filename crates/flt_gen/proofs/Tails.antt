@@ -98,7 +98,7 @@ accessor_extends link Udp w c d e = transport_extends link w c d e
 accessor_extends link Icmp w c d e = transport_extends link w c d e
 accessor_extends link _ w c d e = base_extends (network_offset link) w c d e
 
--- by what is behind a left operand
+-- by what is after a left operand
 pub by_right : (P : List Insn → Type 0) (o : Option ℕ) (slot : ℕ) (short : ℕ → List Insn) (long : List Insn) → ((k : ℕ) → o ≡ Some k → P (short k)) → P (plain (Store Accumulator) slot ∷ long) → P (emit_right o slot short long)
 by_right P None slot short long one all = all
 by_right P (Some k) slot short long one all = one k refl

@@ -22,7 +22,7 @@ use Rattle.flt_code.specs.declared.elementary.Sides.{Sides}
 use Rattle.flt_gen.specs.declared.wanted.Transport.{Transport}
 use Rattle.flt_code.specs.Elementary.{Reading, Yes, No, Rejected, reading_of, with, field_at, compares_at, kind_test, elementary_reads}
 use Rattle.flt_code.specs.Formula.{Formula, is_one_of, both, either, sides, reads}
-use Rattle.flt_gen.specs.Primitives.{address_places, net_test, net_formula, hosts_formula, port_places, port_sides, transport, behind, transport_ports, ip_transport, ip6_transport, port_test, port_formula}
+use Rattle.flt_gen.specs.Primitives.{address_places, net_test, net_formula, hosts_formula, port_places, port_sides, transport, following, transport_ports, ip_transport, ip6_transport, port_test, port_formula}
 use Rattle.flt_code.specs.Formula.{remaining, any_sides}
 use Rattle.flt_gen.specs.Group.{insert_ascending, one_formula, several_formula}
 use Rattle.flt_gen.proofs.Ascending.{one_of_inserted, one_of_others}
@@ -70,7 +70,7 @@ two_sides (Some x) (Some y) a f bs h =
     first : (x == f) ≡ true → is_one_of x bs ≡ true
     first e = let same : x ≡ f = grind (arith, nat_tests) in ap (λ z. is_one_of z bs) same ∙ h
 
--- behind the first the source is looked for among the others
+-- after the first the source is looked for among the others
 abbrev all_numbers : Option ℕ → Option ℕ → ℕ → List ℕ → Reading
 all_numbers os od a bs =
     either (reading_of (with os (λ x. Some (x == a)))) (either (reading_of (with od (λ x. Some (is_one_of x bs)))) (reading_of (with os (λ x. Some (is_one_of x bs)))))
@@ -216,8 +216,8 @@ module _ (link : Link) (p : List ℕ) (n : ℕ) where
   transport_reads (Some Udp) t u r = both (elementary_reads u p) r
   transport_reads (Some _) t u r = No
 
-  abbrev behind_reads : Option Protocol → Transport → Reading → Reading
-  behind_reads protocol header r = transport_reads protocol header.tcp header.udp (whole_reads header.whole r)
+  abbrev after_reads : Option Protocol → Transport → Reading → Reading
+  after_reads protocol header r = transport_reads protocol header.tcp header.udp (whole_reads header.whole r)
 
   whole_more : (o : Option Elementary) (a b : Reading) → whole_reads o (either a b) ≡ either (whole_reads o a) (whole_reads o b)
   whole_more None a b = refl
@@ -229,33 +229,33 @@ module _ (link : Link) (p : List ℕ) (n : ℕ) where
   transport_more (Some Udp) t u a b = one_kind (elementary_reads u p) a b
   transport_more (Some _) t u a b = refl
 
-  behind_more : (protocol : Option Protocol) (header : Transport) (a b : Reading) → behind_reads protocol header (either a b) ≡ either (behind_reads protocol header a) (behind_reads protocol header b)
-  behind_more protocol header a b =
+  after_more : (protocol : Option Protocol) (header : Transport) (a b : Reading) → after_reads protocol header (either a b) ≡ either (after_reads protocol header a) (after_reads protocol header b)
+  after_more protocol header a b =
       ap (λ r. transport_reads protocol header.tcp header.udp r) (whole_more header.whole a b)
       ∙ transport_more protocol header.tcp header.udp (whole_reads header.whole a) (whole_reads header.whole b)
 
-  behind_is : (protocol : Option Protocol) (t u : Elementary) (o : Option Elementary) (f : Formula) → reads link (transport protocol t u (behind o f)) p n ≡ transport_reads protocol t u (whole_reads o (reads link f p n))
-  behind_is None t u None f = refl
-  behind_is None t u (Some w) f = refl
-  behind_is (Some Tcp) t u None f = refl
-  behind_is (Some Tcp) t u (Some w) f = refl
-  behind_is (Some Udp) t u None f = refl
-  behind_is (Some Udp) t u (Some w) f = refl
-  behind_is (Some _) t u o f = refl
+  after_is : (protocol : Option Protocol) (t u : Elementary) (o : Option Elementary) (f : Formula) → reads link (transport protocol t u (following o f)) p n ≡ transport_reads protocol t u (whole_reads o (reads link f p n))
+  after_is None t u None f = refl
+  after_is None t u (Some w) f = refl
+  after_is (Some Tcp) t u None f = refl
+  after_is (Some Tcp) t u (Some w) f = refl
+  after_is (Some Udp) t u None f = refl
+  after_is (Some Udp) t u (Some w) f = refl
+  after_is (Some _) t u o f = refl
 
   abbrev ports_read : Option Protocol → Direction → Ports → List ℕ → Reading
   ports_read protocol d ports bs = reads link (port_formula link (port_test protocol d ports) bs) p n
 
   abbrev two_headers : Option Protocol → Reading → Reading → Reading
   two_headers protocol a b =
-      either (both (kind_reads kind.Ip) (behind_reads protocol (ip_transport link) a)) (both (kind_reads kind.Ip6) (behind_reads protocol (ip6_transport link) b))
+      either (both (kind_reads kind.Ip) (after_reads protocol (ip_transport link) a)) (both (kind_reads kind.Ip6) (after_reads protocol (ip6_transport link) b))
 
   ports_are : (protocol : Option Protocol) (d : Direction) (ports : Ports) (bs : List ℕ) (a b : Reading) → reads link (port_sides ports d (ip_transport link) bs) p n ≡ a → reads link (port_sides ports d (ip6_transport link) bs) p n ≡ b → ports_read protocol d ports bs ≡ two_headers protocol a b
   ports_are protocol d ports bs a b e g =
       let h = ip_transport link in
       let k = ip6_transport link in
-      ap (λ v. either (both (kind_reads kind.Ip) v) (both (kind_reads kind.Ip6) (reads link (transport_ports k (port_test protocol d ports) bs) p n))) (behind_is protocol h.tcp h.udp h.whole (port_sides ports d h bs))
-      ∙ ap (λ v. either (both (kind_reads kind.Ip) (behind_reads protocol h (reads link (port_sides ports d h bs) p n))) (both (kind_reads kind.Ip6) v)) (behind_is protocol k.tcp k.udp k.whole (port_sides ports d k bs))
+      ap (λ v. either (both (kind_reads kind.Ip) v) (both (kind_reads kind.Ip6) (reads link (transport_ports k (port_test protocol d ports) bs) p n))) (after_is protocol h.tcp h.udp h.whole (port_sides ports d h bs))
+      ∙ ap (λ v. either (both (kind_reads kind.Ip) (after_reads protocol h (reads link (port_sides ports d h bs) p n))) (both (kind_reads kind.Ip6) v)) (after_is protocol k.tcp k.udp k.whole (port_sides ports d k bs))
       ∙ ap (λ v. two_headers protocol v (reads link (port_sides ports d k bs) p n)) e
       ∙ ap (λ v. two_headers protocol a v) g
 
@@ -271,9 +271,9 @@ module _ (link : Link) (p : List ℕ) (n : ℕ) where
   headers_more protocol a b x y =
       let h = ip_transport link in
       let k = ip6_transport link in
-      ap (λ v. either (both (kind_reads kind.Ip) v) (both (kind_reads kind.Ip6) (behind_reads protocol k (either b y)))) (behind_more protocol h a x)
-      ∙ ap (λ v. either (both (kind_reads kind.Ip) (either (behind_reads protocol h a) (behind_reads protocol h x))) (both (kind_reads kind.Ip6) v)) (behind_more protocol k b y)
-      ∙ two_kinds (kind_reads kind.Ip) (kind_reads kind.Ip6) (behind_reads protocol h a) (behind_reads protocol k b) (behind_reads protocol h x) (behind_reads protocol k y) (ip_no_ip6 p link)
+      ap (λ v. either (both (kind_reads kind.Ip) v) (both (kind_reads kind.Ip6) (after_reads protocol k (either b y)))) (after_more protocol h a x)
+      ∙ ap (λ v. either (both (kind_reads kind.Ip) (either (after_reads protocol h a) (after_reads protocol h x))) (both (kind_reads kind.Ip6) v)) (after_more protocol k b y)
+      ∙ two_kinds (kind_reads kind.Ip) (kind_reads kind.Ip6) (after_reads protocol h a) (after_reads protocol k b) (after_reads protocol h x) (after_reads protocol k y) (ip_no_ip6 p link)
 
   abbrev of_header : Transport → Direction → ℕ → List ℕ → Reading
   of_header header d f bs = side_reads (port_places header) d f bs

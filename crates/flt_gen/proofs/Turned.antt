@@ -72,7 +72,7 @@ last_node link ns (suc k) other w within e =
     ∙ one_walked link w (get_or ns (suc k) other) (get_or ns k other) (reverse (take k ns)) e
     ∙ ap (λ xs. emit_nodes link (emit_node link w (get_or ns (suc k) other)) xs) (sym two)
 
--- a walk that has so many of the nodes in front of it, and room for them
+-- a walk that has that many of the nodes in front of it, and room for them
 pub record Stands (link : Link) (ns : List Node) (m : ℕ) (w : Walk) : Type 0 where
   pub within : m ≤ length ns
   pub same : emit_nodes link w (reverse (take m ns)) ≡ emit_nodes link start_walk (reverse ns)
@@ -88,7 +88,7 @@ stands link ns m w room within same low =
     let s = low.slot in
     record { within = within; same = same; low = low; slots = omega arith; some = low.upper_bound; code = omega arith }
 
--- behind one node more
+-- after one node more
 one_stands : (link : Link) (ns : List Node) (j : ℕ) (other : Node) (w : Walk) → length (emit_nodes link start_walk (reverse ns)).code ≤ 32768 → Stands link ns (suc j) w → both_last link ns j other w ≡ None → Stands link ns j (emit_node link w (get_or ns j other))
 one_stands link ns j other w room h e =
     let l = h.within in
@@ -104,7 +104,7 @@ node_stands link ns m other w room h some e =
     let up : m ≡ suc (m - 1) = omega arith in
     one_stands link ns (m - 1) other w room (subst (λ j. Stands link ns j w) up h) (last_is link ns (m - 1) other w some ∙ e)
 
--- behind two nodes more, at once
+-- after two nodes more, at once
 pub both_stand : (link : Link) (ns : List Node) (m : ℕ) (other : Node) (w v : Walk) → length (emit_nodes link start_walk (reverse ns)).code ≤ 32768 → Stands link ns m w → 0 < m - 1 → emit_both_nodes link w (get_or ns (m - 1) other) (get_or ns (m - 1 - 1) other) ≡ Some v → Stands link ns (m - 1 - 1) v
 both_stand link ns m other w v room h some e =
     let up : m ≡ suc (m - 1) = omega arith in

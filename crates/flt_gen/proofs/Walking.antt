@@ -49,17 +49,17 @@ number_walked link (applied o a (load p s i)) w d = number_walked link (load p s
 number_walked link (applied o a (negated i)) w d = number_walked link (negated i) _ (number_onto a d) ∙ number_walked link a _ d
 number_walked link (applied o a (applied q x y)) w d = number_walked link (applied q x y) _ (number_onto a d) ∙ number_walked link a _ d
 
--- a walk between two truths, with hosts that wait; and one behind an or
+-- a walk between two truths, with hosts that wait; and one after an or
 abbrev pub waiting : List Insn → Targets → List LeftTruth → Group → Walk
 waiting c to ts group = record { code = c; to = to; slot = 0; truths = ts; numbers = []; accessors = []; group = group; pending = next.Nothing }
 
-abbrev behind_or : List Insn → Targets → List LeftTruth → Group → Walk
-behind_or c to ts group = record (waiting c to ts group) { pending = next.Or }
+abbrev after_or : List Insn → Targets → List LeftTruth → Group → Walk
+after_or c to ts group = record (waiting c to ts group) { pending = next.Or }
 
 abbrev pub between : List Insn → Targets → List LeftTruth → Walk
 between c to ts = waiting c to ts no_group
 
--- where a truth and the hosts behind it go on
+-- where a truth and the hosts after it go on
 abbrev emit_of : Link → Formula → List Insn → Targets → List LeftTruth → Walk
 emit_of link f c to ts = finish_truth (emit_formula link nothing f to.yes to.no c) (between c to ts)
 
@@ -71,7 +71,7 @@ value_walked : (link : Link) (q : CompleteQualifiers) (v : Value) (c : List Insn
 value_walked link q v c to ts group None = leaf_put link (qualified_needed link q v) c to ts group group.numbers
 value_walked link q v c to ts group (Some more) = refl
 
--- a comparison behind the group that waits: a constant that is its right operand is in the test
+-- a comparison after the group that waits: a constant that is its right operand is in the test
 abbrev comparison_walked : Link → Comparison → NumberTree → Walk → List Node → Walk
 comparison_walked link k (literal j) w d = emit_nodes link (with_insns (emit_comparison k Constant j w.to.yes w.to.no w.code) w) d
 comparison_walked link k (named j) w d = emit_nodes link (with_insns (emit_comparison k Constant j w.to.yes w.to.no w.code) w) d
@@ -103,9 +103,9 @@ relation_settled link k a b c to ts group d (h ∷ hs) =
     let e = emit_formula link nothing (group_formula link group) to.yes to.no c in
     relation_walked link k a b e.code (targets to.yes e.entry) ts d
 
--- a host that is the right operand of an or waits with those behind it
-member_waits : (link : Link) (b : TruthTree) (c : List Insn) (to : Targets) (ts : List LeftTruth) (group more : Group) (d : List Node) → truth_member b group ≡ Some more → emit_nodes link (behind_or c to ts group) (truth_onto b d) ≡ emit_nodes link (waiting c to ts more) d
-member_waits link (qualified q v) c to ts group more d e = ap (λ o. emit_nodes link (emit_value link q v (behind_or c to ts group) o) d) e
+-- a host that is the right operand of an or waits with those after it
+member_waits : (link : Link) (b : TruthTree) (c : List Insn) (to : Targets) (ts : List LeftTruth) (group more : Group) (d : List Node) → truth_member b group ≡ Some more → emit_nodes link (after_or c to ts group) (truth_onto b d) ≡ emit_nodes link (waiting c to ts more) d
+member_waits link (qualified q v) c to ts group more d e = ap (λ o. emit_nodes link (emit_value link q v (after_or c to ts group) o) d) e
 member_waits link (check p) c to ts group more d e = cc
 member_waits link (cast p k) c to ts group more d e = cc
 member_waits link (sized s n) c to ts group more d e = cc
@@ -116,19 +116,19 @@ member_waits link (denied a) c to ts group more d e = cc
 member_waits link (joined j a b) c to ts group more d e = cc
 
 -- any other right operand is on its own, and the left one waits for it
-abbrev left_behind_or : Targets → LeftTruth
-left_behind_or to = record { join = Or; to = to }
+abbrev left_after_or : Targets → LeftTruth
+left_after_or to = record { join = Or; to = to }
 
-right_begins : (link : Link) (b : TruthTree) (c : List Insn) (to : Targets) (ts : List LeftTruth) (group : Group) (d : List Node) → truth_member b group ≡ None → emit_nodes link (behind_or c to ts group) (truth_onto b d) ≡ emit_nodes link (waiting c to (left_behind_or to ∷ ts) group) (truth_onto b d)
+right_begins : (link : Link) (b : TruthTree) (c : List Insn) (to : Targets) (ts : List LeftTruth) (group : Group) (d : List Node) → truth_member b group ≡ None → emit_nodes link (after_or c to ts group) (truth_onto b d) ≡ emit_nodes link (waiting c to (left_after_or to ∷ ts) group) (truth_onto b d)
 right_begins link (qualified q v) c to ts group d e =
-    ap (λ o. emit_nodes link (emit_value link q v (behind_or c to ts group) o) d) e ∙ sym (ap (λ o. emit_nodes link (emit_value link q v (waiting c to (left_behind_or to ∷ ts) group) o) d) e)
+    ap (λ o. emit_nodes link (emit_value link q v (after_or c to ts group) o) d) e ∙ sym (ap (λ o. emit_nodes link (emit_value link q v (waiting c to (left_after_or to ∷ ts) group) o) d) e)
 right_begins link (check p) c to ts group d e = refl
 right_begins link (cast p k) c to ts group d e = refl
 right_begins link (sized s n) c to ts group d e = refl
 right_begins link (bare v) c to ts group d e = refl
 right_begins link (valued q v) c to ts group d e = refl
 right_begins link (compared k a b) c to ts group d e =
-    compare_walked link k b (behind_or c to ts group) (number_onto a d) ∙ sym (compare_walked link k b (waiting c to (left_behind_or to ∷ ts) group) (number_onto a d))
+    compare_walked link k b (after_or c to ts group) (number_onto a d) ∙ sym (compare_walked link k b (waiting c to (left_after_or to ∷ ts) group) (number_onto a d))
 right_begins link (denied a) c to ts group d e = refl
 right_begins link (joined And a b) c to ts group d e = refl
 right_begins link (joined Or a b) c to ts group d e = refl
@@ -152,10 +152,10 @@ settled_both link a b ha hb c to ts group d [] = both_walked link a b ha hb c to
 settled_both link a b ha hb c to ts group d (x ∷ xs) =
     let e = emit_formula link nothing (group_formula link group) to.yes to.no c in both_walked link a b ha hb e.code (targets to.yes e.entry) ts d
 
-either_walked : (link : Link) (a b : TruthTree) (group : Group) (o : Option Group) → truth_member b group ≡ o → Walks link a no_group → ((more : Group) → Walks link a more) → Walks link b group → (c : List Insn) (to : Targets) (ts : List LeftTruth) (d : List Node) → emit_nodes link (behind_or c to ts group) (truth_onto b (truth_onto a d)) ≡ emit_nodes link (emit_of link (choice o (λ more. grouped_formula link more a) (Either (grouped_formula link no_group a) (grouped_formula link group b))) c to ts) d
+either_walked : (link : Link) (a b : TruthTree) (group : Group) (o : Option Group) → truth_member b group ≡ o → Walks link a no_group → ((more : Group) → Walks link a more) → Walks link b group → (c : List Insn) (to : Targets) (ts : List LeftTruth) (d : List Node) → emit_nodes link (after_or c to ts group) (truth_onto b (truth_onto a d)) ≡ emit_nodes link (emit_of link (choice o (λ more. grouped_formula link more a) (Either (grouped_formula link no_group a) (grouped_formula link group b))) c to ts) d
 either_walked link a b group None e ha hm hb c to ts d =
     let x = emit_formula link nothing (grouped_formula link group b) to.yes to.no c in
-    right_begins link b c to ts group (truth_onto a d) e ∙ hb c to (left_behind_or to ∷ ts) (truth_onto a d) ∙ ha x.code (targets to.yes x.entry) ts d
+    right_begins link b c to ts group (truth_onto a d) e ∙ hb c to (left_after_or to ∷ ts) (truth_onto a d) ∙ ha x.code (targets to.yes x.entry) ts d
 either_walked link a b group (Some more) e ha hm hb c to ts d = member_waits link b c to ts group more (truth_onto a d) e ∙ hm more c to ts d
 
 pub truth_walked : (link : Link) (a : TruthTree) (group : Group) → Walks link a group

@@ -8,7 +8,7 @@ use Rattle.cap_octet.specs.declared.link.Link.{Link}
 use Rattle.flt_code.specs.Elementary.{Yes}
 use Rattle.flt_gen.specs.Reading.{holds}
 
--- a run on the captured bytes p of a packet of original length n comes to an answer, which is other
+-- a run on the captured bytes p of a packet of original length n reaches an answer, which is other
 -- than 0 exactly where the expression matches
 pub record Decides (prog : List Insn) (e : Expression) (link : Link) (p : List ℕ)
     (n : ℕ) : Type 0 where

@@ -39,7 +39,7 @@ without_protocol p [] = []
 without_protocol p (q ∷ qs) =
     if equals p q then without_protocol p qs else q ∷ without_protocol p qs
 
--- a protocol in front of others: those behind it that are the same are left out, since what they
+-- a protocol in front of others: those after it that are the same are left out, since what they
 -- test is known
 abbrev pub with_accessor : Protocol → List Protocol → List Protocol
 with_accessor p ps = p ∷ without_protocol p ps
@@ -77,7 +77,7 @@ capture_test (Field t) = Field (record t { mask = None; comparison = AtLeast; va
 abbrev pub last_test : Elementary → Elementary
 last_test t = if is_idle t then capture_test t else t
 
--- of tests of words, each behind the one before: where a word isn't captured, no later one is. So
+-- of tests of words, each after the one before: where a word isn't captured, no later one is. So
 -- an idle test in front of another one is left out
 abbrev pub needed_tests : List Elementary → List Elementary
 needed_tests [] = []

@@ -138,7 +138,7 @@ abbrev pub choice : Option Group → (Group → Formula) → Formula → Formula
 choice None f g = g
 choice (Some group) f g = f group
 
--- the formula of a truth, or else one of the group behind it: the hosts or ports at its end are
+-- the formula of a truth, or else one of the group after it: the hosts or ports at its end are
 -- looked for together with it
 abbrev pub grouped_formula : Link → Group → TruthTree → Formula
 grouped_formula link group (joined Or a b) =

@@ -126,7 +126,7 @@ address_test mask address offset =
       value = address;
     })
 
--- how far behind the network header's start the addresses stand
+-- how far past the network header's start the addresses are
 abbrev pub source_offset : FrameKind → ℕ
 source_offset Ip = 12
 source_offset _ = 14
@@ -226,19 +226,19 @@ transport None tcp udp f = Fork tcp udp f
 transport (Some _) tcp udp f = Single (Outcome false)
 
 -- a test, if there is one, and then a formula
-abbrev pub behind : Option Elementary → Formula → Formula
-behind None f = f
-behind (Some t) f = Guard t f
+abbrev pub following : Option Elementary → Formula → Formula
+following None f = f
+following (Some t) f = Guard t f
 
-abbrev pub ports_behind : Transport → PortTest → List ℕ → Formula
-ports_behind header wanted numbers =
-    behind header.whole (port_sides wanted.ports wanted.direction header numbers)
+abbrev pub ports_after : Transport → PortTest → List ℕ → Formula
+ports_after header wanted numbers =
+    following header.whole (port_sides wanted.ports wanted.direction header numbers)
 
 abbrev pub transport_ports : Transport → PortTest → List ℕ → Formula
 transport_ports header wanted numbers =
-    transport wanted.protocol header.tcp header.udp (ports_behind header wanted numbers)
+    transport wanted.protocol header.tcp header.udp (ports_after header wanted numbers)
 
--- behind an IPv4 header, which has no fixed length; no later fragment has ports
+-- after an IPv4 header, which has no fixed length; no later fragment has ports
 abbrev pub ip_transport : Link → Transport
 ip_transport link = record {
   tcp = has_ip_proto link IPPROTO_TCP;
@@ -248,7 +248,7 @@ ip_transport link = record {
   destination = AfterHeader (network_offset link) (network_offset link + 2);
 }
 
--- behind an IPv6 header
+-- after an IPv6 header
 abbrev pub ip6_transport : Link → Transport
 ip6_transport link = record {
   tcp = has_ip6_proto link IPPROTO_TCP;

@@ -54,7 +54,7 @@ abbrev pub left_targets : Join → Targets → ℕ → Targets
 left_targets And to entry = targets entry to.no
 left_targets Or to entry = targets to.yes entry
 
--- the targets behind a truth that is entered at a place: of the left operand that waits; once none
+-- the targets after a truth that is entered at a place: of the left operand that waits; once none
 -- waits, the program begins there
 abbrev pub next_targets : List LeftTruth → ℕ → Targets
 next_targets [] entry = targets entry entry
@@ -94,7 +94,7 @@ finish_number link (Left slot ∷ ns) w = record w {
 abbrev pub with_insns : List Insn → Walk → Walk
 with_insns c w = record w { code = c }
 
--- a right operand is next, and the left one waits; the code behind them finds both
+-- a right operand is next, and the left one waits; the code after them finds both
 abbrev pub begin_operands : ℕ → List Insn → Walk → Walk
 begin_operands slot c w = record w {
   code = emit_operands slot c;
@@ -124,7 +124,7 @@ flush_members link w (a ∷ others) =
 abbrev pub flush_group : Link → Walk → Walk
 flush_group link w = flush_members link (begin_right w.pending w) w.group.numbers
 
--- a host or port and those behind it: they wait for one more if it is the right operand of an or
+-- a host or port and those after it: they wait for one more if it is the right operand of an or
 abbrev pub finish_group : Link → Walk → Group → Pending → Walk
 finish_group link w group next.Or = record w { group = group; pending = next.Nothing }
 finish_group link w group next.Nothing =

@@ -4,7 +4,7 @@ ghost use Rattle.std.specs.Prelude.{◌≡◌, ◌+◌, ◌*◌, ◌≤◌, leng
 ghost use Rattle.cap_octet.specs.Link.{longest_header};
 ghost use Rattle.flt_tree.specs.Nets.{first_bits};
 ghost use Rattle.flt_code.specs.Elementary.{kind_test};
-ghost use Rattle.flt_code.specs.Emits.{HasRoom, Emits, EmitsFormula, EmitsBehind};
+ghost use Rattle.flt_code.specs.Emits.{HasRoom, Emits, EmitsFormula, EmitsAfter};
 ghost use Rattle.flt_gen.specs.Primitives.{address_test, address_places, net_formula};
 ghost use Rattle.flt_gen.specs.Primitives.{hosts_sides, any_hosts, hosts_formula};
 ghost use Rattle.flt_gen.specs.Primitives.{ip6_test, ip6_tests};
@@ -76,8 +76,8 @@ fn emit_host_sides<A: Allocator>(
     }
 }
 
-/// The same behind that header. A frame of another kind goes on at `other`.
-fn emit_hosts_behind<A: Allocator>(
+/// The same after that header. A frame of another kind goes on at `other`.
+fn emit_hosts_in<A: Allocator>(
     code: &mut Code<A>,
     context: Context,
     kind: FrameKind,
@@ -86,12 +86,12 @@ fn emit_hosts_behind<A: Allocator>(
     other: usize,
 ) -> Result<usize, AllocError>
     requires { HasRoom (12 * length numbers.now + 24) code.old }
-    ensures { EmitsBehind (12 * length numbers.now + 24) result
+    ensures { EmitsAfter (12 * length numbers.now + 24) result
         context (kind_test context.link kind) other
         (hosts_sides context.link kind wanted numbers.now) code.old code.new }
 {
     let is_kind = kind_test(context.link, kind);
-    let yes = emit_host_sides(code, context.behind(is_kind), kind, wanted, numbers)?;
+    let yes = emit_host_sides(code, context.following(is_kind), kind, wanted, numbers)?;
     emit_elementary(code, context.going_to(yes, other), is_kind)
 }
 
@@ -108,7 +108,7 @@ fn emit_any_hosts<A: Allocator>(
 {
     let not_ip = context.elsewhere(kind_test(context.link, FrameKind::Ip));
     let neither = not_ip.elsewhere(kind_test(context.link, FrameKind::Arp));
-    let rarp = emit_hosts_behind(
+    let rarp = emit_hosts_in(
         code,
         neither,
         FrameKind::Rarp,
@@ -116,8 +116,8 @@ fn emit_any_hosts<A: Allocator>(
         numbers,
         context.to.no,
     )?;
-    let arp = emit_hosts_behind(code, not_ip, FrameKind::Arp, wanted, numbers, rarp)?;
-    emit_hosts_behind(code, context, FrameKind::Ip, wanted, numbers, arp)
+    let arp = emit_hosts_in(code, not_ip, FrameKind::Arp, wanted, numbers, rarp)?;
+    emit_hosts_in(code, context, FrameKind::Ip, wanted, numbers, arp)
 }
 
 /// Hosts of IPv4, by the forms that their protocol allows.
@@ -139,7 +139,7 @@ pub fn emit_hosts<A: Allocator>(
         Some(_) => return Ok(context.to.no),
         None => return emit_any_hosts(code, context, wanted, numbers),
     };
-    emit_hosts_behind(code, context, kind, wanted, numbers, context.to.no)
+    emit_hosts_in(code, context, kind, wanted, numbers, context.to.no)
 }
 
 /// `host` and `net` of IPv4.
@@ -156,7 +156,7 @@ pub fn emit_net<A: Allocator>(
     emit_hosts(code, context, protocol, Hosts::Net(net), &[])
 }
 
-/// A mask of so many bits, of 32.
+/// A mask of `bits` bits, of 32.
 fn prefix_mask(bits: u32) -> u32
     ensures { result ≡ first_bits 32 bits }
 {
@@ -214,7 +214,7 @@ fn last_test(test: Elementary) -> Elementary
     }
 }
 
-/// All of some tests of words, each behind the one before. One of which no bit counts is left out
+/// All of some tests of words, each after the one before. One of which no bit counts is left out
 /// in front of another: where its word isn't captured, no later one is.
 #[tactic(auto, using(flt_code::proofs::Joined::all_emitted))]
 fn emit_words<A: Allocator>(
@@ -283,6 +283,6 @@ pub fn emit_ip6<A: Allocator>(
     let source = ip6_tests(prefix, address, start + 8);
     let destination = ip6_tests(prefix, address, start + 24);
     let kind = kind_test(context.link, FrameKind::Ip6);
-    let yes = emit_word_sides(code, context.behind(kind), direction, &source, &destination)?;
+    let yes = emit_word_sides(code, context.following(kind), direction, &source, &destination)?;
     emit_elementary(code, context.going_to(yes, context.to.no), kind)
 }

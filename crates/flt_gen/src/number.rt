@@ -75,7 +75,7 @@ pub fn emit_operands<A: Allocator>(code: &mut Code<A>, slot: u32) -> Result<(), 
     code.emit_plain(Operation::CopyToIndex, 0)
 }
 
-/// A field goes into A that stands as far behind a place as A says.
+/// Emits A = the field A bytes past a place.
 fn emit_base<A: Allocator>(code: &mut Code<A>, at: u32, width: Width) -> Result<(), AllocError>
     ensures { OnOk result (code.new ≡ emit_base at width code.old) }
 {
@@ -83,7 +83,7 @@ fn emit_base<A: Allocator>(code: &mut Code<A>, at: u32, width: Width) -> Result<
     code.emit_plain(Operation::CopyToIndex, 0)
 }
 
-/// The same behind an IPv4 header.
+/// The same after an IPv4 header.
 fn emit_transport<A: Allocator>(
     code: &mut Code<A>,
     link: Link,

@@ -3,9 +3,9 @@
 //! (`emit_port_sides`).
 
 ghost use Rattle.std.specs.Prelude.{◌≡◌, ◌+◌, ◌*◌, length};
-ghost use Rattle.flt_code.specs.Emits.{HasRoom, EmitsFormula, EmitsBehind};
+ghost use Rattle.flt_code.specs.Emits.{HasRoom, EmitsFormula, EmitsAfter};
 ghost use Rattle.flt_gen.specs.Primitives.{port_is, port_between, port_places, port_sides};
-ghost use Rattle.flt_gen.specs.Primitives.{ports_behind, transport_ports, ip_transport};
+ghost use Rattle.flt_gen.specs.Primitives.{ports_after, transport_ports, ip_transport};
 ghost use Rattle.flt_gen.specs.Primitives.{ip6_transport, port_formula};
 
 use crate::wanted::{PortTest, Ports, Transport};
@@ -20,7 +20,7 @@ use flt_code::{
 use flt_words::{Comparison, Protocol};
 use std::alloc::{AllocError, Allocator};
 
-/// Where the ports stand behind a header.
+/// Where the ports follow a header.
 fn port_places(header: Transport) -> Sides
     ensures { result ≡ port_places header }
 {
@@ -79,7 +79,7 @@ fn emit_port_sides<A: Allocator>(
 }
 
 /// The ports of a header that isn't a later fragment's.
-fn emit_ports_behind<A: Allocator>(
+fn emit_ports_in<A: Allocator>(
     code: &mut Code<A>,
     context: Context,
     header: Transport,
@@ -88,18 +88,18 @@ fn emit_ports_behind<A: Allocator>(
 ) -> Result<usize, AllocError>
     requires { HasRoom (12 * length numbers.now + 30) code.old }
     ensures { EmitsFormula (12 * length numbers.now + 30) result context
-        (ports_behind header wanted numbers.now) code.old code.new }
+        (ports_after header wanted numbers.now) code.old code.new }
 {
     match header.whole {
         None => emit_port_sides(code, context, header, wanted, numbers),
         Some(whole) => {
-            let yes = emit_port_sides(code, context.behind(whole), header, wanted, numbers)?;
+            let yes = emit_port_sides(code, context.following(whole), header, wanted, numbers)?;
             emit_elementary(code, context.going_to(yes, context.to.no), whole)
         }
     }
 }
 
-/// The same behind the protocol that is asked for, or else TCP or UDP.
+/// The same after the protocol that is asked for, or else TCP or UDP.
 fn emit_transport_ports<A: Allocator>(
     code: &mut Code<A>,
     context: Context,
@@ -117,16 +117,16 @@ fn emit_transport_ports<A: Allocator>(
         Some(Protocol::Udp) => udp,
         Some(_) => return Ok(no),
         None => {
-            let behind = context.behind_one_of(tcp, udp);
-            let yes = emit_ports_behind(code, behind, header, wanted, numbers)?;
+            let following = context.after_one_of(tcp, udp);
+            let yes = emit_ports_in(code, following, header, wanted, numbers)?;
             return emit_fork(code, context.going_to(yes, no), tcp, udp);
         }
     };
-    let yes = emit_ports_behind(code, context.behind(protocol), header, wanted, numbers)?;
+    let yes = emit_ports_in(code, context.following(protocol), header, wanted, numbers)?;
     emit_elementary(code, context.going_to(yes, no), protocol)
 }
 
-/// The same behind a header of a kind. A frame of another kind goes on at `other`.
+/// The same after a header of a kind. A frame of another kind goes on at `other`.
 fn emit_ports_of_kind<A: Allocator>(
     code: &mut Code<A>,
     context: Context,
@@ -137,14 +137,14 @@ fn emit_ports_of_kind<A: Allocator>(
     other: usize,
 ) -> Result<usize, AllocError>
     requires { HasRoom (12 * length numbers.now + 48) code.old }
-    ensures { EmitsBehind (12 * length numbers.now + 48) result context kind other
+    ensures { EmitsAfter (12 * length numbers.now + 48) result context kind other
         (transport_ports header wanted numbers.now) code.old code.new }
 {
-    let yes = emit_transport_ports(code, context.behind(kind), header, wanted, numbers)?;
+    let yes = emit_transport_ports(code, context.following(kind), header, wanted, numbers)?;
     emit_elementary(code, context.going_to(yes, other), kind)
 }
 
-/// An IPv4 header has no fixed length: the ports stand behind the place that it leads to.
+/// An IPv4 header has no fixed length: the ports follow the place that it leads to.
 fn ip_transport(link: Link) -> Transport
     ensures { result ≡ ip_transport link }
 {

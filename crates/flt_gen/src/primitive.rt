@@ -3,7 +3,7 @@
 ghost use Rattle.std.specs.Prelude.{◌≡◌, ◌≤◌};
 ghost use Rattle.flt_code.specs.Elementary.{kind_test};
 ghost use Rattle.flt_code.specs.Formula.{Single};
-ghost use Rattle.flt_code.specs.Emits.{HasRoom, EmitsFormula, EmitsBehind};
+ghost use Rattle.flt_code.specs.Emits.{HasRoom, EmitsFormula, EmitsAfter};
 ghost use Rattle.flt_gen.specs.Primitives.{ether_proto, check_formula, proto_formula};
 ghost use Rattle.flt_gen.specs.Primitives.{ether_host, mac_tests, is_group_address, cast_formula};
 
@@ -18,8 +18,8 @@ use flt_tree::Direction;
 use flt_words::{Cast, Comparison, Protocol, Side};
 use std::alloc::{AllocError, Allocator};
 
-/// The protocol behind a header of a kind. A frame of another kind goes on at `other`.
-fn emit_proto_behind<A: Allocator>(
+/// The protocol after a header of a kind. A frame of another kind goes on at `other`.
+fn emit_proto_in<A: Allocator>(
     code: &mut Code<A>,
     context: Context,
     kind: Elementary,
@@ -27,9 +27,9 @@ fn emit_proto_behind<A: Allocator>(
     other: usize,
 ) -> Result<usize, AllocError>
     requires { HasRoom 12 code.old }
-    ensures { EmitsBehind 12 result context kind other (Single has_proto) code.old code.new }
+    ensures { EmitsAfter 12 result context kind other (Single has_proto) code.old code.new }
 {
-    let yes = emit_elementary(code, context.behind(kind), has_proto)?;
+    let yes = emit_elementary(code, context.following(kind), has_proto)?;
     emit_elementary(code, context.going_to(yes, other), kind)
 }
 
@@ -97,12 +97,12 @@ pub fn emit_proto<A: Allocator>(
         has_ip6_proto(link, protocol),
     );
     match below {
-        Some(Protocol::Ip) => emit_proto_behind(code, context, ip, has_ip, no),
-        Some(Protocol::Ip6) => emit_proto_behind(code, context, ip6, has_ip6, no),
+        Some(Protocol::Ip) => emit_proto_in(code, context, ip, has_ip, no),
+        Some(Protocol::Ip6) => emit_proto_in(code, context, ip6, has_ip6, no),
         Some(Protocol::Ether) => emit_ether_proto(code, context, protocol),
         None => {
-            let other = emit_proto_behind(code, context.elsewhere(ip), ip6, has_ip6, no)?;
-            emit_proto_behind(code, context, ip, has_ip, other)
+            let other = emit_proto_in(code, context.elsewhere(ip), ip6, has_ip6, no)?;
+            emit_proto_in(code, context, ip, has_ip, other)
         }
         Some(_) => Ok(no),
     }

@@ -204,7 +204,7 @@ impl<A: Allocator> Walk<A> {
         Ok(())
     }
 
-    /// A host or port and those behind it. If it is the right operand of an or, they wait for the
+    /// A host or port and those after it. If it is the right operand of an or, they wait for the
     /// left one.
     fn finish_group(&mut self, link: Link) -> Result<(), AllocError>
         requires room { length self.old.code < 2 ^ 30 }

@@ -38,7 +38,7 @@ impl PortTest {
     }
 }
 
-/// What stands behind a network header: the tests of TCP and UDP, the test that no later fragment
+/// What follows a network header: the tests of TCP and UDP, the test that no later fragment
 /// is there, where there are fragments, and the places of both ports.
 #[derive(Clone, Copy)]
 pub struct Transport {

@@ -18,11 +18,11 @@ use Rattle.flt_lang.specs.Values.{qualifiers_of, value_of, is_written}
 use Rattle.flt_lang.specs.Grammar.{is_accessor, is_check, has_casts, of_len, of_name, Truth, of_check, of_cast, of_protocol_cast, of_sized, of_valued, of_bare}
 use Rattle.flt_tree.specs.Nodes.{truth_onto}
 use Rattle.flt_lang.specs.Parser.{operand_precedence, Begun, begin, valued_of, valued_or, check_of, primitive, bare_of, with_frames}
-use Rattle.flt_lang.proofs.Valued.{qualifiers_sound, value_sound, side_written, left_behind}
+use Rattle.flt_lang.proofs.Valued.{qualifiers_sound, value_sound, side_written, left_after}
 use Rattle.flt_lang.proofs.Bare.{value_left}
-use Rattle.flt_lang.proofs.Stacked.{some_first, some_then, Stacked, Behind}
+use Rattle.flt_lang.proofs.Stacked.{some_first, some_then, Stacked, Following}
 
--- the tokens behind the next k
+-- the tokens after the next k
 abbrev pub left : List TokenKind → ℕ → List TokenKind
 left ts zero = ts
 left [] (suc k) = []
@@ -31,9 +31,9 @@ left (t ∷ ts) (suc k) = left ts k
 -- what is read so far, with or without an operand
 abbrev pub SoFar : Option Operand → List Frame → List Node → List TokenKind → List TokenKind → Type 0
 SoFar None fs d start here = Stacked fs d start here
-SoFar (Some x) fs d start here = Behind 1 fs x d start here
+SoFar (Some x) fs d start here = Following 1 fs x d start here
 
--- it holds behind a step
+-- it holds after a step
 abbrev pub After : Begun → List TokenKind → List TokenKind → Type 0
 After r start ts = SoFar r.1.1 r.1.0 r.1.2 start (left ts r.0)
 
@@ -66,7 +66,7 @@ valued_sound t ts fs d start q stacked w h =
     let P : Qualifiers × Value × ℕ → Type 0 = λ q. SoFar (Some operand.Truth) fs (node.Valued q.0 q.1 ∷ d) start (left ts q.2) in
     let reads_qualifiers = qualifiers_sound (t ∷ ts) in
     let reads_value = value_sound (qualifiers_of (t ∷ ts)).1 v value_is in
-    let rest_is = left_drops ts (length (t ∷ ts) - length v.1 - 1) ∙ left_behind t ts (qualifiers_of (t ∷ ts)).1 v.1 (qualifiers_of (t ∷ ts)).0 v.0 reads_qualifiers reads_value in
+    let rest_is = left_drops ts (length (t ∷ ts) - length v.1 - 1) ∙ left_after t ts (qualifiers_of (t ∷ ts)).1 v.1 (qualifiers_of (t ∷ ts)).0 v.0 reads_qualifiers reads_value in
     let reads : Truth 0 (t ∷ ts) (valued (qualifiers_of (t ∷ ts)).0 v.0) (left ts (length (t ∷ ts) - length v.1 - 1)) = subst (λ us. Truth 0 (t ∷ ts) (valued (qualifiers_of (t ∷ ts)).0 v.0) us) (sym rest_is) (of_valued reads_qualifiers w reads_value) in
     let one : ◌≡◌ {A = Qualifiers × Value × ℕ} ((qualifiers_of (t ∷ ts)).0, v.0, length (t ∷ ts) - length v.1 - 1) q = cc in
     subst P one (d, (t ∷ ts), stacked, (valued (qualifiers_of (t ∷ ts)).0 v.0, inl reads, refl))

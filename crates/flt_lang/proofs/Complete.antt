@@ -35,7 +35,7 @@ tight_operand (frame.Join j) fs h = absurd (omega arith)
 tight_operand frame.Open fs h = absurd (omega arith)
 tight_operand (frame.Load p) fs h = absurd (omega arith)
 
--- behind a frame that the next token makes take its operand, no value goes on
+-- after a frame that the next token makes take its operand, no value goes on
 no_prefix : (x : Operand) (ts : List TokenKind) (f : Frame) (fs : List Frame) (d : List Node) → precedence f ≤ next_precedence ts → after_operand ts (f ∷ fs) x d ≡ next_of ts (f ∷ fs) x d
 no_prefix (operand.Plain n) (token.Operator Divide ∷ token.Number m ∷ ts) f fs d h = rw (le_false 1 (operand_precedence (f ∷ fs)) (tight_operand f fs h)) refl
 no_prefix _ _ f fs d h = refl
@@ -150,7 +150,7 @@ literal_first (chain left at_level right) m here unary tokens = absurd (omega ar
 prefix_step : (n m : ℕ) (ts : List TokenKind) (fs : List Frame) (d : List Node) → 1 ≤ operand_precedence fs → run (token.Operator Divide ∷ token.Number m ∷ ts) 0 fs (Some (operand.Plain n)) d ≡ run ts 0 fs (Some (operand.Either n (Some m))) d
 prefix_step n m ts fs d h = rw (le_true 1 (operand_precedence fs) h)
 
--- a number and a length behind it, read as a value
+-- a number and a length after it, read as a value
 as_prefix : (o : Operator) (ts mid rest : List TokenKind) (fs : List Frame) (d e nodes : List Node) (x : Operand) (b : NumberTree) → run ts 0 fs None d ≡ run (token.Operator o ∷ mid) 0 fs (Some x) nodes → as_number x nodes ≡ Some e → Number (level o) mid b rest → 1 ≤ operand_precedence fs → IsPrefix o mid x → ReadsNumber ts fs d (node.Apply o ∷ number_onto b e) rest
 as_prefix o ts mid rest fs d e nodes x b runs is_num right roomy is =
     let unary : level o ≡ 0 = ap level is.divides in
@@ -196,7 +196,7 @@ reads_number (chain {k = k} {ts = ts} {mid = mid} {rest = rest} {a = a} {b = b} 
     })
     (prefix_or_not o mid l.operand)
 
--- a protocol with what may follow a truth behind it is a check
+-- a protocol with what may follow a truth after it is a check
 check_runs : (p : Protocol) (rest : List TokenKind) (fs : List Frame) (d : List Node) → is_check p ≡ true → 6 ≤ next_precedence rest → run (token.Protocol p ∷ rest) 0 fs None d ≡ run rest 0 fs (Some operand.Truth) (node.Check p ∷ d)
 check_runs p [] fs d is h = rw is refl
 check_runs p (token.Join j ∷ ts) fs d is h = rw is refl

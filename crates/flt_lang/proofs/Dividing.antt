@@ -1,4 +1,4 @@
--- A division by 0 stands right behind the 0.
+-- A division by 0 stands right after the 0.
 use Rattle.std.proofs.Common.{◌≡◌, List, [], ◌∷◌, refl, sym, ap, ◌∙◌, Bool, false, ◌||◌}
 use Rattle.flt_tree.specs.declared.node.Node.{Node}
 use Rattle.flt_tree.specs.declared.node.Node.TheVariants as node

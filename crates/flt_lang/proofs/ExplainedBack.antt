@@ -16,7 +16,7 @@ use Rattle.flt_tree.specs.declared.value.Value.TheVariants as value
 use Rattle.flt_tree.specs.Tree.{NumberTree, literal, len, named, load, negated, applied, TruthTree, check, cast, sized, bare, valued, qualified, compared, denied, joined, Expression, empty, truth}
 use Rattle.flt_tree.specs.Resolved.{IsResolved}
 use Rattle.flt_lang.specs.Grammar.{IsReadAs}
-use Rattle.flt_lang.specs.declared.spelling.Behind.TheVariants.{Other}
+use Rattle.flt_lang.specs.declared.spelling.Following.TheVariants.{Other}
 use Rattle.flt_lang.specs.Explained.{mask_tokens, prefix_tokens, value_tokens, protocol_tokens, direction_tokens, written_direction, written_type, written_tokens, typed_tokens, qualifier_tokens, number_tokens, open_operand, close_operand, truth_tokens, explained_tokens, explained_text}
 use Rattle.flt_lang.specs.Writable.{IsReadBack, IsWritable, IsWritableMask, IsWritableNumber, IsWritablePrefix, IsWritableTruth, IsWritableValue}
 use Rattle.flt_lang.proofs.TextTokens.{AreSpelled, lexes}

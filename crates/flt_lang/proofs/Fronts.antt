@@ -6,7 +6,7 @@ use Rattle.flt_tree.specs.declared.value.Value.{Value}
 use Rattle.flt_lang.specs.Grammar.{kinds_of}
 use Rattle.flt_lang.specs.Values.{value_of}
 
--- the first token and those behind it are all
+-- the first token and those after it are all
 pub first_and_rest : (ts : List Token) (t : Token) → 0 < length ts → (get_or ts 0 t).kind ∷ kinds_of (take (length ts - 1) (drop 1 ts)) ≡ kinds_of ts
 first_and_rest [] t h = absurd (omega arith)
 first_and_rest (u ∷ ts) t h = ap (λ us. u.kind ∷ kinds_of us) (take_rest (u ∷ ts) 1)

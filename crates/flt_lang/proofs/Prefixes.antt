@@ -6,12 +6,12 @@ use Rattle.std.specs.List.{list_all}
 use Rattle.flt_words.specs.declared.token.Token.{Token}
 use Rattle.flt_lang.specs.Nesting.{HasLongPrefix, is_prefix}
 
--- behind so many prefix tokens, some run gets longer than 100
+-- after a given number of prefix tokens, some run gets longer than 100
 abbrev pub has_long_run : ℕ → List Token → Bool
 has_long_run run [] = false
 has_long_run run (t ∷ ts) = cond (is_prefix t) (nat_lt 99 run || has_long_run (run + 1) ts) (has_long_run 0 ts)
 
--- a list begins with so many prefix tokens
+-- a list begins with a given number of prefix tokens
 record Begins (n : ℕ) (ts : List Token) : Type 0 where
   long : n ≤ length ts
   all : list_all is_prefix (take n ts) ≡ true
@@ -50,7 +50,7 @@ sound_step m run t ts false is left on anew h = elim (anew h) [
   | inr found ↦ inr (later t ts found)
 ]
 
--- what gets too long behind a run is the run itself or stands in the list
+-- what gets too long after a run is the run itself or stands in the list
 sound : (m run : ℕ) (ts : List Token) → m + run ≡ 101 → has_long_run run ts ≡ true → Begins m ts ⊎ HasLongPrefix ts
 sound zero run ts left h = inl (no_more 0 ts refl)
 sound (suc m) run [] left h = absurd (cc)
@@ -95,6 +95,6 @@ pub found_is : (ts : List Token) (found : Bool) → has_long_run 0 ts ≡ found 
 found_is ts true h = (λ _. long_run_is ts h, λ _. refl)
 found_is ts false h = (λ e. absurd (false≢true e), λ found. absurd (false≢true (sym h ∙ is_long_run ts found)))
 
--- a prefix token behind 100 others
+-- a prefix token after 100 others
 pub gets_long : (run i : ℕ) (ts : List Token) (t : Token) → 99 < run → i < length ts → is_prefix (get_or ts i t) ≡ true → has_long_run run (drop i ts) ≡ true
 gets_long run i ts t over within is = rw (drop_more ts i t within, is, lt-ltb 99 run over) refl

@@ -15,7 +15,7 @@ use Rattle.flt_lang.specs.Values.{no_mask, prefix, number}
 use Rattle.flt_lang.specs.Grammar.{level, Number, of_literal, enclosed, of_load, of_sized_load, single, chain, Truth, of_bare, enclosed_truth, term, IsReadAs, no_tokens, all_tokens}
 use Rattle.flt_lang.specs.Parser.{◌>>=◌, operand_precedence, token_precedence, next_precedence, as_number, as_truth, reduce, Begun, after_token, begin, whole, finish, run, all_run, enclosed_operand, next_of, after_operand}
 use Rattle.flt_tree.specs.Nodes.{truth_onto, expr_onto}
-use Rattle.flt_lang.proofs.Stacked.{some_first, some_then, widened, either_number, either_truth, Between, Behind, number_between, truth_between, chain_of, reduce_sound, loosened}
+use Rattle.flt_lang.proofs.Stacked.{some_first, some_then, widened, either_number, either_truth, Between, Following, number_between, truth_between, chain_of, reduce_sound, loosened}
 use Rattle.flt_lang.proofs.Begins.{left, SoFar, After, begun, begin_sound}
 
 -- an operand in parentheses
@@ -29,8 +29,8 @@ enclosed_between m r q (operand.Plain n) d e mid rest (is, nodes) =
 enclosed_between m r q (operand.Either n l) d e mid rest (k, in_reach, in_room, small, reads, reads_truth, nodes) =
     (0, zero-le, zero-le, zero-le, enclosed (widened k 4 mid (token.Close ∷ rest) (either_number n l) small reads), enclosed_truth (term reads_truth), nodes)
 
--- the tokens behind an operand
-place_sound : (t : TokenKind) (ts : List TokenKind) (fs : List Frame) (x : Operand) (e : List Node) (start : List TokenKind) (r : Begun) → Behind (next_precedence (t ∷ ts)) fs x e start (t ∷ ts) → after_token (t ∷ ts) fs x e ≡ Some r → After r start ts
+-- the tokens after an operand
+place_sound : (t : TokenKind) (ts : List TokenKind) (fs : List Frame) (x : Operand) (e : List Node) (start : List TokenKind) (r : Begun) → Following (next_precedence (t ∷ ts)) fs x e start (t ∷ ts) → after_token (t ∷ ts) fs x e ≡ Some r → After r start ts
 place_sound (token.Operator o) ts fs x e start r (d, mid, stacked, between) h =
     let (roomy, placed_is) = some_then (nat_le (level o + 1) (operand_precedence fs)) (as_number x e >>= λ i. Some (0, (frame.Apply o ∷ fs, None, i))) r h in
     let (i, is_number, is_rest) = some_first (as_number x e) (λ i. Some (0, (frame.Apply o ∷ fs, None, i))) r placed_is in
@@ -92,7 +92,7 @@ go_on_sound t ts fs (operand.Either n m) d start r b h = next_sound t ts fs (ope
 abbrev pub Found : List TokenKind → List Node → Type 0
 Found start out = (tree : Expression) × IsReadAs start tree × (out ≡ expr_onto tree)
 
-whole_sound : (fs : List Frame) (x : Operand) (e : List Node) (start : List TokenKind) (out : List Node) → Behind 8 fs x e start [] → whole fs x e ≡ Some out → Found start out
+whole_sound : (fs : List Frame) (x : Operand) (e : List Node) (start : List TokenKind) (out : List Node) → Following 8 fs x e start [] → whole fs x e ≡ Some out → Found start out
 whole_sound [] x e start out (d, mid, (start_is, d_is), between) h =
     let t = truth_between 8 7 x d e out mid [] between h in
     (truth t.tree, all_tokens (subst (λ ts. Truth 1 ts t.tree []) (sym start_is) (chain_of t.reads)), t.nodes ∙ ap (λ l. truth_onto t.tree l) d_is)

@@ -49,7 +49,7 @@ Stacked (frame.Join j ∷ fs) d start here = (e : List Node) × (mid : List Toke
 Stacked (frame.Open ∷ fs) d start here = Stacked fs d start (token.Open ∷ here)
 Stacked (frame.Load p ∷ fs) d start here = (is_accessor p ≡ true) × Stacked fs d start (token.Protocol p ∷ token.OpenBracket ∷ here)
 
--- a number that may have the length of a prefix behind it, as a number and as a truth
+-- a number that may have the length of a prefix after it, as a number and as a truth
 abbrev pub either_number : ℕ → Option ℕ → NumberTree
 either_number n None = literal n
 either_number n (Some m) = applied Divide (literal n) (literal m)
@@ -103,18 +103,18 @@ term_of h reads = ⊎_elim (λ t. t) (λ (_, roomy, _). absurd (omega arith)) re
 pub chain_of : {m r : ℕ} {mid rest : List TokenKind} {a : TruthTree} → Truth 0 mid a rest ⊎ ((7 ≤ m) × (7 ≤ r) × Truth 1 mid a rest) → Truth 1 mid a rest
 chain_of reads = ⊎_elim (λ t. term t) (λ (_, _, t). t) reads
 
--- an operand behind some frames
-abbrev pub Behind : ℕ → List Frame → Operand → List Node → List TokenKind → List TokenKind → Type 0
-Behind m fs x e start rest = (d : List Node) × (mid : List TokenKind) × Stacked fs d start mid × Between m (operand_precedence fs) x d e mid rest
+-- an operand after some frames
+abbrev pub Following : ℕ → List Frame → Operand → List Node → List TokenKind → List TokenKind → Type 0
+Following m fs x e start rest = (d : List Node) × (mid : List TokenKind) × Stacked fs d start mid × Between m (operand_precedence fs) x d e mid rest
 
-moved : (m : ℕ) (fs : List Frame) (start rest : List TokenKind) (y z : Operand) (g h : List Node) → Behind m fs y g start rest → ◌≡◌ {A = Option Read} (Some (y, g)) (Some (z, h)) → Behind m fs z h start rest
+moved : (m : ℕ) (fs : List Frame) (start rest : List TokenKind) (y z : Operand) (g h : List Node) → Following m fs y g start rest → ◌≡◌ {A = Option Read} (Some (y, g)) (Some (z, h)) → Following m fs z h start rest
 moved m fs start rest y z g h b same =
-    let P : Read → Type 0 = λ r. Behind m fs r.0 r.1 start rest in
+    let P : Read → Type 0 = λ r. Following m fs r.0 r.1 start rest in
     let pairs : ◌≡◌ {A = Read} (y, g) (z, h) = cc in
     subst P pairs b
 
 -- a frame with its operand is an operand
-fill_sound : (m : ℕ) (f : Frame) (fs : List Frame) (x y : Operand) (e g : List Node) (start rest : List TokenKind) → precedence f ≤ m → Behind m (f ∷ fs) x e start rest → fill f x e ≡ Some (y, g) → Behind m fs y g start rest
+fill_sound : (m : ℕ) (f : Frame) (fs : List Frame) (x y : Operand) (e g : List Node) (start rest : List TokenKind) → precedence f ≤ m → Following m (f ∷ fs) x e start rest → fill f x e ≡ Some (y, g) → Following m fs y g start rest
 fill_sound m frame.Negate fs x y e g start rest h (d, mid, stacked, between) filled =
     let (i, is_number, is_rest) = some_first (as_number x e) (λ i. Some (operand.Number, node.Negate ∷ i)) (y, g) filled in
     let n = number_between m 0 x d e i mid rest between is_number in
@@ -140,18 +140,18 @@ fill_sound m (frame.Join j) fs x y e g start rest h (d, mid, (d', mid', a, stack
 fill_sound m frame.Open fs x y e g start rest h b filled = cc
 fill_sound m (frame.Load p) fs x y e g start rest h b filled = cc
 
-reduce_one : (m : ℕ) (f : Frame) (fs : List Frame) (x : Operand) (e : List Node) (start rest : List TokenKind) (s : Reduced) (q : Bool) → nat_le (precedence f) m ≡ q → Behind m (f ∷ fs) x e start rest → ((y : Operand) (g : List Node) → Behind m fs y g start rest → reduce m fs y g ≡ Some s → Behind m s.0 s.1 s.2 start rest) → (if q then (fill f x e >>= λ r. reduce m fs r.0 r.1) else Some (f ∷ fs, x, e)) ≡ Some s → Behind m s.0 s.1 s.2 start rest
+reduce_one : (m : ℕ) (f : Frame) (fs : List Frame) (x : Operand) (e : List Node) (start rest : List TokenKind) (s : Reduced) (q : Bool) → nat_le (precedence f) m ≡ q → Following m (f ∷ fs) x e start rest → ((y : Operand) (g : List Node) → Following m fs y g start rest → reduce m fs y g ≡ Some s → Following m s.0 s.1 s.2 start rest) → (if q then (fill f x e >>= λ r. reduce m fs r.0 r.1) else Some (f ∷ fs, x, e)) ≡ Some s → Following m s.0 s.1 s.2 start rest
 reduce_one m f fs x e start rest s true is_tight b others h =
     let (r, filled, settles) = some_first (fill f x e) (λ r. reduce m fs r.0 r.1) s h in
     others r.0 r.1 (fill_sound m f fs x r.0 e r.1 start rest (leb-true _ _ is_tight) b filled) settles
 reduce_one m f fs x e start rest s false is_loose b others h =
-    let P : Reduced → Type 0 = λ s. Behind m s.0 s.1 s.2 start rest in
+    let P : Reduced → Type 0 = λ s. Following m s.0 s.1 s.2 start rest in
     let same : ◌≡◌ {A = Reduced} (f ∷ fs, x, e) s = cc in
     subst P same b
 
-pub reduce_sound : (m : ℕ) (fs : List Frame) (x : Operand) (e : List Node) (start rest : List TokenKind) (s : Reduced) → Behind m fs x e start rest → reduce m fs x e ≡ Some s → Behind m s.0 s.1 s.2 start rest
+pub reduce_sound : (m : ℕ) (fs : List Frame) (x : Operand) (e : List Node) (start rest : List TokenKind) (s : Reduced) → Following m fs x e start rest → reduce m fs x e ≡ Some s → Following m s.0 s.1 s.2 start rest
 reduce_sound m [] x e start rest s b reduced =
-    let P : Reduced → Type 0 = λ s. Behind m s.0 s.1 s.2 start rest in
+    let P : Reduced → Type 0 = λ s. Following m s.0 s.1 s.2 start rest in
     let same : ◌≡◌ {A = Reduced} ([], x, e) s = cc in
     subst P same b
 reduce_sound m (f ∷ fs) x e start rest s b reduced =

@@ -10,7 +10,7 @@ use Rattle.flt_lang.specs.Parser.{State, run, after_operand, begin_at}
 use Rattle.flt_lang.proofs.Fronts.{first_and_rest}
 use Rattle.flt_lang.proofs.Valued.{run_begins, run_skip}
 
--- what comes behind an operand
+-- what comes after an operand
 pub run_goes_on : (ts : List Token) (t : Token) (fs : List Frame) (x : Operand) (d : List Node) (k : ℕ) (s : State) → 0 < length ts → after_operand ((get_or ts 0 t).kind ∷ kinds_of (take (length ts - 1) (drop 1 ts))) fs x d ≡ Some (k, s) → run (kinds_of ts) 0 fs (Some x) d ≡ run (kinds_of (drop (1 + k) ts)) 0 s.0 s.1 s.2
 run_goes_on [] t fs x d k s h e = absurd (omega arith)
 run_goes_on (u ∷ ts) t fs x d k s h e =

@@ -13,8 +13,8 @@ use Rattle.flt_words.specs.Tokens.{IsToken, TokensFrom}
 use Rattle.flt_words.specs.Tokens.TokensFrom.{at_end, blank, token as one_more}
 use Rattle.flt_words.proofs.BracketCounts.{closings, openings, token_has}
 use Rattle.flt_lang.specs.Grammar.{kinds_of}
-use Rattle.flt_lang.specs.declared.spelling.Behind.{Behind}
-use Rattle.flt_lang.specs.Texts.{gap, joins_next, joins_previous, next_behind, spelling, tokens_text}
+use Rattle.flt_lang.specs.declared.spelling.Following.{Following}
+use Rattle.flt_lang.specs.Texts.{gap, joins_next, joins_previous, next_after, spelling, tokens_text}
 use Rattle.flt_lang.specs.Writable.{IsSpellable}
 use Rattle.flt_lang.proofs.WordPieces.{word_token}
 use Rattle.flt_lang.proofs.SignTokens.{End, Ends, goes_on, no_more, word_ends, comparison_token, operator_token, open_token, close_token, bracket_token, close_bracket_token, divide_token, colon_token}
@@ -22,7 +22,7 @@ use Rattle.flt_lang.proofs.SignTokens as signs
 use Rattle.flt_lang.proofs.WordTokens.{IsWordFor, protocol_for, join_for, side_for, type_for, size_for, cast_for, not_for, mask_for, len_for, name_for, number_for, range_for, dotted_for}
 use Rattle.flt_lang.proofs.AddressTokens.{mac_for, ip6_for}
 
--- how many brackets are open behind a token
+-- how many brackets are open after a token
 abbrev pub depth_after : ℕ → TokenKind → ℕ
 depth_after d token.OpenBracket = suc d
 depth_after zero token.CloseBracket = zero
@@ -45,56 +45,56 @@ inside_of : (d : ℕ) → 0 < d → nat_lt 0 d ≡ true
 inside_of d h = grind (arith, nat_tests)
 
 -- what follows a token that doesn't join the next one
-before_next : (d : ℕ) (u : TokenKind) (us : List TokenKind) (behind : Behind) → IsAt d u → Ends (nat_lt 0 d) ((if joins_previous u then [] else codes " ") ++ tokens_text behind (u ∷ us))
-before_next d token.Close us behind at = goes_on signs.close
-before_next d token.OpenBracket us behind at = goes_on signs.bracket
-before_next d token.CloseBracket us behind at = goes_on signs.close_bracket
-before_next d token.Colon us behind at = goes_on (signs.colon (inside_of d at))
-before_next d (token.Operator operator.Divide) us behind at = goes_on signs.slash
-before_next d (token.Operator _) us behind at = goes_on signs.blank
-before_next d _ us behind at = goes_on signs.blank
+before_next : (d : ℕ) (u : TokenKind) (us : List TokenKind) (following : Following) → IsAt d u → Ends (nat_lt 0 d) ((if joins_previous u then [] else codes " ") ++ tokens_text following (u ∷ us))
+before_next d token.Close us following at = goes_on signs.close
+before_next d token.OpenBracket us following at = goes_on signs.bracket
+before_next d token.CloseBracket us following at = goes_on signs.close_bracket
+before_next d token.Colon us following at = goes_on (signs.colon (inside_of d at))
+before_next d (token.Operator operator.Divide) us following at = goes_on signs.slash
+before_next d (token.Operator _) us following at = goes_on signs.blank
+before_next d _ us following at = goes_on signs.blank
 
-ends_of : (d : ℕ) (t : TokenKind) (rest : List TokenKind) (behind : Behind) → joins_next t ≡ false → AreSpelled d rest → Ends (nat_lt 0 d) (gap t rest ++ tokens_text behind rest)
-ends_of d t [] behind h s = no_more
-ends_of d t (u ∷ us) behind h s = rw h (before_next d u us behind s.1)
+ends_of : (d : ℕ) (t : TokenKind) (rest : List TokenKind) (following : Following) → joins_next t ≡ false → AreSpelled d rest → Ends (nat_lt 0 d) (gap t rest ++ tokens_text following rest)
+ends_of d t [] following h s = no_more
+ends_of d t (u ∷ us) following h s = rw h (before_next d u us following s.1)
 
-word_here : (d place : ℕ) (word : List ℕ) (t : TokenKind) (rest : List TokenKind) (behind : Behind) → joins_next t ≡ false → IsWordFor (nat_lt 0 d) word t → AreSpelled d rest → IsToken (nat_lt 0 d) place (word ++ (gap t rest ++ tokens_text behind rest)) t (length word)
-word_here d place word t rest behind h w s = word_token (nat_lt 0 d) place word (gap t rest ++ tokens_text behind rest) t w.part w.stands w.fit (word_ends (nat_lt 0 d) (gap t rest ++ tokens_text behind rest) (ends_of d t rest behind h s))
+word_here : (d place : ℕ) (word : List ℕ) (t : TokenKind) (rest : List TokenKind) (following : Following) → joins_next t ≡ false → IsWordFor (nat_lt 0 d) word t → AreSpelled d rest → IsToken (nat_lt 0 d) place (word ++ (gap t rest ++ tokens_text following rest)) t (length word)
+word_here d place word t rest following h w s = word_token (nat_lt 0 d) place word (gap t rest ++ tokens_text following rest) t w.part w.stands w.fit (word_ends (nat_lt 0 d) (gap t rest ++ tokens_text following rest) (ends_of d t rest following h s))
 
 joins_none : (o : Operator) → (o ≡ operator.Divide → ⊥) → joins_next (token.Operator o) ≡ false
 joins_none operator.Divide other = absurd (other refl)
 joins_none _ other = refl
 
-operator_here : (d place : ℕ) (o : Operator) (rest : List TokenKind) (behind : Behind) → (o ≡ operator.Divide → ⊥) → AreSpelled d rest → IsToken (nat_lt 0 d) place (spelling behind (token.Operator o) ++ (gap (token.Operator o) rest ++ tokens_text behind rest)) (token.Operator o) (length (spelling behind (token.Operator o)))
-operator_here d place o rest behind other s = operator_token (nat_lt 0 d) place o (gap (token.Operator o) rest ++ tokens_text behind rest) other (ends_of d (token.Operator o) rest behind (joins_none o other) s)
+operator_here : (d place : ℕ) (o : Operator) (rest : List TokenKind) (following : Following) → (o ≡ operator.Divide → ⊥) → AreSpelled d rest → IsToken (nat_lt 0 d) place (spelling following (token.Operator o) ++ (gap (token.Operator o) rest ++ tokens_text following rest)) (token.Operator o) (length (spelling following (token.Operator o)))
+operator_here d place o rest following other s = operator_token (nat_lt 0 d) place o (gap (token.Operator o) rest ++ tokens_text following rest) other (ends_of d (token.Operator o) rest following (joins_none o other) s)
 
 -- a token stands at its place
-token_here : (t : TokenKind) (d place : ℕ) (behind next : Behind) (rest : List TokenKind) → IsSpellable t → IsAt d t → AreSpelled (depth_after d t) rest → IsToken (nat_lt 0 d) place (spelling behind t ++ (gap t rest ++ tokens_text next rest)) t (length (spelling behind t))
-token_here (token.Protocol p) d place behind next rest w at s = word_here d place _ _ rest next refl (protocol_for (nat_lt 0 d) p) s
-token_here (token.Join j) d place behind next rest w at s = word_here d place _ _ rest next refl (join_for (nat_lt 0 d) j) s
-token_here token.Not d place behind next rest w at s = word_here d place _ _ rest next refl (not_for (nat_lt 0 d)) s
-token_here (token.Side k) d place behind next rest w at s = word_here d place _ _ rest next refl (side_for (nat_lt 0 d) k) s
-token_here (token.ValueType k) d place behind next rest w at s = word_here d place _ _ rest next refl (type_for (nat_lt 0 d) k) s
-token_here (token.Size k) d place behind next rest w at s = word_here d place _ _ rest next refl (size_for (nat_lt 0 d) k) s
-token_here (token.Cast c) d place behind next rest w at s = word_here d place _ _ rest next refl (cast_for (nat_lt 0 d) c) s
-token_here token.Mask d place behind next rest w at s = word_here d place _ _ rest next refl (mask_for (nat_lt 0 d)) s
-token_here token.Len d place behind next rest w at s = word_here d place _ _ rest next refl (len_for (nat_lt 0 d)) s
-token_here (token.Comparison c) d place behind next rest w at s = comparison_token (nat_lt 0 d) place c _ (ends_of d (token.Comparison c) rest next refl s)
-token_here (token.Operator operator.Divide) d place behind next rest w at s = divide_token (nat_lt 0 d) place _
-token_here (token.Operator o) d place behind next rest w at s = operator_here d place o rest next (λ e. cc) s
-token_here token.Open d place behind next rest w at s = open_token (nat_lt 0 d) place _
-token_here token.Close d place behind next rest w at s = close_token (nat_lt 0 d) place _
-token_here token.OpenBracket d place behind next rest w at s = bracket_token (nat_lt 0 d) place _
-token_here token.CloseBracket d place behind next rest w at s = close_bracket_token (nat_lt 0 d) place _
-token_here token.Colon d place behind next rest w at s = colon_token (nat_lt 0 d) place _ (inside_of d at)
-token_here (token.Number n) d place behind next rest w at s = word_here d place _ _ rest next refl (number_for (nat_lt 0 d) n w) s
-token_here (token.Name n) d place behind next rest w at s = word_here d place _ _ rest next refl (name_for (nat_lt 0 d) behind n w) s
-token_here (token.Dotted a p) d place behind next rest w at s = word_here d place _ _ rest next refl (dotted_for (nat_lt 0 d) a p w) s
-token_here (token.Range a b) d place behind next rest w at s = word_here d place _ _ rest next refl (range_for (nat_lt 0 d) a b w.0 w.1) s
-token_here (token.Mac a) zero place behind next rest w at s = word_here 0 place _ _ rest next refl (mac_for a w) s
-token_here (token.Mac a) (suc d) place behind next rest w at s = absurd (omega arith)
-token_here (token.Ip6 a) zero place behind next rest w at s = word_here 0 place _ _ rest next refl (ip6_for a w) s
-token_here (token.Ip6 a) (suc d) place behind next rest w at s = absurd (omega arith)
+token_here : (t : TokenKind) (d place : ℕ) (following next : Following) (rest : List TokenKind) → IsSpellable t → IsAt d t → AreSpelled (depth_after d t) rest → IsToken (nat_lt 0 d) place (spelling following t ++ (gap t rest ++ tokens_text next rest)) t (length (spelling following t))
+token_here (token.Protocol p) d place following next rest w at s = word_here d place _ _ rest next refl (protocol_for (nat_lt 0 d) p) s
+token_here (token.Join j) d place following next rest w at s = word_here d place _ _ rest next refl (join_for (nat_lt 0 d) j) s
+token_here token.Not d place following next rest w at s = word_here d place _ _ rest next refl (not_for (nat_lt 0 d)) s
+token_here (token.Side k) d place following next rest w at s = word_here d place _ _ rest next refl (side_for (nat_lt 0 d) k) s
+token_here (token.ValueType k) d place following next rest w at s = word_here d place _ _ rest next refl (type_for (nat_lt 0 d) k) s
+token_here (token.Size k) d place following next rest w at s = word_here d place _ _ rest next refl (size_for (nat_lt 0 d) k) s
+token_here (token.Cast c) d place following next rest w at s = word_here d place _ _ rest next refl (cast_for (nat_lt 0 d) c) s
+token_here token.Mask d place following next rest w at s = word_here d place _ _ rest next refl (mask_for (nat_lt 0 d)) s
+token_here token.Len d place following next rest w at s = word_here d place _ _ rest next refl (len_for (nat_lt 0 d)) s
+token_here (token.Comparison c) d place following next rest w at s = comparison_token (nat_lt 0 d) place c _ (ends_of d (token.Comparison c) rest next refl s)
+token_here (token.Operator operator.Divide) d place following next rest w at s = divide_token (nat_lt 0 d) place _
+token_here (token.Operator o) d place following next rest w at s = operator_here d place o rest next (λ e. cc) s
+token_here token.Open d place following next rest w at s = open_token (nat_lt 0 d) place _
+token_here token.Close d place following next rest w at s = close_token (nat_lt 0 d) place _
+token_here token.OpenBracket d place following next rest w at s = bracket_token (nat_lt 0 d) place _
+token_here token.CloseBracket d place following next rest w at s = close_bracket_token (nat_lt 0 d) place _
+token_here token.Colon d place following next rest w at s = colon_token (nat_lt 0 d) place _ (inside_of d at)
+token_here (token.Number n) d place following next rest w at s = word_here d place _ _ rest next refl (number_for (nat_lt 0 d) n w) s
+token_here (token.Name n) d place following next rest w at s = word_here d place _ _ rest next refl (name_for (nat_lt 0 d) following n w) s
+token_here (token.Dotted a p) d place following next rest w at s = word_here d place _ _ rest next refl (dotted_for (nat_lt 0 d) a p w) s
+token_here (token.Range a b) d place following next rest w at s = word_here d place _ _ rest next refl (range_for (nat_lt 0 d) a b w.0 w.1) s
+token_here (token.Mac a) zero place following next rest w at s = word_here 0 place _ _ rest next refl (mac_for a w) s
+token_here (token.Mac a) (suc d) place following next rest w at s = absurd (omega arith)
+token_here (token.Ip6 a) zero place following next rest w at s = word_here 0 place _ _ rest next refl (ip6_for a w) s
+token_here (token.Ip6 a) (suc d) place following next rest w at s = absurd (omega arith)
 
 -- brackets
 depth_is : (d : ℕ) (t : TokenKind) → IsAt d t → openings t + d ≡ closings t + depth_after d t
@@ -136,16 +136,16 @@ pub record LexesAs (text : List ℕ) (at : ℕ) (kinds : List TokenKind) : Type 
   pub are : TokensFrom text at (Ok tokens)
   pub same : kinds_of tokens ≡ kinds
 
-pub lexes : (kinds : List TokenKind) (d : ℕ) (behind : Behind) (front : List ℕ) → count_by (λ b. b == 91) front ≡ count_by (λ b. b == 93) front + d → AreSpelled d kinds → LexesAs (front ++ tokens_text behind kinds) (length front) kinds
-lexes [] d behind front counts s = record { tokens = []; are = at_end (ap length (sym (append-nil front))); same = refl }
-lexes (t ∷ rest) d behind front counts s =
-    let word : List ℕ = spelling behind t in
+pub lexes : (kinds : List TokenKind) (d : ℕ) (following : Following) (front : List ℕ) → count_by (λ b. b == 91) front ≡ count_by (λ b. b == 93) front + d → AreSpelled d kinds → LexesAs (front ++ tokens_text following kinds) (length front) kinds
+lexes [] d following front counts s = record { tokens = []; are = at_end (ap length (sym (append-nil front))); same = refl }
+lexes (t ∷ rest) d following front counts s =
+    let word : List ℕ = spelling following t in
     let g : List ℕ = gap t rest in
-    let next : Behind = next_behind behind t in
+    let next : Following = next_after following t in
     let tail : List ℕ = tokens_text next rest in
     let text : List ℕ = front ++ (word ++ (g ++ tail)) in
     let which = gap_is t rest in
-    let here = token_here t d (length front + 1) behind next rest s.0 s.1 s.2 in
+    let here = token_here t d (length front + 1) following next rest s.0 s.1 s.2 in
     let has = token_has here in
     let cut : take (length word) (word ++ (g ++ tail)) ≡ word = take_at word (g ++ tail) (length word) refl in
     let opened : count_by (λ b. b == 91) word ≡ openings t = ap (count_by (λ b. b == 91)) (sym cut) ∙ has.opened in

@@ -71,7 +71,7 @@ qualifiers_suffix (qualifiers p d k) = joined_suffix _ _ _ (joined_suffix _ _ _ 
 pub whole_suffix : {ts mid rest : List TokenKind} {q : Qualifiers} {v : Value} → ReadsQualifiers ts q mid → ReadsValue mid v rest → IsSuffix ts rest
 whole_suffix qs v = joined_suffix _ _ _ (qualifiers_suffix qs) (value_suffix v)
 
--- a type, a direction or a protocol stands first, the last with neither a bracket nor a cast behind it
+-- a type, a direction or a protocol stands first, the last with neither a bracket nor a cast after it
 abbrev is_front : List TokenKind → Bool
 is_front (token.Protocol p ∷ ts) = ends_protocol ts
 is_front (token.Side s ∷ ts) = true
@@ -176,8 +176,8 @@ pub side_written : (s : Side) (ts : List TokenKind) → is_written (qualifiers_o
 side_written s ts = ap (λ b. b || is_some (type_of (direction_of (token.Side s ∷ ts)).1).0) (side_some s ts)
 
 -- what is left of a qualified value
-pub left_behind : (t : TokenKind) (ts mid rest : List TokenKind) (q : Qualifiers) (v : Value) → ReadsQualifiers (t ∷ ts) q mid → ReadsValue mid v rest → drop (length (t ∷ ts) - length rest - 1) ts ≡ rest
-left_behind t ts mid rest q v qs vs =
+pub left_after : (t : TokenKind) (ts mid rest : List TokenKind) (q : Qualifiers) (v : Value) → ReadsQualifiers (t ∷ ts) q mid → ReadsValue mid v rest → drop (length (t ∷ ts) - length rest - 1) ts ≡ rest
+left_after t ts mid rest q v qs vs =
     let suffix = whole_suffix qs vs in
     let front_suffix = qualifiers_suffix qs in
     let shorter = value_some vs in

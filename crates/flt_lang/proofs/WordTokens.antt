@@ -28,8 +28,8 @@ use Rattle.flt_words.specs.Words.{Stands, fits}
 use Rattle.flt_words.specs.Words.Stands.{keyword, number, dotted, range}
 use Rattle.flt_words.proofs.Digits.{fits as word_sized}
 use Rattle.flt_words.proofs.Tables.{keyword_is_plain}
-use Rattle.flt_lang.specs.declared.spelling.Behind.{Behind}
-use Rattle.flt_lang.specs.declared.spelling.Behind.TheVariants.{Other, Icmp, IcmpBracket}
+use Rattle.flt_lang.specs.declared.spelling.Following.{Following}
+use Rattle.flt_lang.specs.declared.spelling.Following.TheVariants.{Other, Icmp, IcmpBracket}
 use Rattle.flt_lang.specs.Texts.{protocol_word, join_word, side_word, type_word, size_word, cast_word, name_word, octet, dotted_word}
 use Rattle.flt_lang.specs.Writable.{IsDottedAddress, has_name}
 use Rattle.flt_lang.proofs.WordPieces.{IsPart, part_of_digits, part_of_keyword, part_join}
@@ -131,21 +131,21 @@ either : (a b : Bool) → (a || b) ≡ true → (a ≡ true) ⊎ (b ≡ true)
 either true b h = inl refl
 either false b h = inr h
 
-one_found : (behind : Behind) → keyword_of (name_word behind 1) ≡ Some (token.Name 1)
+one_found : (following : Following) → keyword_of (name_word following 1) ≡ Some (token.Name 1)
 unfolding keywords
 one_found Other = refl
 one_found Icmp = refl
 one_found IcmpBracket = refl
 
-name_found : (behind : Behind) (n : ℕ) → has_name n ≡ true → keyword_of (name_word behind n) ≡ Some (token.Name n)
+name_found : (following : Following) (n : ℕ) → has_name n ≡ true → keyword_of (name_word following n) ≡ Some (token.Name n)
 unfolding keywords
-name_found behind n h =
-    let P : ℕ → Type 0 = λ k. keyword_of (name_word behind k) ≡ Some (token.Name k) in
+name_found following n h =
+    let P : ℕ → Type 0 = λ k. keyword_of (name_word following k) ≡ Some (token.Name k) in
     let at : (k : ℕ) → P k → (n == k) ≡ true → P n = λ k found is. subst P (sym (eqb-true n k is)) found in
-    ⊎_elim (at 0 refl) (λ h. ⊎_elim (at 1 (one_found behind)) (λ h. ⊎_elim (at 2 refl) (λ h. ⊎_elim (at 4 refl) (λ h. ⊎_elim (at 8 refl) (λ h. ⊎_elim (at 13 refl) (λ h. ⊎_elim (at 16 refl) (at 32 refl) (either (n == 16) (n == 32) h)) (either (n == 13) _ h)) (either (n == 8) _ h)) (either (n == 4) _ h)) (either (n == 2) _ h)) (either (n == 1) _ h)) (either (n == 0) _ h)
+    ⊎_elim (at 0 refl) (λ h. ⊎_elim (at 1 (one_found following)) (λ h. ⊎_elim (at 2 refl) (λ h. ⊎_elim (at 4 refl) (λ h. ⊎_elim (at 8 refl) (λ h. ⊎_elim (at 13 refl) (λ h. ⊎_elim (at 16 refl) (at 32 refl) (either (n == 16) (n == 32) h)) (either (n == 13) _ h)) (either (n == 8) _ h)) (either (n == 4) _ h)) (either (n == 2) _ h)) (either (n == 1) _ h)) (either (n == 0) _ h)
 
-pub name_for : (inside : Bool) (behind : Behind) (n : ℕ) → has_name n ≡ true → IsWordFor inside (name_word behind n) (token.Name n)
-name_for inside behind n h = keyword_for inside _ _ (name_found behind n h)
+pub name_for : (inside : Bool) (following : Following) (n : ℕ) → has_name n ≡ true → IsWordFor inside (name_word following n) (token.Name n)
+name_for inside following n h = keyword_for inside _ _ (name_found following n h)
 
 -- numbers
 one_digit : (n : ℕ) → n < 2 ^ 32 → get_or (decimal n) 0 0 ≡ 48 → length (decimal n) ≡ 1

@@ -145,12 +145,12 @@ piece_spellable {inside} {place} {piece} {kind} (symbol_meaning found) = symbol_
 abbrev AllSpellable : List TokenKind → Type 0
 AllSpellable kinds = AllByRecursion IsSpellable kinds
 
-record IsBehind (t : Token) (answer : Result (List Token) ExprFault) (tokens : List Token) : Type 0 where
+record IsAfter (t : Token) (answer : Result (List Token) ExprFault) (tokens : List Token) : Type 0 where
   later : List Token
   is : answer ≡ Ok later
   all : t ∷ later ≡ tokens
 
-before_ok : (t : Token) (answer : Result (List Token) ExprFault) (tokens : List Token) → before t answer ≡ Ok tokens → IsBehind t answer tokens
+before_ok : (t : Token) (answer : Result (List Token) ExprFault) (tokens : List Token) → before t answer ≡ Ok tokens → IsAfter t answer tokens
 before_ok t (Ok later) tokens e = record { later = later; is = refl; all = cc }
 before_ok t (Err refusal) tokens e = cc
 

@@ -20,7 +20,7 @@ use Rattle.flt_lang.proofs.WritableTokens.{all_spellable}
 abbrev All : List TokenKind → Type 0
 All kinds = AllByRecursion IsSpellable kinds
 
--- a number, and what is left behind it
+-- a number, and what is left after it
 from_number : {k : ℕ} {ts rest : List TokenKind} {a : NumberTree} → Number k ts a rest → All ts → IsWritableNumber a × All rest
 from_number of_literal s = (s.0, s.1)
 from_number of_len s = (tt, s.1)

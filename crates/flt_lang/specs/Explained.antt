@@ -17,7 +17,7 @@ use Rattle.flt_tree.specs.declared.value.NetMask.TheVariants as mask
 use Rattle.flt_tree.specs.declared.value.Value.{Value}
 use Rattle.flt_tree.specs.declared.value.Value.TheVariants as value
 use Rattle.flt_tree.specs.Tree.{NumberTree, literal, len, named, load, negated, applied, TruthTree, check, cast, sized, bare, valued, qualified, compared, denied, joined, Expression, empty, truth}
-use Rattle.flt_lang.specs.declared.spelling.Behind.TheVariants.{Other}
+use Rattle.flt_lang.specs.declared.spelling.Following.TheVariants.{Other}
 use Rattle.flt_lang.specs.Texts.{tokens_text}
 
 -- the tokens of a value, and then the rest

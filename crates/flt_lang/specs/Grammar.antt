@@ -1,4 +1,4 @@
--- The grammar: which tree the tokens at the start have, and which tokens are left behind it.
+-- The grammar: which tree the tokens at the start have, and which tokens are left after it.
 use Rattle.std.specs.Prelude.{◌≡◌, Bool, true, false, ℕ, suc, List, [], ◌∷◌, map, Some, None}
 use Rattle.flt_words.specs.declared.token.Protocol.{Protocol}
 use Rattle.flt_words.specs.declared.token.Protocol.TheVariants as protocol

@@ -95,7 +95,7 @@ as_sort sort.Number x d = as_number x d
 abbrev pub Read : Type 0
 Read = Operand × List Node
 
--- a node behind its operand; the two are an operand of another sort
+-- a node after its operand; the two are an operand of another sort
 abbrev pub after_node : Operand → Node → Option (List Node) → Option Read
 after_node y n o = o >>= λ e. Some (y, n ∷ e)
 
@@ -142,7 +142,7 @@ IsLoose m (f ∷ fs) = m < precedence f
 abbrev pub State : Type 0
 State = List Frame × Option Operand × List Node
 
--- how many more tokens than one are used up, and the state behind them
+-- how many more tokens than one are used up, and the state after them
 abbrev pub Begun : Type 0
 Begun = ℕ × State
 
@@ -151,20 +151,20 @@ abbrev pub enclosed_operand : Operand → Operand
 enclosed_operand (operand.Plain n) = operand.Either n None
 enclosed_operand x = x
 
--- a frame that waits for its right operand, behind its left one of the same sort
+-- a frame that waits for its right operand, after its left one of the same sort
 abbrev pub after_operator : Frame → List Frame → Operand → List Node → Option Begun
 after_operator f fs x d =
     if nat_le (precedence f) (operand_precedence fs) then
     (as_sort (sort_of f) x d >>= λ e. Some (0, (f ∷ fs, None, e))) else None
 
--- the load that waits takes its index and reads so many bytes; so many tokens more than one are
+-- the load that waits takes its index and reads `size` bytes; `more` tokens more than one are
 -- used up
 abbrev pub after_load : ℕ → ℕ → List Frame → Operand → List Node → Option Begun
 after_load more size (frame.Load p ∷ fs) x d =
     as_number x d >>= λ e. Some (more, (fs, Some operand.Number, node.Load p size ∷ e))
 after_load more size _ x d = None
 
--- the size of an accessor behind its colon
+-- the size of an accessor after its colon
 abbrev pub accessor_size : List TokenKind → Option ℕ
 accessor_size (token.Number n ∷ token.CloseBracket ∷ ts) = Some n
 accessor_size _ = None
@@ -178,7 +178,7 @@ abbrev pub after_close : List Frame → Operand → List Node → Option Begun
 after_close (frame.Open ∷ fs) x d = Some (0, (fs, Some (enclosed_operand x), d))
 after_close _ x d = None
 
--- a token behind an operand, and what comes after the token
+-- a token after an operand, and what comes after the token
 abbrev pub after_token_at : TokenKind → List TokenKind → List Frame → Operand → List Node
     → Option Begun
 after_token_at (token.Operator o) ts fs x d = after_operator (frame.Apply o) fs x d
@@ -227,7 +227,7 @@ one_node d (Some r) = Some (r.1, Some operand.Truth, r.0 ∷ d)
 abbrev pub with_frames : List Frame → Option Primitive → Option Begun
 with_frames fs o = o >>= λ r. Some (r.0, (fs, r.1, r.2))
 
--- what the token behind a protocol makes of it
+-- what the token after a protocol makes of it
 abbrev pub opening_of : List TokenKind → Opening
 opening_of (t ∷ token.OpenBracket ∷ ts) = opening.Bracket
 opening_of (t ∷ token.Cast c ∷ ts) = opening.Cast c
@@ -281,7 +281,7 @@ abbrev pub prefix_len : Operand → List TokenKind → Option (ℕ × ℕ)
 prefix_len (operand.Plain n) (token.Operator Divide ∷ token.Number m ∷ ts) = Some (n, m)
 prefix_len _ _ = None
 
--- the tokens behind an operand, once the tight frames have taken it
+-- the tokens after an operand, once the tight frames have taken it
 abbrev pub next_of : List TokenKind → List Frame → Operand → List Node → Option Begun
 next_of ts fs x d = reduce (next_precedence ts) fs x d >>= λ r. after_token ts r.0 r.1 r.2
 

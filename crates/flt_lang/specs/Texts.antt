@@ -20,8 +20,8 @@ use Rattle.flt_words.specs.declared.token.TokenKind.{TokenKind}
 use Rattle.flt_words.specs.declared.token.TokenKind.TheVariants as token
 use Rattle.flt_words.specs.declared.token.ValueType.{ValueType}
 use Rattle.flt_words.specs.declared.token.ValueType.TheVariants.{Host, Net, Port, PortRange, Proto}
-use Rattle.flt_lang.specs.declared.spelling.Behind.{Behind}
-use Rattle.flt_lang.specs.declared.spelling.Behind.TheVariants.{Other, Icmp, IcmpBracket}
+use Rattle.flt_lang.specs.declared.spelling.Following.{Following}
+use Rattle.flt_lang.specs.declared.spelling.Following.TheVariants.{Other, Icmp, IcmpBracket}
 
 -- the words
 abbrev pub protocol_word : Protocol → List ℕ
@@ -78,16 +78,16 @@ operator_sign operator.Divide = codes "/"
 operator_sign operator.Remainder = codes "%"
 operator_sign operator.ExclusiveOr = codes "^"
 
--- the number 1 has two names: the code of ICMP, directly behind `icmp[`, and else the FIN flag
-abbrev pub name_of_number_one : Behind → List ℕ
+-- the number 1 has two names: the code of ICMP, directly after `icmp[`, and else the FIN flag
+abbrev pub name_of_number_one : Following → List ℕ
 name_of_number_one IcmpBracket = codes "icmpcode"
 name_of_number_one _ = codes "tcp-fin"
 
 -- a number that has no name is written in decimal
-abbrev pub name_word : Behind → ℕ → List ℕ
-name_word behind n =
+abbrev pub name_word : Following → ℕ → List ℕ
+name_word following n =
     if n == 0 then codes "icmptype" else
-    if n == 1 then name_of_number_one behind else
+    if n == 1 then name_of_number_one following else
     if n == 2 then codes "tcp-syn" else
     if n == 4 then codes "tcp-rst" else
     if n == 8 then codes "tcp-push" else
@@ -95,7 +95,7 @@ name_word behind n =
     if n == 16 then codes "tcp-ack" else
     if n == 32 then codes "tcp-urg" else decimal n
 
--- so many parts of an IPv4 address in decimal: two, three, or all four
+-- parts of an IPv4 address in decimal: two, three, or all four
 abbrev pub octet : ℕ → ℕ → ℕ
 octet weight address = address / weight % 256
 
@@ -138,42 +138,42 @@ groups_text half = join_with_byte 58 (map (digits 16 false) (half_groups half))
 unfoldable pub ip6_word : ℕ → List ℕ
 ip6_word address = groups_text (address / 2 ^ 64) ++ 58 ∷ groups_text (address % 2 ^ 64)
 
--- the spelling of a token, behind what stands before it
-abbrev pub spelling : Behind → TokenKind → List ℕ
-spelling behind (token.Protocol p) = protocol_word p
-spelling behind (token.Join j) = join_word j
-spelling behind token.Not = codes "not"
-spelling behind (token.Side s) = side_word s
-spelling behind (token.ValueType k) = type_word k
-spelling behind (token.Size s) = size_word s
-spelling behind (token.Cast c) = cast_word c
-spelling behind token.Mask = codes "mask"
-spelling behind token.Len = codes "len"
-spelling behind (token.Comparison c) = comparison_sign c
-spelling behind (token.Operator o) = operator_sign o
-spelling behind token.Open = codes "("
-spelling behind token.Close = codes ")"
-spelling behind token.OpenBracket = codes "["
-spelling behind token.CloseBracket = codes "]"
-spelling behind token.Colon = codes ":"
-spelling behind (token.Number n) = decimal n
-spelling behind (token.Name n) = name_word behind n
-spelling behind (token.Dotted a p) = dotted_word a p
-spelling behind (token.Range a b) = decimal a ++ (codes "-" ++ decimal b)
-spelling behind (token.Mac a) = mac_word a
-spelling behind (token.Ip6 a) = ip6_word a
+-- the spelling of a token, after what is before it
+abbrev pub spelling : Following → TokenKind → List ℕ
+spelling following (token.Protocol p) = protocol_word p
+spelling following (token.Join j) = join_word j
+spelling following token.Not = codes "not"
+spelling following (token.Side s) = side_word s
+spelling following (token.ValueType k) = type_word k
+spelling following (token.Size s) = size_word s
+spelling following (token.Cast c) = cast_word c
+spelling following token.Mask = codes "mask"
+spelling following token.Len = codes "len"
+spelling following (token.Comparison c) = comparison_sign c
+spelling following (token.Operator o) = operator_sign o
+spelling following token.Open = codes "("
+spelling following token.Close = codes ")"
+spelling following token.OpenBracket = codes "["
+spelling following token.CloseBracket = codes "]"
+spelling following token.Colon = codes ":"
+spelling following (token.Number n) = decimal n
+spelling following (token.Name n) = name_word following n
+spelling following (token.Dotted a p) = dotted_word a p
+spelling following (token.Range a b) = decimal a ++ (codes "-" ++ decimal b)
+spelling following (token.Mac a) = mac_word a
+spelling following (token.Ip6 a) = ip6_word a
 
--- what the next token stands behind
-abbrev pub behind_bracket : Behind → Behind
-behind_bracket Icmp = IcmpBracket
-behind_bracket _ = Other
+-- what the next token follows
+abbrev pub after_bracket : Following → Following
+after_bracket Icmp = IcmpBracket
+after_bracket _ = Other
 
-abbrev pub next_behind : Behind → TokenKind → Behind
-next_behind behind (token.Protocol protocol.Icmp) = Icmp
-next_behind behind token.OpenBracket = behind_bracket behind
-next_behind behind _ = Other
+abbrev pub next_after : Following → TokenKind → Following
+next_after following (token.Protocol protocol.Icmp) = Icmp
+next_after following token.OpenBracket = after_bracket following
+next_after following _ = Other
 
--- no blank stands behind `(`, `[`, `:` and `/`, and none before `)`, `[`, `]`, `:` and `/`
+-- no blank follows `(`, `[`, `:` and `/`, and none before `)`, `[`, `]`, `:` and `/`
 abbrev pub joins_next : TokenKind → Bool
 joins_next token.Open = true
 joins_next token.OpenBracket = true
@@ -194,7 +194,7 @@ gap t [] = []
 gap t (u ∷ rest) = if joins_next t || joins_previous u then [] else codes " "
 
 -- the text of tokens
-abbrev pub tokens_text : Behind → List TokenKind → List ℕ
-tokens_text behind [] = []
-tokens_text behind (t ∷ rest) =
-    spelling behind t ++ (gap t rest ++ tokens_text (next_behind behind t) rest)
+abbrev pub tokens_text : Following → List TokenKind → List ℕ
+tokens_text following [] = []
+tokens_text following (t ∷ rest) =
+    spelling following t ++ (gap t rest ++ tokens_text (next_after following t) rest)

@@ -1,5 +1,5 @@
 -- What may stand before a value, and the values, in tokens: which one the tokens at the start have,
--- and which tokens are left behind it.
+-- and which tokens are left after it.
 use Rattle.std.specs.Prelude.{ℕ, List, ◌∷◌, drop, Option, Some, None, Bool, true, false, is_some, ◌||◌, if◌then◌else◌}
 use Rattle.flt_words.specs.declared.token.Protocol.{Protocol}
 use Rattle.flt_words.specs.declared.token.Side.{Side}

@@ -25,7 +25,7 @@ pub enum Frame {
 
 /// An operand that was just read. The nodes of a truth and of a number are written. The others may
 /// still become either: a plain number, which may also begin a longer value, and a number
-/// in parentheses or with the length of a prefix behind it.
+/// in parentheses or with the length of a prefix after it.
 #[derive(Clone, Copy)]
 pub enum Operand {
     Truth,

@@ -123,7 +123,7 @@ fn read_prefix(tokens: &[Token]) -> (Option<u32>, usize)
     }
 }
 
-/// The value that begins with a token, with the mask behind it, and how many more tokens it takes.
+/// The value that begins with a token, with the mask after it, and how many more tokens it takes.
 fn value_at(first: TokenKind, rest: &[Token]) -> Option<(Value, usize)>
     ensures some { IfSome result (λ r.
         value_of (first ∷ kinds_of rest.now) ≡ Some (r.0, kinds_of (drop r.1 rest.now))) }
@@ -149,7 +149,7 @@ fn value_at(first: TokenKind, rest: &[Token]) -> Option<(Value, usize)>
     }
 }
 
-/// A value, with the mask behind it, and how many tokens it takes.
+/// A value, with the mask after it, and how many tokens it takes.
 #[tactic(auto, using(crate::proofs::Fronts::value_found, crate::proofs::Fronts::no_value_found))]
 pub fn read_value(tokens: &[Token]) -> Option<(Value, usize)>
     ensures some { IfSome result (λ r.

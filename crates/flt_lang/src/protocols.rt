@@ -7,7 +7,7 @@ ghost use Rattle.flt_lang.specs.Parser.{opening_of};
 use crate::primitive::kind_at;
 use flt_words::{Cast, Protocol, Token, TokenKind};
 
-/// What the token behind a protocol makes of it.
+/// What the token after a protocol makes of it.
 #[derive(Clone, Copy)]
 pub enum Opening {
     Bracket,

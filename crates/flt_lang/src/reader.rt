@@ -248,7 +248,7 @@ impl<A: Allocator> Reader<A> {
         }
     }
 
-    // ---- behind an operand
+    // ---- after an operand
 
     /// Takes the operand for a number.
     fn write_number(&mut self, operand: Operand) -> Result<(), ExprFault>
@@ -306,7 +306,7 @@ impl<A: Allocator> Reader<A> {
         }
     }
 
-    /// Writes a frame behind its operand. What the two are is returned.
+    /// Writes a frame after its operand. What the two are is returned.
     fn fill(&mut self, frame: Frame, operand: Operand) -> Result<Operand, ExprFault>
         ensures ok { IfOk result (λ x.
             fill frame operand self.old.nodes ≡ Some (x, self.new.nodes)) }
@@ -339,7 +339,7 @@ impl<A: Allocator> Reader<A> {
         Ok(operand)
     }
 
-    /// A frame waits for its right operand, behind its left one.
+    /// A frame waits for its right operand, after its left one.
     fn shift_operator(
         &mut self,
         frame: Frame,
@@ -375,7 +375,7 @@ impl<A: Allocator> Reader<A> {
         }
     }
 
-    /// The load that waits takes its index, and reads so many bytes. So many tokens more than one
+    /// The load that waits takes its index, and reads `size` bytes. `more` tokens more than one
     /// are used up.
     fn end_load(
         &mut self,
@@ -400,7 +400,7 @@ impl<A: Allocator> Reader<A> {
         }
     }
 
-    /// Places a token behind an operand: how many more than this one are used up, and the operand,
+    /// Places a token after an operand: how many more than this one are used up, and the operand,
     /// if one is whole.
     fn after_token(
         &mut self,
@@ -433,7 +433,7 @@ impl<A: Allocator> Reader<A> {
         }
     }
 
-    /// Reads the tokens behind an operand, or the rest of a value: how many more than one are used
+    /// Reads the tokens after an operand, or the rest of a value: how many more than one are used
     /// up.
     fn after_operand(
         &mut self,
@@ -583,7 +583,7 @@ fn prefix_mask(len: Option<u32>) -> NetMask
     }
 }
 
-/// The number and the length of a prefix, where a plain number has one behind it.
+/// The number and the length of a prefix, where a plain number has one after it.
 fn prefix_len(operand: Operand, first: TokenKind, rest: &[Token]) -> Option<(u32, u32)>
     ensures value { result ≡ prefix_len operand (first ∷ kinds_of rest.now) }
     ensures within { IfSome result (λ _. 0 < length rest.now) }
@@ -598,7 +598,7 @@ fn prefix_len(operand: Operand, first: TokenKind, rest: &[Token]) -> Option<(u32
     }
 }
 
-/// The size of an accessor, behind its colon.
+/// The size of an accessor, after its colon.
 fn size_of(tokens: &[Token]) -> Option<u32>
     ensures value { result ≡ accessor_size (kinds_of tokens.now) }
     ensures within { IfSome result (λ _. 1 < length tokens.now) }

@@ -6,16 +6,16 @@ ghost use Rattle.flt_lang.specs.Texts.{protocol_word, join_word, side_word, type
 ghost use Rattle.flt_lang.specs.Texts.{cast_word, comparison_sign, operator_sign, name_of_number_one};
 ghost use Rattle.flt_lang.specs.Texts.{name_word, dotted_word, mac_word, ip6_word, octet};
 ghost use Rattle.flt_lang.specs.Texts.{hex_byte, bytes_text};
-ghost use Rattle.flt_lang.specs.Texts.{group_at, groups_text, spelling, next_behind};
+ghost use Rattle.flt_lang.specs.Texts.{group_at, groups_text, spelling, next_after};
 ghost use Rattle.flt_lang.specs.Texts.{joins_next, joins_previous, gap, tokens_text};
 
 use flt_words::{Cast, Comparison, Join, Operator, Protocol, Side, Size, TokenKind, ValueType};
 use std::alloc::{AllocError, Allocator};
 use std::fmt::Write;
 
-/// What a token stands behind. The number 1 has two names, of which one is the code of ICMP.
+/// What a token follows. The number 1 has two names, of which one is the code of ICMP.
 #[derive(Clone, Copy)]
-pub enum Behind {
+pub enum Following {
     /// `icmp`.
     Icmp,
     /// `icmp[`.
@@ -118,11 +118,11 @@ fn operator_sign(operator: Operator) -> &'static str
     }
 }
 
-fn name_of_number_one(behind: Behind) -> &'static str
-    ensures { result.now ≡ name_of_number_one behind }
+fn name_of_number_one(following: Following) -> &'static str
+    ensures { result.now ≡ name_of_number_one following }
 {
-    match behind {
-        Behind::IcmpBracket => "icmpcode",
+    match following {
+        Following::IcmpBracket => "icmpcode",
         _ => "tcp-fin",
     }
 }
@@ -130,15 +130,15 @@ fn name_of_number_one(behind: Behind) -> &'static str
 /// Appends the name of a number, or the number where it has none.
 fn push_name<A: Allocator>(
     text: &mut String<A>,
-    behind: Behind,
+    following: Following,
     number: u32,
 ) -> Result<(), AllocError>
     ensures { OnOk result (string_bytes text.new
-        ≡ string_bytes text.old ++ name_word behind number) }
+        ≡ string_bytes text.old ++ name_word following number) }
 {
     match number {
         0 => text.push_str("icmptype"),
-        1 => text.push_str(name_of_number_one(behind)),
+        1 => text.push_str(name_of_number_one(following)),
         2 => text.push_str("tcp-syn"),
         4 => text.push_str("tcp-rst"),
         8 => text.push_str("tcp-push"),
@@ -239,11 +239,11 @@ fn push_ip6<A: Allocator>(text: &mut String<A>, address: u128) -> Result<(), All
 /// Appends the spelling of a token.
 fn push_token<A: Allocator>(
     text: &mut String<A>,
-    behind: Behind,
+    following: Following,
     token: TokenKind,
 ) -> Result<(), AllocError>
     ensures { OnOk result (string_bytes text.new
-        ≡ string_bytes text.old ++ spelling behind token) }
+        ≡ string_bytes text.old ++ spelling following token) }
 {
     match token {
         TokenKind::Protocol(protocol) => text.push_str(protocol_word(protocol)),
@@ -263,7 +263,7 @@ fn push_token<A: Allocator>(
         TokenKind::CloseBracket => text.push_str("]"),
         TokenKind::Colon => text.push_str(":"),
         TokenKind::Number(number) => write!(text, "{number}"),
-        TokenKind::Name(number) => push_name(text, behind, number),
+        TokenKind::Name(number) => push_name(text, following, number),
         TokenKind::Dotted { address, parts } => push_dotted(text, address, parts),
         TokenKind::Range { first, last } => write!(text, "{first}-{last}"),
         TokenKind::Mac(address) => push_mac(text, address),
@@ -271,15 +271,15 @@ fn push_token<A: Allocator>(
     }
 }
 
-impl Behind {
-    /// What the token behind this one stands behind.
-    fn next(self, token: TokenKind) -> Behind
-        ensures { result ≡ next_behind self token }
+impl Following {
+    /// What the token after this one follows.
+    fn next(self, token: TokenKind) -> Following
+        ensures { result ≡ next_after self token }
     {
         match (self, token) {
-            (_, TokenKind::Protocol(Protocol::Icmp)) => Behind::Icmp,
-            (Behind::Icmp, TokenKind::OpenBracket) => Behind::IcmpBracket,
-            _ => Behind::Other,
+            (_, TokenKind::Protocol(Protocol::Icmp)) => Following::Icmp,
+            (Following::Icmp, TokenKind::OpenBracket) => Following::IcmpBracket,
+            _ => Following::Other,
         }
     }
 }
@@ -309,7 +309,7 @@ fn joins_previous(token: TokenKind) -> bool
     )
 }
 
-/// What stands between a token and those behind it: a blank or nothing.
+/// What stands between a token and those after it: a blank or nothing.
 fn gap(token: TokenKind, rest: &[TokenKind]) -> &'static str
     ensures { result.now ≡ gap token rest.now }
 {
@@ -325,14 +325,14 @@ pub(crate) fn push_tokens<A: Allocator>(
     tokens: &[TokenKind],
 ) -> Result<(), AllocError>
     ensures { OnOk result (string_bytes text.new
-        ≡ string_bytes text.old ++ tokens_text Behind.Other tokens.now) }
+        ≡ string_bytes text.old ++ tokens_text Following.Other tokens.now) }
 {
-    let mut behind = Behind::Other;
+    let mut following = Following::Other;
     for i in 0..tokens.len() {
         let token = tokens[i];
-        push_token(text, behind, token)?;
+        push_token(text, following, token)?;
         text.push_str(gap(token, &tokens[i + 1..]))?;
-        behind = behind.next(token);
+        following = following.next(token);
     }
     Ok(())
 }

@@ -61,7 +61,7 @@ fn is_division(node: Node) -> bool
     matches!(node, Node::Apply(Operator::Divide | Operator::Remainder))
 }
 
-/// Whether a division stands right behind the number 0.
+/// Whether a division follows the number 0 directly.
 fn has_divided_zero(nodes: &[Node]) -> bool
     ensures { result ≡ zero_divided false nodes.now }
 {

@@ -52,44 +52,44 @@ plain_sound : (op : Option Operation) (i : Insn) (c : List Insn) → operation_o
 unfolding fault_of
 plain_sound op i c e none sound = (ap (λ o. fault_if_known o (with_offsets i 0 0) (length c)) e ∙ none, sound)
 
--- the targets of an instruction with so many behind it
-record HasTargets (l : PlacedCode) (behind : ℕ) : Type 0 where
-  inside : (k : ℕ) → k < behind → IsInside (place_at l k) l.code
+-- the targets of an instruction with that many after it
+record HasTargets (l : PlacedCode) (following : ℕ) : Type 0 where
+  inside : (k : ℕ) → k < following → IsInside (place_at l k) l.code
 
-within_if : (k behind : ℕ) → unless (nat_lt k behind) JumpOut ≡ None → k < behind
-within_if k behind e = below (nat_lt k behind) refl e
+within_if : (k following : ℕ) → unless (nat_lt k following) JumpOut ≡ None → k < following
+within_if k following e = below (nat_lt k following) refl e
   where
-    below : (b : _) → b ≡ nat_lt k behind → unless b JumpOut ≡ None → k < behind
+    below : (b : _) → b ≡ nat_lt k following → unless b JumpOut ≡ None → k < following
     below true t e = grind (arith, nat_tests)
     below false t e = cc
 
-emitted_sound : (op : Option Operation) (i : Insn) (l : PlacedCode) (behind : ℕ) → operation_of i.code ≡ op → fault_if_known op i behind ≡ None → HasTargets l behind → IsFaultless l.code → IsFaultless (with_insn op i l)
+emitted_sound : (op : Option Operation) (i : Insn) (l : PlacedCode) (following : ℕ) → operation_of i.code ≡ op → fault_if_known op i following ≡ None → HasTargets l following → IsFaultless l.code → IsFaultless (with_insn op i l)
 unfolding with_test
-emitted_sound None i l behind e none h sound = cc
-emitted_sound (Some (LoadAbsolute width)) i l behind e none h sound = plain_sound _ i l.code e refl sound
-emitted_sound (Some (LoadIndirect width)) i l behind e none h sound = plain_sound _ i l.code e refl sound
-emitted_sound (Some (Load register Immediate)) i l behind e none h sound = plain_sound _ i l.code e refl sound
-emitted_sound (Some (Load register Memory)) i l behind e none h sound = plain_sound _ i l.code e none sound
-emitted_sound (Some (Load register Length)) i l behind e none h sound = plain_sound _ i l.code e refl sound
-emitted_sound (Some LoadHeaderLength) i l behind e none h sound = plain_sound _ i l.code e refl sound
-emitted_sound (Some (Store register)) i l behind e none h sound = plain_sound _ i l.code e none sound
-emitted_sound (Some (Compute operator Constant)) i l behind e none h sound = plain_sound _ i l.code e none sound
-emitted_sound (Some (Compute operator IndexRegister)) i l behind e none h sound = plain_sound _ i l.code e refl sound
-emitted_sound (Some Negate) i l behind e none h sound = plain_sound _ i l.code e refl sound
-emitted_sound (Some Jump) i l behind e none h sound = jump_sound _ l.code (h.inside i.k (within_if i.k behind none)) sound
-emitted_sound (Some (JumpIf t o)) i l behind e none h sound = tests (nat_lt i.jt behind) (nat_lt i.jf behind) refl refl none
+emitted_sound None i l following e none h sound = cc
+emitted_sound (Some (LoadAbsolute width)) i l following e none h sound = plain_sound _ i l.code e refl sound
+emitted_sound (Some (LoadIndirect width)) i l following e none h sound = plain_sound _ i l.code e refl sound
+emitted_sound (Some (Load register Immediate)) i l following e none h sound = plain_sound _ i l.code e refl sound
+emitted_sound (Some (Load register Memory)) i l following e none h sound = plain_sound _ i l.code e none sound
+emitted_sound (Some (Load register Length)) i l following e none h sound = plain_sound _ i l.code e refl sound
+emitted_sound (Some LoadHeaderLength) i l following e none h sound = plain_sound _ i l.code e refl sound
+emitted_sound (Some (Store register)) i l following e none h sound = plain_sound _ i l.code e none sound
+emitted_sound (Some (Compute operator Constant)) i l following e none h sound = plain_sound _ i l.code e none sound
+emitted_sound (Some (Compute operator IndexRegister)) i l following e none h sound = plain_sound _ i l.code e refl sound
+emitted_sound (Some Negate) i l following e none h sound = plain_sound _ i l.code e refl sound
+emitted_sound (Some Jump) i l following e none h sound = jump_sound _ l.code (h.inside i.k (within_if i.k following none)) sound
+emitted_sound (Some (JumpIf t o)) i l following e none h sound = tests (nat_lt i.jt following) (nat_lt i.jf following) refl refl none
   where
-    tests : (a b : _) → a ≡ nat_lt i.jt behind → b ≡ nat_lt i.jf behind → unless (a && b) JumpOut ≡ None → IsFaultless (with_insn (Some (JumpIf t o)) i l)
+    tests : (a b : _) → a ≡ nat_lt i.jt following → b ≡ nat_lt i.jf following → unless (a && b) JumpOut ≡ None → IsFaultless (with_insn (Some (JumpIf t o)) i l)
     tests true true ea eb none' =
-        let yes_in : i.jt < behind = grind (arith, nat_tests) in
-        let no_in : i.jf < behind = grind (arith, nat_tests) in
+        let yes_in : i.jt < following = grind (arith, nat_tests) in
+        let no_in : i.jf < following = grind (arith, nat_tests) in
         reached_sound _ i t o _ _ l.code e (h.inside i.jt yes_in) (h.inside i.jf no_in) sound
     tests true false ea eb none' = cc
     tests false b ea eb none' = cc
-emitted_sound (Some ReturnConstant) i l behind e none h sound = plain_sound _ i l.code e refl sound
-emitted_sound (Some ReturnAccumulator) i l behind e none h sound = plain_sound _ i l.code e refl sound
-emitted_sound (Some CopyToIndex) i l behind e none h sound = plain_sound _ i l.code e refl sound
-emitted_sound (Some CopyToAccumulator) i l behind e none h sound = plain_sound _ i l.code e refl sound
+emitted_sound (Some ReturnConstant) i l following e none h sound = plain_sound _ i l.code e refl sound
+emitted_sound (Some ReturnAccumulator) i l following e none h sound = plain_sound _ i l.code e refl sound
+emitted_sound (Some CopyToIndex) i l following e none h sound = plain_sound _ i l.code e refl sound
+emitted_sound (Some CopyToAccumulator) i l following e none h sound = plain_sound _ i l.code e refl sound
 
 targets_of : (wide : List Insn) → HasTargets (placed_code wide) (length wide)
 targets_of wide = record { inside = λ k l. record { some = omega (arith, target_is wide k, at_least (drop k wide), length-drop k wide); within = target_inside wide k } }
@@ -101,11 +101,11 @@ faultless_laid (i ∷ is) h =
     emitted_sound (operation_of i.code) i (placed_code is) (length is) refl h.0 (targets_of is) (faultless_laid is h.1)
 
 -- the end of code
-ends_behind : (front c : List Insn) → 0 < length c → ends_in_return (front ++ c) ≡ ends_in_return c
-ends_behind [] c some = refl
-ends_behind (i ∷ []) [] some = absurd (omega arith)
-ends_behind (i ∷ []) (j ∷ c) some = refl
-ends_behind (i ∷ h ∷ front) c some = ends_behind (h ∷ front) c some
+ends_after : (front c : List Insn) → 0 < length c → ends_in_return (front ++ c) ≡ ends_in_return c
+ends_after [] c some = refl
+ends_after (i ∷ []) [] some = absurd (omega arith)
+ends_after (i ∷ []) (j ∷ c) some = refl
+ends_after (i ∷ h ∷ front) c some = ends_after (h ∷ front) c some
 
 test_no_end : (r : Reach) (i : Insn) (t : Test) (o : Operand) (hit miss : ℕ) → operation_of i.code ≡ Some (JumpIf t o) → ends_in_return (with_test_by r i hit miss []) ≡ false
 unfolding operation_of
@@ -126,7 +126,7 @@ ends_laid (i ∷ []) = last_end (operation_of i.code) i refl
 ends_laid (i ∷ j ∷ is) =
     let h = emitted_end (operation_of i.code) i (placed_code (j ∷ is)) in
     let some : 0 < length (laid_out (j ∷ is)) = omega (arith, at_least (j ∷ is)) in
-    ap ends_in_return h.parts ∙ ends_behind h.front (laid_out (j ∷ is)) some ∙ ends_laid (j ∷ is)
+    ap ends_in_return h.parts ∙ ends_after h.front (laid_out (j ∷ is)) some ∙ ends_laid (j ∷ is)
 
 pub sound_laid : (wide : List Insn) → IsValidUnlessLong wide → IsValidUnlessLong (laid_out wide)
 sound_laid wide h = record { faultless = faultless_laid wide h.faultless; ends = ends_laid wide ∙ h.ends }

@@ -14,7 +14,7 @@ pub record PlacedCode : Type 0 where
   pub code : List Insn
   pub places : List ℕ
 
--- the place of the wide instruction so many further than the next one; past the last it is the end
+-- the place of the wide instruction `further` past the next one; past the last it is the end
 abbrev pub place_at : PlacedCode → ℕ → ℕ
 place_at l further = slice_index l.places further
 
@@ -26,7 +26,7 @@ with_offsets i jt jf = record { code = i.code; jt = jt; jf = jf; k = i.k }
 abbrev pub with_jump : ℕ → List Insn → List Insn
 with_jump to c = record { code = JUMP; jt = 0; jf = 0; k = length c - to } ∷ c
 
--- how a test reaches its two places: one that is too far by a jump right behind the test
+-- how a test reaches its two places: one that is too far by a jump right after the test
 abbrev pub test_reach : ℕ → ℕ → List Insn → Reach
 test_reach hit miss c =
     if nat_le (length c - hit) MOST_OFFSET && nat_le (length c - miss) MOST_OFFSET then Near

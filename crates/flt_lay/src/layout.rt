@@ -20,7 +20,7 @@ use std::marker::Model;
 /// The greatest offset of a conditional jump.
 const NEAR: usize = 255;
 
-/// How a test reaches its two targets: a far one by a jump right behind the test.
+/// How a test reaches its two targets: a far one by a jump right after the test.
 #[derive(Clone, Copy)]
 pub enum Reach {
     Near,
@@ -87,7 +87,7 @@ impl<A: Allocator> Layout<A> {
         self.backwards.len()
     }
 
-    /// The place of the wide instruction so many further than the next one; past the last it is
+    /// The place of the wide instruction `further` further than the next one; past the last it is
     /// the end.
     fn target(&self, further: u32) -> usize
         ensures { result ≡ place_at self.now further }

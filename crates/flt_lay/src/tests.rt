@@ -13,7 +13,7 @@ const IF_EQUAL: u16 = 21;
 
 const RETURN: u16 = 6;
 
-/// How many returns stand behind the tests.
+/// How many returns follow the tests.
 const RETURNS: usize = 300;
 
 fn plain(code: u16, k: u32) -> Wide {

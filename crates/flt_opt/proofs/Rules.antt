@@ -30,7 +30,7 @@ use Rattle.flt_opt.specs.Facts.{part}
 use Rattle.flt_opt.specs.Alike.{IsSure, LeadsTo, Tests, IsSound, IsBits, OperandsAgree}
 use Rattle.flt_opt.proofs.Steps.{op_both, op_sure, agree_old, agree_new, knows_step, load_is}
 
--- an instruction at a place, and what comes behind it
+-- an instruction at a place, and what comes after it
 pub at_step : (c : List Insn) (p : List ℕ) (n k : ℕ) (i : Insn) (s : State) → slice_get c k ≡ Some i → answer_of c p n k s ≡ answer_after (λ far u. answer_of c p n (k + 1 + far) u) (step i p n s)
 at_step [] p n k i s e = cc
 at_step (j ∷ c) p n zero i s e =

@@ -61,7 +61,7 @@ pass_test i test holds far b facts pieces ls e decided is p n s t agree known =
       agree = agree;
     }
 
--- a walk goes on behind an instruction that can't fail
+-- a walk goes on after an instruction that can't fail
 pub advance_pass : (old : List Insn) (goal far : ℕ) (i : Insn) (known : Both) (facts : List Fact) (pieces : List Piece) (stage : Stage) → slice_get old stage.at ≡ Some i → Passes i far stage.known known facts pieces stage.learnt → Advances old goal facts pieces stage (record { at = stage.at + 1 + far; known = known; learnt = stage.learnt; met = stage.met })
 advance_pass old goal far i known facts pieces stage there passes p n s answer hold (inl met) = inl met
 advance_pass old goal far i known facts pieces stage there passes p n s answer hold (inr here) =

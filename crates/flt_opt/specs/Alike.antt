@@ -47,7 +47,7 @@ Stands new old notes facts pieces m =
     (p : List ℕ) (n : ℕ) → AreGoodFrom new old notes facts pieces p n (m.new + 1)
     → IsGood new old facts pieces p n m
 
--- the old run comes to a place, where it is as is known, and returns what it returned
+-- the old run reaches a place, where it is as is known, and returns what it returned
 pub record Comes (old : List Insn) (p : List ℕ) (n : ℕ) (b : Both) (new_state : State)
     (answer at : ℕ) : Type 0 where
   pub state : State
@@ -65,7 +65,7 @@ IsSure op k r b facts pieces learnt =
     (p : List ℕ) (n : ℕ) (s t : State) → Agree p n b s t → Known p n facts pieces learnt
     → Leads op k r p n
 
--- the old run goes on behind an instruction, and so much is known then
+-- the old run goes on after an instruction, and so much is known then
 pub record Passed (i : Insn) (far : ℕ) (b : Both) (p : List ℕ) (n : ℕ) (new old : State)
     : Type 0 where
   pub state : State
@@ -85,7 +85,7 @@ pub record HereAt (old : List Insn) (p : List ℕ) (n : ℕ) (new_state : State)
   pub shown : AllLearnt p n stage.learnt
   pub returns : answer_of old p n stage.at state ≡ Some answer
 
--- it has come to the goal on another way
+-- it has reached the goal on another way
 abbrev pub HasMet : List Insn → List ℕ → ℕ → State → ℕ → ℕ → Option Both → Type 0
 HasMet old p n new_state answer goal None = ⊥
 HasMet old p n new_state answer goal (Some b) = Comes old p n b new_state answer goal
@@ -94,7 +94,7 @@ abbrev pub IsOn : List Insn → ℕ → List ℕ → ℕ → State → ℕ → S
 IsOn old goal p n new_state answer stage =
     HasMet old p n new_state answer goal stage.met ⊎ HereAt old p n new_state answer stage
 
--- a walk goes on, and comes to its goal
+-- a walk goes on, and reaches its goal
 abbrev pub Advances : List Insn → ℕ → List Fact → List Piece → Stage → Stage → Type 0
 Advances old goal facts pieces stage next =
     (p : List ℕ) (n : ℕ) (s : State) (answer : ℕ) → AllHold p n pieces facts
@@ -168,7 +168,7 @@ pub record IsBits (new mask test : Insn) : Type 0 where
   pub zero : test.k ≡ 0
   pub same : mask.k ≡ new.k
 
--- a run goes on behind an instruction, where so much is known, or returns 0
+-- a run goes on after an instruction, where so much is known, or returns 0
 pub record Drifted (far : ℕ) (after : Registers) (p : List ℕ) (n answer : ℕ)
     (rest : ℕ → State → Option ℕ) : Type 0 where
   pub state : State

@@ -1,5 +1,5 @@
 -- The definitions that contracts cite. A caller needs `Replaces` alone: the others say what the
--- functions behind it have shown.
+-- functions after it have shown.
 pub mod Alike
 pub mod Facts
 pub mod Replaces

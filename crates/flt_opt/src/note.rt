@@ -7,7 +7,7 @@ use flt_bpf::operation::Width;
 pub struct Load {
     /// How many bytes it takes.
     pub width: Width,
-    /// Where they begin: at so many bytes of the packet, or so many past the header.
+    /// Where they begin: at this byte of the packet, or this many bytes past the header.
     pub at: u32,
     /// Where the IPv4 header begins that they are past, if they are past one.
     pub header: Option<u32>,

@@ -132,7 +132,7 @@ fn the_same_instructions(rt: HostRuntime) {
     assert!(rt; !replaces(&other, &old, no_facts(&notes)));
 }
 
-/// A load behind X, in which a number is, is one at a fixed place.
+/// A load at X, in which a number is, is one at a fixed place.
 #[test]
 fn a_load_at_a_place(rt: HostRuntime) {
     let old = [

@@ -24,7 +24,7 @@ use crate::walk::{MOST_STEPS, Stage, Start, goes_on, is_rejection, rejects, walk
 use flt_bpf::Wide;
 use flt_bpf::operation::{AluOperation, Operand, Operation, Test, decode};
 
-/// From how many tests, one behind the other, a walk goes both ways at most.
+/// From how many tests, one after the other, a walk goes both ways at most.
 const MOST_SPLITS: u32 = 12;
 
 /// Two programs and the notes on them.

@@ -20,7 +20,7 @@ use flt_bpf::operation::{Operation, Test, decode};
 /// How many instructions a walk passes at most, on all its ways together.
 pub(crate) const MOST_STEPS: u32 = 8192;
 
-/// A run that has these registers goes on behind an operation, which changes no word.
+/// A run that has these registers goes on after an operation, which changes no word.
 pub(crate) fn goes_on(
     operation: Operation,
     k: u32,
@@ -35,7 +35,7 @@ pub(crate) fn goes_on(
     is_sure(operation, k, there)
 }
 
-/// How many instructions the old run skips behind one, and what is known then.
+/// How many instructions the old run skips after one, and what is known then.
 fn pass(insn: Wide, knowledge: &Knowledge, both: &Both) -> Option<(u32, Both)>
     ensures { IfSome result (λ r. Passes insn r.0 both.now r.1 knowledge.now.facts.now
         knowledge.now.pieces.now knowledge.now.learnt.now) }
@@ -105,7 +105,7 @@ pub(crate) fn walk(
     None
 }
 
-/// The same behind one instruction.
+/// The same after one instruction.
 #[cycle(walking)]
 fn advance(
     old: &[Wide],
@@ -203,7 +203,7 @@ fn met_by(stage: &Stage, met: &Option<Both>, one: &Both) -> Stage
     }
 }
 
-/// How many instructions a run skips behind one, and what its registers hold then, if it doesn't
+/// How many instructions a run skips after one, and what its registers hold then, if it doesn't
 /// return 0.
 fn drift(insn: Wide, knowledge: &Knowledge, registers: Registers) -> Option<(u32, Registers)>
     ensures { IfSome result (λ r. Drifts insn r.0 registers r.1 knowledge.now.facts.now

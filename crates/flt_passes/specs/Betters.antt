@@ -5,7 +5,7 @@ use Rattle.flt_bpf.specs.Layout.{HasNoJump, JumpsAreNeeded}
 use Rattle.flt_bpf.specs.Machine.{machine, Answered}
 use Rattle.flt_bpf.specs.Valid.{IsValid}
 
--- a run of a program on a packet of original length n comes to an answer, with no instruction met
+-- a run of a program on a packet of original length n reaches an answer, with no instruction met
 -- twice
 pub record Answers (prog : List Insn) (p : List ℕ) (n answer : ℕ) : Type 0 where
   pub count : ℕ

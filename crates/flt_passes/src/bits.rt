@@ -46,7 +46,7 @@ fn is_copy(node: Node) -> bool {
     matches!(node.operation, Operation::CopyToIndex)
 }
 
-/// How wide a load behind X is.
+/// How wide a load at X is.
 fn indirect_width(node: Node) -> Option<Width> {
     match node.operation {
         Operation::LoadIndirect(width) => Some(width),
@@ -54,7 +54,7 @@ fn indirect_width(node: Node) -> Option<Width> {
     }
 }
 
-/// A test of bits for a mask and a test of what is left for 0, where A isn't read behind it.
+/// A test of bits for a mask and a test of what is left for 0, where A isn't read after it.
 fn bits(nodes: &[Node], lives: &[Live], mask: Node) -> Option<Node> {
     let test = next(nodes, mask)?;
     let is_read = live_at(lives, test.yes).accumulator || live_at(lives, test.no).accumulator;
@@ -69,8 +69,8 @@ fn bits(nodes: &[Node], lives: &[Live], mask: Node) -> Option<Node> {
     })
 }
 
-/// A load at a place for a number that goes to X by A and a load behind X, where X isn't read
-/// behind it.
+/// A load at a place for a number that goes to X by A and a load at X, where X isn't read
+/// after it.
 fn load(nodes: &[Node], lives: &[Live], number: Node) -> Option<Node> {
     let copy = next(nodes, number)?;
     let load = next(nodes, copy)?;
@@ -84,8 +84,8 @@ fn load(nodes: &[Node], lives: &[Live], number: Node) -> Option<Node> {
     })
 }
 
-/// A header's length and a load behind it for a number and that length, whose sum goes to X by A,
-/// and a load behind X, where X isn't read behind it.
+/// A header's length and a load after it for a number and that length, whose sum goes to X by A,
+/// and a load at X, where X isn't read after it.
 fn header_load(nodes: &[Node], lives: &[Live], number: Node) -> Option<(Node, Node)> {
     let length = next(nodes, number)?;
     let sum = next(nodes, length)?;
@@ -102,7 +102,7 @@ fn header_load(nodes: &[Node], lives: &[Live], number: Node) -> Option<(Node, No
     Some((length, Node { k, ..load }))
 }
 
-/// A node in place of another one and of those that it joins, if there is one. A node behind it is
+/// A node in place of another one and of those that it joins, if there is one. A node after it is
 /// put last.
 fn joined<A: Allocator>(
     nodes: &mut Vec<Node, A>,

@@ -1,8 +1,8 @@
 //! The notes on two programs, one of which a pass made of the other: both are followed from their
 //! beginnings.
 
-use crate::graph::behind;
-use crate::known::{Facts, NO_FACTS, facts_after, facts_behind, facts_in_both};
+use crate::graph::following;
+use crate::known::{Facts, NO_FACTS, facts_after, facts_after_test, facts_in_both};
 use crate::live::{Live, Reads, is_of_use, live_at, lives_in};
 use crate::rules::{Rule, may_be_own, rule_at};
 use crate::sets::pieces_for_all;
@@ -15,7 +15,7 @@ use flt_opt::{
 };
 use std::alloc::{AllocError, Allocator};
 
-/// Both runs where the new one comes to an instruction.
+/// Both runs where the new one reaches an instruction.
 #[derive(Clone, Copy)]
 struct Way {
     new: usize,
@@ -201,26 +201,26 @@ impl<A: Allocator + Clone> Finder<'_, A> {
         })
     }
 
-    /// The place of the old run behind an instruction that the new one does by a rule.
-    fn old_behind(&self, rule: Rule, old: usize, holds: bool) -> usize {
+    /// The place of the old run after an instruction that the new one does by a rule.
+    fn old_after(&self, rule: Rule, old: usize, holds: bool) -> usize {
         match rule {
             Rule::Own => old,
             Rule::Same | Rule::Load => self.skipped(old, holds),
-            Rule::Bits => self.skipped(behind(old, 0), !holds),
+            Rule::Bits => self.skipped(following(old, 0), !holds),
         }
     }
 
     fn skipped(&self, at: usize, holds: bool) -> usize {
         let Some(insn) = self.old.get(at) else {
-            return behind(at, 0);
+            return following(at, 0);
         };
         match decode(insn.code) {
-            Some(Operation::JumpIf(_, _)) => { behind(at, if holds { insn.yes } else { insn.no }) }
-            _ => behind(at, 0),
+            Some(Operation::JumpIf(_, _)) => { following(at, if holds { insn.yes } else { insn.no }) }
+            _ => following(at, 0),
         }
     }
 
-    /// The way behind an instruction that isn't a test.
+    /// The way after an instruction that isn't a test.
     fn way_on(&self, way: &Way, insn: Wide, operation: Operation, rule: Rule) -> Way {
         let both = match rule {
             Rule::Own => after_new(operation, insn.k, way.old.both),
@@ -228,9 +228,9 @@ impl<A: Allocator + Clone> Finder<'_, A> {
             Rule::Same | Rule::Bits => after_both(operation, insn.k, way.old.both),
         };
         Way {
-            new: behind(way.new, 0),
+            new: following(way.new, 0),
             old: Arrival {
-                old: self.old_behind(rule, way.old.old, true),
+                old: self.old_after(rule, way.old.old, true),
                 both,
             },
             facts: facts_after(&way.facts, operation, insn.k, way.old.both.new),
@@ -247,10 +247,10 @@ impl<A: Allocator + Clone> Finder<'_, A> {
     ) -> Result<Way, AllocError> {
         let both = &way.old.both;
         let mut on_side = Way {
-            new: behind(way.new, if holds { insn.yes } else { insn.no }),
+            new: following(way.new, if holds { insn.yes } else { insn.no }),
             old: Arrival {
-                old: self.old_behind(rule, way.old.old, holds),
-                both: both_behind(rule, both),
+                old: self.old_after(rule, way.old.old, holds),
+                both: both_after(rule, both),
             },
             facts: way.facts,
         };
@@ -258,7 +258,7 @@ impl<A: Allocator + Clone> Finder<'_, A> {
             let learnt = outcome(test, insn.k, both.new.accumulator, holds);
             if is_of_use(learnt.term, &self.reads(&on_side)) {
                 let pieces = &mut self.found.pieces;
-                on_side.facts = facts_behind(pieces, &way.facts, &learnt)?;
+                on_side.facts = facts_after_test(pieces, &way.facts, &learnt)?;
             }
         }
         Ok(on_side)
@@ -288,7 +288,7 @@ impl<A: Allocator + Clone> Finder<'_, A> {
         Ok(yes.zip(no))
     }
 
-    /// The indices of the notes behind an instruction, if they are found.
+    /// The indices of the notes after an instruction, if they are found.
     fn led(
         &mut self,
         way: &Way,
@@ -372,8 +372,8 @@ impl<A: Allocator + Clone> Finder<'_, A> {
     }
 }
 
-/// What is known of both runs behind a test that the new one does by a rule.
-fn both_behind(rule: Rule, both: &Both) -> Both {
+/// What is known of both runs after a test that the new one does by a rule.
+fn both_after(rule: Rule, both: &Both) -> Both {
     match rule {
         Rule::Same | Rule::Load | Rule::Own => *both,
         Rule::Bits => Both {

@@ -96,8 +96,8 @@ impl<A: Allocator> Follower<'_, A> {
         )
     }
 
-    /// Behind a node that isn't a test.
-    fn behind(&self, way: &Way, node: Node) -> Step {
+    /// After a node that isn't a test.
+    fn following(&self, way: &Way, node: Node) -> Step {
         let operation = node.operation;
         let succeeds = self.succeeds(operation, node.k, way.registers);
         if !succeeds && !loads(operation) {
@@ -112,8 +112,8 @@ impl<A: Allocator> Follower<'_, A> {
         })
     }
 
-    /// Behind a test.
-    fn behind_test(&self, way: &Way, node: Node) -> Step {
+    /// After a test.
+    fn after_test(&self, way: &Way, node: Node) -> Step {
         let term = way.registers.accumulator;
         let knowledge = self.knowledge();
         let Some(test) = node.test() else {
@@ -135,12 +135,12 @@ impl<A: Allocator> Follower<'_, A> {
     fn step(&self, way: &Way, node: Node) -> Step {
         match node.flow() {
             Flow::Ends => Step::Ends,
-            Flow::Goes => self.behind(way, node),
-            Flow::Branches => self.behind_test(way, node),
+            Flow::Goes => self.following(way, node),
+            Flow::Branches => self.after_test(way, node),
         }
     }
 
-    /// Follows a run as far as it is decided. Returns where it isn't, if it comes to such a test.
+    /// Follows a run as far as it is decided. Returns where it isn't, if it reaches such a test.
     fn follow(&mut self, from: Way) -> Result<Option<Way>, AllocError> {
         let mut way = from;
         for _ in 0..self.fuel {
@@ -160,7 +160,7 @@ impl<A: Allocator> Follower<'_, A> {
         Ok(None)
     }
 
-    /// Keeps, of the places from one index to another one, those that are among the places behind.
+    /// Keeps, of the places from one index to another one, those that are among the places after.
     fn keep_common(&mut self, first: usize, second: usize) {
         let mut kept = first;
         for at in first..second {
@@ -178,7 +178,7 @@ impl<A: Allocator> Follower<'_, A> {
         self.trail.truncate(kept);
     }
 
-    /// Follows a run on a side of a test that isn't decided, past so many more of them.
+    /// Follows a run on a side of a test that isn't decided, past `splits` more of them.
     #[cycle(splits)]
     fn follow_side(&mut self, way: &Way, holds: bool, splits: usize) -> Result<(), AllocError> {
         let Some(node) = self.nodes.get(way.at).copied() else {
@@ -195,7 +195,7 @@ impl<A: Allocator> Follower<'_, A> {
         Ok(())
     }
 
-    /// Follows a run past so many tests that aren't decided, where both sides come together.
+    /// Follows a run past `splits` tests that aren't decided, where both sides come together.
     #[cycle(splits)]
     fn follow_all(&mut self, from: Way, splits: usize) -> Result<(), AllocError> {
         let split = self.follow(from)?;
@@ -235,7 +235,7 @@ impl<A: Allocator> Follower<'_, A> {
     }
 }
 
-/// The farthest node where a run may go on in place of one, by what is known of it. So many tests
+/// The farthest node where a run may go on instead of one, by what is known of it. Some tests
 /// that aren't decided are passed, one on a side of the other.
 pub(crate) fn followed<A: Allocator + Clone>(
     alloc: A,

@@ -8,7 +8,7 @@ use crate::order::ordered;
 use flt_bpf::operation::{Operand, Operation, Test, decode};
 use std::alloc::{AllocError, Allocator};
 
-/// So many tests can be put in another order.
+/// The fewest tests that are put in another order.
 const LEAST: usize = 3;
 
 /// A test of a chain: whether a field is a number.
@@ -22,7 +22,7 @@ struct Link {
     rank: usize,
 }
 
-/// Tests one behind the other, all with one target where they hold.
+/// Tests one after the other, all with one target where they hold.
 #[derive(Drop)]
 struct Chain<A: Allocator> {
     target: usize,
@@ -80,7 +80,7 @@ impl<A: Allocator + Clone> Gathering<A> {
         has_one_edge(&self.edges, load.yes).then_some((loaded, load.yes))
     }
 
-    /// Puts a test behind a chain.
+    /// Puts a test after a chain.
     fn add(&mut self, chain: &mut Chain<A>, test: usize, field: Field) -> Result<(), AllocError> {
         let Some(node) = self.nodes.get(test).copied() else {
             return Ok(());
@@ -203,7 +203,7 @@ impl<A: Allocator + Clone> Gathering<A> {
         })
     }
 
-    /// Puts the tests in order behind the last one in front of them.
+    /// Puts the tests in order after the last one in front of them.
     fn replace(&mut self, chain: &Chain<A>, sorted: &Sorted<A>) -> Result<(), AllocError> {
         let mut next = chain.exit;
         for (at, link) in sorted.links.iter().enumerate().rev() {

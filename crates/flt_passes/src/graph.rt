@@ -8,7 +8,7 @@ use std::alloc::{AllocError, Allocator};
 /// No node.
 pub(crate) const NOWHERE: usize = usize::MAX;
 
-/// How a run goes on behind an instruction.
+/// How a run goes on after an instruction.
 #[derive(Clone, Copy, PartialEq, Eq)]
 pub(crate) enum Flow {
     /// It ends.
@@ -19,7 +19,7 @@ pub(crate) enum Flow {
     Branches,
 }
 
-/// How a run goes on behind an operation. A jump is no node.
+/// How a run goes on after an operation. A jump is no node.
 fn flow_of(operation: Operation) -> Flow {
     match operation {
         Operation::ReturnConstant | Operation::ReturnAccumulator => Flow::Ends,
@@ -33,7 +33,7 @@ fn jumps(code: u16) -> bool {
     decode(code).is_some_and(|operation| is_jump(operation))
 }
 
-/// For each instruction of some code the number of nodes from where a run comes to one by it, past
+/// For each instruction of some code the number of nodes from where a run reaches one by it, past
 /// jumps, to the end.
 fn places_of<A: Allocator>(alloc: A, code: &[Wide]) -> Result<Vec<usize, A>, AllocError> {
     let mut places = vec![in alloc; 0; code.len()]?;
@@ -41,7 +41,7 @@ fn places_of<A: Allocator>(alloc: A, code: &[Wide]) -> Result<Vec<usize, A>, All
     for (at, insn) in code.iter().enumerate().rev() {
         let mut place = count.saturating_add(1);
         if jumps(insn.code) {
-            place = places.get(behind(at, insn.k)).copied().unwrap_or(0);
+            place = places.get(following(at, insn.k)).copied().unwrap_or(0);
         } else {
             count = place;
         }
@@ -59,7 +59,7 @@ struct Indices<'a> {
 }
 
 impl Indices<'_> {
-    /// How many nodes there are from the first one that a run comes to.
+    /// How many nodes there are from the first one that a run reaches.
     fn count(&self) -> usize {
         self.places.first().copied().unwrap_or(0)
     }
@@ -71,9 +71,9 @@ impl Indices<'_> {
         }
     }
 
-    /// The same so many instructions behind the next one.
-    fn behind(&self, at: usize, skipped: u32) -> usize {
-        self.index(behind(at, skipped))
+    /// The same, `skipped` instructions after the next one.
+    fn following(&self, at: usize, skipped: u32) -> usize {
+        self.index(following(at, skipped))
     }
 }
 
@@ -82,24 +82,24 @@ impl Indices<'_> {
 pub(crate) struct Node {
     pub operation: Operation,
     pub k: u32,
-    /// Where a run goes on; behind a test, if it holds.
+    /// Where a run goes on; after a test, if it holds.
     pub yes: usize,
     /// Where it goes on if a test doesn't hold; else the same.
     pub no: usize,
 }
 
-/// The index so many instructions behind the next one.
-pub(crate) fn behind(at: usize, skipped: u32) -> usize {
+/// The index `skipped` instructions after the next one.
+pub(crate) fn following(at: usize, skipped: u32) -> usize {
     at.saturating_add(1).saturating_add(skipped as usize)
 }
 
 impl Node {
-    /// The node of an instruction, where runs come to the nodes with these indices.
+    /// The node of an instruction, where runs reach the nodes with these indices.
     fn new(at: usize, insn: Wide, operation: Operation, indices: &Indices) -> Node {
         let (yes, no) = match flow_of(operation) {
             Flow::Ends => (NOWHERE, NOWHERE),
-            Flow::Goes => (indices.behind(at, 0), indices.behind(at, 0)),
-            Flow::Branches => (indices.behind(at, insn.yes), indices.behind(at, insn.no)),
+            Flow::Goes => (indices.following(at, 0), indices.following(at, 0)),
+            Flow::Branches => (indices.following(at, insn.yes), indices.following(at, insn.no)),
         };
         Node {
             operation,

@@ -32,7 +32,7 @@ fn one_test(ranges: &[Range]) -> Option<Node> {
     }
 }
 
-/// How much a search of ranges costs, so many of which are one number.
+/// How much a search of `count` ranges costs, `numbers` of which are one number.
 fn weight(numbers: usize, count: usize) -> usize {
     if numbers > 0 {
         numbers
@@ -75,7 +75,7 @@ fn push<A: Allocator>(nodes: &mut Vec<Node, A>, node: Node) -> Result<usize, All
     Ok(at)
 }
 
-/// Puts nodes that search the ranges behind the others. Returns where the search begins.
+/// Puts nodes that search the ranges after the others. Returns where the search begins.
 pub(crate) fn put_search<A: Allocator>(
     nodes: &mut Vec<Node, A>,
     ranges: &[Range],

@@ -40,8 +40,8 @@ fn in_both(one: Held, other: Held) -> Held {
     }
 }
 
-/// What A holds behind a node.
-fn behind(held: Held, node: Node) -> Held {
+/// What A holds after a node.
+fn following(held: Held, node: Node) -> Held {
     match field_of(node) {
         Some(field) => Held::Field(field),
         None if node.flow() == Flow::Branches => held,
@@ -55,13 +55,13 @@ fn arrive<A: Allocator>(held: &mut Vec<Held, A>, at: usize, came: Held) {
     }
 }
 
-/// What A holds where a run comes to each node. All edges lead on.
+/// What A holds where a run reaches each node. All edges lead on.
 pub(crate) fn held_at<A: Allocator>(alloc: A, nodes: &[Node]) -> Result<Vec<Held, A>, AllocError> {
     let mut held = vec![in alloc; Held::Unreached; nodes.len()]?;
     arrive(&mut held, 0, Held::Anything);
     for (at, node) in nodes.iter().enumerate() {
         let came = held.get(at).copied().unwrap_or(Held::Anything);
-        let on = behind(came, *node);
+        let on = following(came, *node);
         arrive(&mut held, node.yes, on);
         arrive(&mut held, node.no, on);
     }

@@ -1,4 +1,4 @@
-//! What is known of a run where it comes to a node.
+//! What is known of a run where it reaches a node.
 
 use crate::graph::Node;
 use crate::live::{Reads, is_of_use};
@@ -164,8 +164,8 @@ pub(crate) fn facts_in_both<A: Allocator>(
     Ok(facts)
 }
 
-/// The facts behind a test with this outcome.
-pub(crate) fn facts_behind<A: Allocator>(
+/// The facts after a test with this outcome.
+pub(crate) fn facts_after_test<A: Allocator>(
     pieces: &mut Vec<Piece, A>,
     facts: &Facts,
     learnt: &Learnt,
@@ -187,7 +187,7 @@ pub(crate) fn loads(operation: Operation) -> bool {
     )
 }
 
-/// The facts behind an operation: what it loads is there.
+/// The facts after an operation: what it loads is there.
 pub(crate) fn facts_after(facts: &Facts, operation: Operation, k: u32, before: Registers) -> Facts {
     let term = asked(operation, k, before);
     if !loads(operation) || !is_known(term) {
@@ -226,8 +226,8 @@ impl Known {
         })
     }
 
-    /// What is known behind a node that is no test.
-    pub(crate) fn behind(&self, node: Node) -> Known {
+    /// What is known after a node that is no test.
+    pub(crate) fn following(&self, node: Node) -> Known {
         Known {
             registers: after(node.operation, node.k, self.registers),
             facts: facts_after(&self.facts, node.operation, node.k, self.registers),
@@ -249,7 +249,7 @@ impl Known {
         is_there(term, self.facts.as_slice(), &both)
     }
 
-    /// What is known behind a test with this outcome.
+    /// What is known after a test with this outcome.
     pub(crate) fn with<A: Allocator>(
         &self,
         learnt: &Learnt,
@@ -257,7 +257,7 @@ impl Known {
     ) -> Result<Known, AllocError> {
         Ok(Known {
             registers: self.registers,
-            facts: facts_behind(pieces, &self.facts, learnt)?,
+            facts: facts_after_test(pieces, &self.facts, learnt)?,
         })
     }
 }

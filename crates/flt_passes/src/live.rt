@@ -1,6 +1,6 @@
 //! What is read from a place on: registers before something is put into them, and fields.
 
-use crate::graph::{Node, behind};
+use crate::graph::{Node, following};
 use flt_bpf::Wide;
 use flt_bpf::operation::{Operation, Source, Width, decode};
 use flt_opt::{Term, reads_accumulator, reads_index, sets_accumulator, sets_index, source};
@@ -21,10 +21,10 @@ const NONE: Live = Live {
     fields: 0,
 };
 
-/// The bit of the original length, and of fields behind a header.
+/// The bit of the original length, and of fields past a header.
 const LENGTH: u64 = 1;
 
-const BEHIND_HEADER: u64 = 2;
+const PAST_HEADER: u64 = 2;
 
 /// What is read from a place on, or nothing where there is none.
 pub(crate) fn live_at(lives: &[Live], at: usize) -> Live {
@@ -56,7 +56,7 @@ pub(crate) fn is_of_use(term: Term, reads: &[Reads]) -> bool {
         || reads.iter().any(|run| run.live.accumulator && source(run.accumulator) == source(term))
 }
 
-/// One of 62 bits for a field at so many bytes.
+/// One of 62 bits for a field at this byte.
 fn bit_at(at: u32, kind: u32) -> u64 {
     let mixed = at
         .wrapping_mul(4)
@@ -80,7 +80,7 @@ fn bit_of_term(term: Term) -> u64 {
         Term::HeaderLength { at, .. } => bit_at(at, 3),
         Term::Field(load) => match load.header {
             None => bit_at(load.at, kind(load.width)),
-            Some(_) => BEHIND_HEADER,
+            Some(_) => PAST_HEADER,
         },
     }
 }
@@ -89,20 +89,20 @@ fn bit_of_term(term: Term) -> u64 {
 fn bit_of(operation: Operation, k: u32) -> u64 {
     match operation {
         Operation::LoadAbsolute(width) => bit_at(k, kind(width)),
-        Operation::LoadIndirect(_) => BEHIND_HEADER,
+        Operation::LoadIndirect(_) => PAST_HEADER,
         Operation::LoadHeaderLength => bit_at(k, 3),
         Operation::Load(_, Source::Length) => LENGTH,
         _ => 0,
     }
 }
 
-/// What is read from an instruction on, if so much is read behind it.
-fn before(operation: Operation, k: u32, behind: Live) -> Live {
+/// What is read from an instruction on, if so much is read after it.
+fn before(operation: Operation, k: u32, following: Live) -> Live {
     Live {
         accumulator: reads_accumulator(operation)
-            || behind.accumulator && !sets_accumulator(operation),
-        index: reads_index(operation) || behind.index && !sets_index(operation),
-        fields: behind.fields | bit_of(operation, k),
+            || following.accumulator && !sets_accumulator(operation),
+        index: reads_index(operation) || following.index && !sets_index(operation),
+        fields: following.fields | bit_of(operation, k),
     }
 }
 
@@ -110,22 +110,22 @@ fn before(operation: Operation, k: u32, behind: Live) -> Live {
 pub(crate) fn lives<A: Allocator>(alloc: A, nodes: &[Node]) -> Result<Vec<Live, A>, AllocError> {
     let mut lives = vec![in alloc; NONE; nodes.len()]?;
     for (at, node) in nodes.iter().enumerate().rev() {
-        let behind = live_at(&lives, node.yes).or(live_at(&lives, node.no));
+        let following = live_at(&lives, node.yes).or(live_at(&lives, node.no));
         if let Some(live) = lives.get_mut(at) {
-            *live = before(node.operation, node.k, behind);
+            *live = before(node.operation, node.k, following);
         }
     }
     Ok(lives)
 }
 
-/// What is read behind an instruction of code.
-fn live_behind(lives: &[Live], at: usize, insn: Wide, operation: Operation) -> Live {
+/// What is read after an instruction of code.
+fn live_after(lives: &[Live], at: usize, insn: Wide, operation: Operation) -> Live {
     match operation {
-        Operation::Jump => live_at(lives, behind(at, insn.k)),
+        Operation::Jump => live_at(lives, following(at, insn.k)),
         Operation::JumpIf(_, _) => {
-            live_at(lives, behind(at, insn.yes)).or(live_at(lives, behind(at, insn.no)))
+            live_at(lives, following(at, insn.yes)).or(live_at(lives, following(at, insn.no)))
         }
-        _ => live_at(lives, behind(at, 0)),
+        _ => live_at(lives, following(at, 0)),
     }
 }
 
@@ -136,9 +136,9 @@ pub(crate) fn lives_in<A: Allocator>(alloc: A, code: &[Wide]) -> Result<Vec<Live
         let Some(operation) = decode(insn.code) else {
             continue;
         };
-        let behind = live_behind(&lives, at, *insn, operation);
+        let following = live_after(&lives, at, *insn, operation);
         if let Some(live) = lives.get_mut(at) {
-            *live = before(operation, insn.k, behind);
+            *live = before(operation, insn.k, following);
         }
     }
     Ok(lives)

@@ -7,7 +7,7 @@ use std::alloc::{AllocError, Allocator};
 #[derive(Clone, Copy)]
 enum Mark {
     Unseen,
-    /// What is behind it is searched.
+    /// What is after it is searched.
     Entered,
     /// Its place from the end.
     Left(usize),
@@ -41,7 +41,7 @@ impl<A: Allocator> Search<'_, A> {
         Ok(())
     }
 
-    /// All behind a node is searched.
+    /// All after a node is searched.
     fn leave(&mut self, at: usize) {
         self.mark(at, Mark::Left(self.left));
         self.left = self.left.saturating_add(1);
@@ -80,7 +80,7 @@ pub(crate) fn entry_at(list: &[usize], at: usize) -> usize {
     list.get(at).copied().unwrap_or(NOWHERE)
 }
 
-/// The graph that runs from an entry come to, in an order in which all edges lead on.
+/// The graph that runs from an entry reach, in an order in which all edges lead on.
 pub(crate) fn ordered<A: Allocator + Clone>(
     alloc: A,
     nodes: &[Node],

@@ -29,7 +29,7 @@ pub(crate) fn side(node: Node, test: Test, number: u32) -> usize {
     if holds { node.yes } else { node.no }
 }
 
-/// Puts the numbers up to one behind the ranges.
+/// Puts the numbers up to one after the ranges.
 pub(crate) fn extend<A: Allocator>(
     ranges: &mut Vec<Range, A>,
     high: u32,

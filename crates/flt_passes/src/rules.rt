@@ -8,7 +8,7 @@ use flt_opt::{
     same_accumulator, same_index,
 };
 
-/// What the new run does where it comes to an instruction.
+/// What the new run does where it reaches an instruction.
 #[derive(Clone, Copy)]
 pub(crate) enum Rule {
     /// What the old one does.
@@ -46,7 +46,7 @@ fn does_same(new: Wide, old: Wide, both: &Both) -> bool {
 }
 
 /// The old code has a mask and a test for 0 in place of a test of bits.
-fn does_bits(new: Wide, old: Wide, behind: Option<Wide>, both: &Both) -> bool {
+fn does_bits(new: Wide, old: Wide, following: Option<Wide>, both: &Both) -> bool {
     let is_bits = matches!(
         decode(new.code),
         Some(Operation::JumpIf(Test::AnyBit, Operand::Constant))
@@ -55,7 +55,7 @@ fn does_bits(new: Wide, old: Wide, behind: Option<Wide>, both: &Both) -> bool {
         decode(old.code),
         Some(Operation::Compute(AluOperation::And, Operand::Constant))
     );
-    let is_test = behind.is_some_and(|test| {
+    let is_test = following.is_some_and(|test| {
         test.k == 0
             && matches!(
                 decode(test.code),
@@ -74,8 +74,8 @@ pub(crate) fn rule_at(new: Wide, old: &[Wide], at: usize, both: &Both) -> Option
     if loads_same(new, insn, both) {
         return Some(Rule::Load);
     }
-    let behind = old.get(at.saturating_add(1)).copied();
-    if does_bits(new, insn, behind, both) {
+    let following = old.get(at.saturating_add(1)).copied();
+    if does_bits(new, insn, following, both) {
         return Some(Rule::Bits);
     }
     None

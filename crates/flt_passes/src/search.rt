@@ -8,10 +8,10 @@ use crate::ranges::{Range, extend, numbers_in, side};
 use flt_bpf::operation::Test;
 use std::alloc::{AllocError, Allocator};
 
-/// So many tests are searched.
+/// The fewest tests that are searched.
 const LEAST: usize = 4;
 
-/// So many numbers are searched even where they lead to more than two nodes.
+/// The fewest numbers that are searched even where they lead to more than two nodes.
 const LEAST_APART: usize = 8;
 
 /// A graph whose tests become searches.
@@ -31,7 +31,7 @@ struct Exit {
     exit: usize,
 }
 
-/// Tests for one number each, one behind the other.
+/// Tests for one number each, one after the other.
 #[derive(Drop)]
 struct Chain<A: Allocator> {
     exits: Vec<Exit, A>,
@@ -136,7 +136,7 @@ impl<A: Allocator + Clone> Searching<A> {
         Ok(ranges)
     }
 
-    /// The numbers that tests ask for, one behind the other, and where they lead.
+    /// The numbers that tests ask for, one after the other, and where they lead.
     fn chain(&self, head: usize) -> Result<Chain<A>, AllocError> {
         let mut exits = Vec::new(self.alloc.clone()?);
         let mut at = head;

@@ -39,7 +39,7 @@ fn overlap(one: Piece, other: Piece) -> Piece {
     }
 }
 
-/// The list ends with the set that begins at an index; a piece behind all of its pieces joins it.
+/// The list ends with the set that begins at an index; a piece after all of its pieces joins it.
 fn add<A: Allocator>(
     pieces: &mut Vec<Piece, A>,
     start: usize,

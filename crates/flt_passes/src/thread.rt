@@ -16,7 +16,7 @@ struct Threading<A: Allocator> {
     nodes: Vec<Node, A>,
     lives: Vec<Live, A>,
     pieces: Vec<Piece, A>,
-    /// What is known where a run comes to nodes that wait.
+    /// What is known where a run reaches nodes that wait.
     waiting: Vec<Known, A>,
     /// Where that is of each node, if a run was seen to come there.
     slots: Vec<usize, A>,
@@ -35,7 +35,7 @@ impl<A: Allocator + Clone> Threading<A> {
             .is_none_or(|node| node.flow() == Flow::Ends)
     }
 
-    /// A run comes to a node with this knowledge.
+    /// A run reaches a node with this knowledge.
     fn arrive(&mut self, at: usize, mut known: Known) -> Result<(), AllocError> {
         if self.ends(at) {
             return Ok(());
@@ -100,7 +100,7 @@ impl<A: Allocator + Clone> Threading<A> {
         )
     }
 
-    /// A run with this knowledge may go on behind a node that is no test.
+    /// A run with this knowledge may go on following a node that is no test.
     fn may_pass(&self, known: &Known, at: usize) -> bool {
         let Some(node) = self.nodes.get(at) else {
             return false;
@@ -157,7 +157,7 @@ impl<A: Allocator + Clone> Threading<A> {
         Ok(to)
     }
 
-    /// Leads both sides of a test on, where a run with this knowledge comes to it.
+    /// Leads both sides of a test on, where a run with this knowledge reaches it.
     fn lead_test(&mut self, at: usize, node: Node, known: &Known) -> Result<(), AllocError> {
         let (can_hold, can_fail) = self.outcomes(known, node);
         let (mut yes, mut no) = (node.yes, node.no);
@@ -205,7 +205,7 @@ impl<A: Allocator + Clone> Threading<A> {
         self.arrive(to, known)
     }
 
-    /// Leads the edges of a node on, if a run comes to it.
+    /// Leads the edges of a node on, if a run reaches it.
     fn lead(&mut self, at: usize) -> Result<(), AllocError> {
         let Some(node) = self.nodes.get(at).copied() else {
             return Ok(());
@@ -215,7 +215,7 @@ impl<A: Allocator + Clone> Threading<A> {
         };
         match node.flow() {
             Flow::Ends => Ok(()),
-            Flow::Goes => self.lead_on(at, node, known.behind(node)),
+            Flow::Goes => self.lead_on(at, node, known.following(node)),
             Flow::Branches => self.lead_test(at, node, &known),
         }
     }
@@ -230,7 +230,7 @@ impl<A: Allocator + Clone> Threading<A> {
     }
 }
 
-/// The graph with each edge led on past what is decided, and past so many tests that aren't. Its
+/// The graph with each edge led on past what is decided, and past some tests that aren't. Its
 /// edges lead on.
 pub(crate) fn threaded<A: Allocator + Clone>(
     alloc: A,

@@ -1,6 +1,6 @@
 //! The old run on its way to where the new one is, by what is known.
 
-use crate::graph::behind;
+use crate::graph::following;
 use crate::known::{Facts, loads, registers_in_both};
 use crate::rules::rule_at;
 use flt_bpf::Wide;
@@ -86,8 +86,8 @@ impl<A: Allocator> Walker<'_, A> {
             && rule_at(self.new, self.old, here.old, &here.both).is_some()
     }
 
-    /// Behind an operation that is no test.
-    fn behind(&self, way: &Way, operation: Operation, k: u32) -> Step {
+    /// After an operation that is no test.
+    fn following(&self, way: &Way, operation: Operation, k: u32) -> Step {
         let here = &way.here;
         let term = asked(operation, k, here.both.old);
         let there = loads(operation) && is_there(term, self.facts.as_slice(), &here.both);
@@ -97,7 +97,7 @@ impl<A: Allocator> Walker<'_, A> {
         }
         Step::To(Way {
             here: Arrival {
-                old: behind(here.old, 0),
+                old: following(here.old, 0),
                 both: after_old(operation, k, here.both),
             },
             may_fail: way.may_fail || !succeeds,
@@ -109,13 +109,13 @@ impl<A: Allocator> Walker<'_, A> {
     fn on_side(&self, way: &Way, insn: Wide, holds: bool) -> Way {
         let skipped = if holds { insn.yes } else { insn.no };
         let here = Arrival {
-            old: behind(way.here.old, skipped),
+            old: following(way.here.old, skipped),
             ..way.here
         };
         Way { here, ..*way }
     }
 
-    fn behind_test(&self, way: &Way, insn: Wide, operation: Operation) -> Step {
+    fn after_test(&self, way: &Way, insn: Wide, operation: Operation) -> Step {
         let knowledge = Knowledge {
             facts: self.facts.as_slice(),
             pieces: self.pieces.as_slice(),
@@ -133,15 +133,15 @@ impl<A: Allocator> Walker<'_, A> {
     fn step(&self, way: &Way, insn: Wide) -> Step {
         match decode(insn.code) {
             None | Some(Operation::ReturnConstant | Operation::ReturnAccumulator) => Step::Ends,
-            Some(operation @ Operation::JumpIf(_, _)) => self.behind_test(way, insn, operation),
+            Some(operation @ Operation::JumpIf(_, _)) => self.after_test(way, insn, operation),
             Some(Operation::Jump) => Step::To(Way {
                 here: Arrival {
-                    old: behind(way.here.old, insn.k),
+                    old: following(way.here.old, insn.k),
                     ..way.here
                 },
                 ..*way
             }),
-            Some(operation) => self.behind(way, operation, insn.k),
+            Some(operation) => self.following(way, operation, insn.k),
         }
     }
 
@@ -256,7 +256,7 @@ impl<A: Allocator> Walker<'_, A> {
         Some((self.learn(way, true), one))
     }
 
-    /// Walks to the goal on a side of a test that isn't decided, past so many more of them.
+    /// Walks to the goal on a side of a test that isn't decided, past `splits` more of them.
     #[cycle(splits)]
     fn walk_side(&mut self, way: &Way, holds: bool, splits: usize) -> Option<Arrival> {
         let (way, is_goal) = self.walk(self.learn(way, holds))?;

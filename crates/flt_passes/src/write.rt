@@ -37,7 +37,7 @@ impl<A: Allocator + Clone> Writer<'_, A> {
         self.place(at) == self.backwards.len() && self.place(at) != 0
     }
 
-    /// A node's instruction, where the code that is there can go on behind it.
+    /// A node's instruction, where the code that is there can go on after it.
     fn insn(&self, node: Node) -> Option<Wide> {
         let top = self.backwards.len();
         let (yes, no) = match node.flow() {
@@ -151,7 +151,7 @@ impl<A: Allocator + Clone> Writer<'_, A> {
     }
 }
 
-/// The code of a graph, whose edges lead on, if it has at most so many instructions.
+/// The code of a graph, whose edges lead on, if it has at most `most` instructions.
 pub(crate) fn written<A: Allocator + Clone>(
     alloc: A,
     nodes: &[Node],

@@ -26,7 +26,7 @@ use Rattle.flt_bpf.proofs.Suffix.{answer_drop, machine_answers}
 use Rattle.flt_short.proofs.Basics.{both_true}
 use Rattle.flt_short.proofs.Basics.{tail}
 
--- how many instructions a run meets behind an instruction, and from a place on
+-- how many instructions a run meets after an instruction, and from a place on
 abbrev pub steps_after : (ℕ → State → ℕ) → Next → ℕ
 steps_after rest (Goes k s) = rest k s
 steps_after rest (Ends a) = 0
@@ -62,7 +62,7 @@ pub record AsGood (d is : List Insn) (p : List ℕ) (n far k : ℕ) (t s : State
   pub same : answer_of d p n far t ≡ answer_of is p n k s
   pub upper_bound : steps_of d p n far t ≤ steps_of is p n k s
 
--- the same behind an instruction
+-- the same after an instruction
 record Follows (d is : List Insn) (p : List ℕ) (n : ℕ) (u v : Next) : Type 0 where
   same : answer_after (answer_of d p n) u ≡ answer_after (answer_of is p n) v
   upper_bound : steps_after (steps_of d p n) u ≤ steps_after (steps_of is p n) v
@@ -83,16 +83,16 @@ if_cons : (b : Bool) (d : List Insn) (j : Insn) (js : List Insn) → (if b then 
 if_cons true d j js e = (refl, e)
 if_cons false d j js e = cc
 
-drop_behind : (c : List Insn) (k : ℕ) (j : Insn) (js : List Insn) → drop k c ≡ j ∷ js → drop (suc k) c ≡ js
-drop_behind [] zero j js e = cc
-drop_behind [] (suc k) j js e = cc
-drop_behind (i ∷ c) zero j js e = cc
-drop_behind (i ∷ c) (suc k) j js e = drop_behind c k j js e
+drop_after : (c : List Insn) (k : ℕ) (j : Insn) (js : List Insn) → drop k c ≡ j ∷ js → drop (suc k) c ≡ js
+drop_after [] zero j js e = cc
+drop_after [] (suc k) j js e = cc
+drop_after (i ∷ c) zero j js e = cc
+drop_after (i ∷ c) (suc k) j js e = drop_after c k j js e
 
-tail_behind : (c : List Insn) (place : ℕ) (j : Insn) (js : List Insn) → 0 < place → place ≤ length c → tail c place ≡ j ∷ js → js ≡ tail c (place - 1)
-tail_behind c place j js some low e =
+tail_after : (c : List Insn) (place : ℕ) (j : Insn) (js : List Insn) → 0 < place → place ≤ length c → tail c place ≡ j ∷ js → js ≡ tail c (place - 1)
+tail_after c place j js some low e =
     let next : suc (length c - place) ≡ length c - (place - 1) = omega arith in
-    sym (drop_behind c (length c - place) j js e) ∙ ap (λ k. drop k c) next
+    sym (drop_after c (length c - place) j js e) ∙ ap (λ k. drop k c) next
 
 -- the code at a place
 record Stood (c : List Insn) (place : ℕ) (j : Insn) (js : List Insn) : Type 0 where
@@ -105,7 +105,7 @@ stood c place j js some e =
     let q = if_cons (nat_le place (length c)) (drop (length c - place) c) j js e in
     let landing_fits = q.0 in
     let low : place ≤ length c = grind (arith, nat_tests) in
-    record { low = low; first = q.1; next = tail_behind c place j js some low q.1 }
+    record { low = low; first = q.1; next = tail_after c place j js some low q.1 }
 
 above : (o : Option Landing) (far place : ℕ) (a x : Bool) → landing_fits_at o far place a x ≡ true → 0 < place
 above None far place a x e = cc
@@ -129,12 +129,12 @@ module _ (p : List ℕ) (n : ℕ) where
   unfolding step
   knows_step j op s e = ap (λ o. does_if_known o j p n s) e
 
-  -- behind the instruction at a place
+  -- after the instruction at a place
   module _ (c is : List Insn) (ls : List Landing) (l : Landing) (all : AllLand c is ls) (low : l.place ≤ length c) where
-    abbrev behind : List Insn
-    behind = tail c (l.place - 1)
+    abbrev following : List Insn
+    following = tail c (l.place - 1)
 
-    fit_one : (k far : ℕ) (a x : Bool) (o : Option Landing) → slice_get ls k ≡ o → landing_fits_at o far l.place a x ≡ true → (s : State) (u v : ℕ) → Same a u s.accumulator → Same x v s.index → AsGood behind is p n far k (other s u v) s
+    fit_one : (k far : ℕ) (a x : Bool) (o : Option Landing) → slice_get ls k ≡ o → landing_fits_at o far l.place a x ≡ true → (s : State) (u v : ℕ) → Same a u s.accumulator → Same x v s.index → AsGood following is p n far k (other s u v) s
     fit_one k far a x None e f s u v h g = cc
     fit_one k far a x (Some m) e f s u v h g =
         let q = both_true ((nat_lt 0 m.place && nat_lt m.place l.place) && l.place - m.place - 1 == far) (implies m.accumulator a && implies m.index x) f in
@@ -149,15 +149,15 @@ module _ (p : List ℕ) (n : ℕ) where
         let away : l.place - m.place - 1 ≡ far = grind (arith, nat_tests) in
         let good = all k m e some s u v (implied_same m.accumulator a u s.accumulator i.0 h) (implied_same m.index x v s.index i.1 g) in
         let there : length c - m.place ≡ (length c - (l.place - 1)) + far = omega arith in
-        let same_code : drop far behind ≡ tail c m.place = drop_drop far (length c - (l.place - 1)) c ∙ ap (λ z. drop z c) (sym there) in
+        let same_code : drop far following ≡ tail c m.place = drop_drop far (length c - (l.place - 1)) c ∙ ap (λ z. drop z c) (sym there) in
         let upper_bound = good.upper_bound in
-        let steps : steps_of behind p n far (other s u v) ≡ steps_of (tail c m.place) p n 0 (other s u v) = sym (steps_drop behind p n far (other s u v)) ∙ ap (λ z. steps_of z p n 0 (other s u v)) same_code in
+        let steps : steps_of following p n far (other s u v) ≡ steps_of (tail c m.place) p n 0 (other s u v) = sym (steps_drop following p n far (other s u v)) ∙ ap (λ z. steps_of z p n 0 (other s u v)) same_code in
         record {
-          same = sym (answer_drop behind p n far (other s u v)) ∙ ap (λ z. answer_of z p n 0 (other s u v)) same_code ∙ good.same;
+          same = sym (answer_drop following p n far (other s u v)) ∙ ap (λ z. answer_of z p n 0 (other s u v)) same_code ∙ good.same;
           upper_bound = omega arith;
         }
 
-    fit : (k far : ℕ) (a x : Bool) → landing_fits ls k far l.place a x ≡ true → (s : State) (u v : ℕ) → Same a u s.accumulator → Same x v s.index → AsGood behind is p n far k (other s u v) s
+    fit : (k far : ℕ) (a x : Bool) → landing_fits ls k far l.place a x ≡ true → (s : State) (u v : ℕ) → Same a u s.accumulator → Same x v s.index → AsGood following is p n far k (other s u v) s
     fit k far a x f s u v h g = fit_one k far a x (slice_get ls k) refl f s u v h g
 
     -- one instruction, with the same A and X where they are read
@@ -165,75 +165,75 @@ module _ (p : List ℕ) (n : ℕ) where
       abbrev t : State
       t = other s a x
 
-      goes : (u v : State) → AsGood behind is p n 0 0 u v → Follows behind is p n (Goes 0 u) (Goes 0 v)
+      goes : (u v : State) → AsGood following is p n 0 0 u v → Follows following is p n (Goes 0 u) (Goes 0 v)
       goes u v g = record { same = g.same; upper_bound = g.upper_bound }
 
-      ends : (u v : ℕ) → u ≡ v → Follows behind is p n (Ends u) (Ends v)
+      ends : (u v : ℕ) → u ≡ v → Follows following is p n (Ends u) (Ends v)
       ends u v e = record { same = ap Some e; upper_bound = omega arith }
 
-      lost : Follows behind is p n Lost Lost
+      lost : Follows following is p n Lost Lost
       lost = record { same = refl; upper_bound = omega arith }
 
-      to_a : (o : Option ℕ) → landing_fits ls 0 0 l.place true l.index ≡ true → Follows behind is p n (into Accumulator o t) (into Accumulator o s)
+      to_a : (o : Option ℕ) → landing_fits ls 0 0 l.place true l.index ≡ true → Follows following is p n (into Accumulator o t) (into Accumulator o s)
       to_a None f = ends 0 0 refl
       to_a (Some v) f = goes _ _ (fit 0 0 true l.index f (record s { accumulator = v }) v x (λ z. refl) hx)
 
-      to_x : (o : Option ℕ) → landing_fits ls 0 0 l.place l.accumulator true ≡ true → Follows behind is p n (into Index o t) (into Index o s)
+      to_x : (o : Option ℕ) → landing_fits ls 0 0 l.place l.accumulator true ≡ true → Follows following is p n (into Index o t) (into Index o s)
       to_x None f = ends 0 0 refl
       to_x (Some v) f = goes _ _ (fit 0 0 l.accumulator true f (record s { index = v }) a v ha (λ z. refl))
 
-      word_to_a : (o : Option ℕ) → landing_fits ls 0 0 l.place true l.index ≡ true → Follows behind is p n (word_into Accumulator o t) (word_into Accumulator o s)
+      word_to_a : (o : Option ℕ) → landing_fits ls 0 0 l.place true l.index ≡ true → Follows following is p n (word_into Accumulator o t) (word_into Accumulator o s)
       word_to_a None f = lost
       word_to_a (Some v) f = to_a (Some v) f
 
-      word_to_x : (o : Option ℕ) → landing_fits ls 0 0 l.place l.accumulator true ≡ true → Follows behind is p n (word_into Index o t) (word_into Index o s)
+      word_to_x : (o : Option ℕ) → landing_fits ls 0 0 l.place l.accumulator true ≡ true → Follows following is p n (word_into Index o t) (word_into Index o s)
       word_to_x None f = lost
       word_to_x (Some v) f = to_x (Some v) f
 
-      stored : (b : Bool) (m : List ℕ) → landing_fits ls 0 0 l.place l.accumulator l.index ≡ true → Follows behind is p n (if b then Goes 0 (record t { memory = m }) else Lost) (if b then Goes 0 (record s { memory = m }) else Lost)
+      stored : (b : Bool) (m : List ℕ) → landing_fits ls 0 0 l.place l.accumulator l.index ≡ true → Follows following is p n (if b then Goes 0 (record t { memory = m }) else Lost) (if b then Goes 0 (record s { memory = m }) else Lost)
       stored true m f = goes _ _ (fit 0 0 l.accumulator l.index f (record s { memory = m }) a x ha hx)
       stored false m f = lost
 
-      way : (b : Bool) (hit miss near next : ℕ) → landing_fits ls hit near l.place l.accumulator l.index ≡ true → landing_fits ls miss next l.place l.accumulator l.index ≡ true → Follows behind is p n (Goes (if b then near else next) t) (Goes (if b then hit else miss) s)
+      way : (b : Bool) (hit miss near next : ℕ) → landing_fits ls hit near l.place l.accumulator l.index ≡ true → landing_fits ls miss next l.place l.accumulator l.index ≡ true → Follows following is p n (Goes (if b then near else next) t) (Goes (if b then hit else miss) s)
       way true hit miss near next f g = let w = fit hit near l.accumulator l.index f s a x ha hx in record { same = w.same; upper_bound = w.upper_bound }
       way false hit miss near next f g = let w = fit miss next l.accumulator l.index g s a x ha hx in record { same = w.same; upper_bound = w.upper_bound }
 
       -- what the operation does
-      op_good : (op : Operation) (j i : Insn) → i.k ≡ j.k → implies (reads_accumulator op) l.accumulator ≡ true → implies (reads_index op) l.index ≡ true → goes_on op j l i ls ≡ true → Follows behind is p n (does op j p n t) (does op i p n s)
-      op_good (LoadAbsolute w) j i k ra rx f = subst (λ m. Follows behind is p n (into Accumulator (field p m w) t) (into Accumulator (field p i.k w) s)) k (to_a (field p i.k w) f)
+      op_good : (op : Operation) (j i : Insn) → i.k ≡ j.k → implies (reads_accumulator op) l.accumulator ≡ true → implies (reads_index op) l.index ≡ true → goes_on op j l i ls ≡ true → Follows following is p n (does op j p n t) (does op i p n s)
+      op_good (LoadAbsolute w) j i k ra rx f = subst (λ m. Follows following is p n (into Accumulator (field p m w) t) (into Accumulator (field p i.k w) s)) k (to_a (field p i.k w) f)
       op_good (LoadIndirect w) j i k ra rx f =
           let same : (s.index + i.k) % 2 ^ 32 ≡ (x + j.k) % 2 ^ 32 = ap (λ m. (s.index + m) % 2 ^ 32) k ∙ ap (λ m. (m + j.k) % 2 ^ 32) (sym (hx rx)) in
-          subst (λ m. Follows behind is p n (into Accumulator (field p m w) t) (into Accumulator (field p ((s.index + i.k) % 2 ^ 32) w) s)) same (to_a (field p ((s.index + i.k) % 2 ^ 32) w) f)
-      op_good (Load Accumulator Immediate) j i k ra rx f = subst (λ m. Follows behind is p n (into Accumulator (Some m) t) (into Accumulator (Some i.k) s)) k (to_a (Some i.k) f)
+          subst (λ m. Follows following is p n (into Accumulator (field p m w) t) (into Accumulator (field p ((s.index + i.k) % 2 ^ 32) w) s)) same (to_a (field p ((s.index + i.k) % 2 ^ 32) w) f)
+      op_good (Load Accumulator Immediate) j i k ra rx f = subst (λ m. Follows following is p n (into Accumulator (Some m) t) (into Accumulator (Some i.k) s)) k (to_a (Some i.k) f)
       op_good (Load Accumulator Length) j i k ra rx f = to_a (Some n) f
-      op_good (Load Accumulator Memory) j i k ra rx f = subst (λ m. Follows behind is p n (word_into Accumulator (slice_get s.memory m) t) (word_into Accumulator (slice_get s.memory i.k) s)) k (word_to_a (slice_get s.memory i.k) f)
-      op_good (Load Index Immediate) j i k ra rx f = subst (λ m. Follows behind is p n (into Index (Some m) t) (into Index (Some i.k) s)) k (to_x (Some i.k) f)
+      op_good (Load Accumulator Memory) j i k ra rx f = subst (λ m. Follows following is p n (word_into Accumulator (slice_get s.memory m) t) (word_into Accumulator (slice_get s.memory i.k) s)) k (word_to_a (slice_get s.memory i.k) f)
+      op_good (Load Index Immediate) j i k ra rx f = subst (λ m. Follows following is p n (into Index (Some m) t) (into Index (Some i.k) s)) k (to_x (Some i.k) f)
       op_good (Load Index Length) j i k ra rx f = to_x (Some n) f
-      op_good (Load Index Memory) j i k ra rx f = subst (λ m. Follows behind is p n (word_into Index (slice_get s.memory m) t) (word_into Index (slice_get s.memory i.k) s)) k (word_to_x (slice_get s.memory i.k) f)
-      op_good LoadHeaderLength j i k ra rx f = subst (λ m. Follows behind is p n (into Index (option_map header_length (field p m Byte)) t) (into Index (option_map header_length (field p i.k Byte)) s)) k (to_x (option_map header_length (field p i.k Byte)) f)
+      op_good (Load Index Memory) j i k ra rx f = subst (λ m. Follows following is p n (word_into Index (slice_get s.memory m) t) (word_into Index (slice_get s.memory i.k) s)) k (word_to_x (slice_get s.memory i.k) f)
+      op_good LoadHeaderLength j i k ra rx f = subst (λ m. Follows following is p n (into Index (option_map header_length (field p m Byte)) t) (into Index (option_map header_length (field p i.k Byte)) s)) k (to_x (option_map header_length (field p i.k Byte)) f)
       op_good (Store Accumulator) j i k ra rx f =
-          subst (λ m. Follows behind is p n (into_word m a t) (into_word i.k s.accumulator s)) k (subst (λ v. Follows behind is p n (into_word i.k v t) (into_word i.k s.accumulator s)) (sym (ha ra)) (stored (nat_lt i.k (length s.memory)) (slice_set s.memory i.k s.accumulator) f))
+          subst (λ m. Follows following is p n (into_word m a t) (into_word i.k s.accumulator s)) k (subst (λ v. Follows following is p n (into_word i.k v t) (into_word i.k s.accumulator s)) (sym (ha ra)) (stored (nat_lt i.k (length s.memory)) (slice_set s.memory i.k s.accumulator) f))
       op_good (Store Index) j i k ra rx f =
-          subst (λ m. Follows behind is p n (into_word m x t) (into_word i.k s.index s)) k (subst (λ v. Follows behind is p n (into_word i.k v t) (into_word i.k s.index s)) (sym (hx rx)) (stored (nat_lt i.k (length s.memory)) (slice_set s.memory i.k s.index) f))
+          subst (λ m. Follows following is p n (into_word m x t) (into_word i.k s.index s)) k (subst (λ v. Follows following is p n (into_word i.k v t) (into_word i.k s.index s)) (sym (hx rx)) (stored (nat_lt i.k (length s.memory)) (slice_set s.memory i.k s.index) f))
       op_good (Compute o Constant) j i k ra rx f =
-          subst (λ m. Follows behind is p n (into Accumulator (compute o a m) t) (into Accumulator (compute o s.accumulator i.k) s)) k (subst (λ v. Follows behind is p n (into Accumulator (compute o v i.k) t) (into Accumulator (compute o s.accumulator i.k) s)) (sym (ha ra)) (to_a (compute o s.accumulator i.k) f))
+          subst (λ m. Follows following is p n (into Accumulator (compute o a m) t) (into Accumulator (compute o s.accumulator i.k) s)) k (subst (λ v. Follows following is p n (into Accumulator (compute o v i.k) t) (into Accumulator (compute o s.accumulator i.k) s)) (sym (ha ra)) (to_a (compute o s.accumulator i.k) f))
       op_good (Compute o IndexRegister) j i k ra rx f =
-          subst (λ m. Follows behind is p n (into Accumulator (compute o a m) t) (into Accumulator (compute o s.accumulator s.index) s)) (sym (hx rx)) (subst (λ v. Follows behind is p n (into Accumulator (compute o v s.index) t) (into Accumulator (compute o s.accumulator s.index) s)) (sym (ha ra)) (to_a (compute o s.accumulator s.index) f))
+          subst (λ m. Follows following is p n (into Accumulator (compute o a m) t) (into Accumulator (compute o s.accumulator s.index) s)) (sym (hx rx)) (subst (λ v. Follows following is p n (into Accumulator (compute o v s.index) t) (into Accumulator (compute o s.accumulator s.index) s)) (sym (ha ra)) (to_a (compute o s.accumulator s.index) f))
       op_good Negate j i k ra rx f =
-          subst (λ v. Follows behind is p n (into Accumulator (Some ((2 ^ 32 - v) % 2 ^ 32)) t) (into Accumulator (Some ((2 ^ 32 - s.accumulator) % 2 ^ 32)) s)) (sym (ha ra)) (to_a (Some ((2 ^ 32 - s.accumulator) % 2 ^ 32)) f)
+          subst (λ v. Follows following is p n (into Accumulator (Some ((2 ^ 32 - v) % 2 ^ 32)) t) (into Accumulator (Some ((2 ^ 32 - s.accumulator) % 2 ^ 32)) s)) (sym (ha ra)) (to_a (Some ((2 ^ 32 - s.accumulator) % 2 ^ 32)) f)
       op_good Jump j i k ra rx f = cc
       op_good (JumpIf o Constant) j i k ra rx f =
           let q = both_true (landing_fits ls i.jt j.jt l.place l.accumulator l.index) (landing_fits ls i.jf j.jf l.place l.accumulator l.index) f in
-          subst (λ m. Follows behind is p n (Goes (if test_holds o a m then j.jt else j.jf) t) (Goes (if test_holds o s.accumulator i.k then i.jt else i.jf) s)) k (subst (λ v. Follows behind is p n (Goes (if test_holds o v i.k then j.jt else j.jf) t) (Goes (if test_holds o s.accumulator i.k then i.jt else i.jf) s)) (sym (ha ra)) (way (test_holds o s.accumulator i.k) i.jt i.jf j.jt j.jf q.0 q.1))
+          subst (λ m. Follows following is p n (Goes (if test_holds o a m then j.jt else j.jf) t) (Goes (if test_holds o s.accumulator i.k then i.jt else i.jf) s)) k (subst (λ v. Follows following is p n (Goes (if test_holds o v i.k then j.jt else j.jf) t) (Goes (if test_holds o s.accumulator i.k then i.jt else i.jf) s)) (sym (ha ra)) (way (test_holds o s.accumulator i.k) i.jt i.jf j.jt j.jf q.0 q.1))
       op_good (JumpIf o IndexRegister) j i k ra rx f =
           let q = both_true (landing_fits ls i.jt j.jt l.place l.accumulator l.index) (landing_fits ls i.jf j.jf l.place l.accumulator l.index) f in
-          subst (λ m. Follows behind is p n (Goes (if test_holds o a m then j.jt else j.jf) t) (Goes (if test_holds o s.accumulator s.index then i.jt else i.jf) s)) (sym (hx rx)) (subst (λ v. Follows behind is p n (Goes (if test_holds o v s.index then j.jt else j.jf) t) (Goes (if test_holds o s.accumulator s.index then i.jt else i.jf) s)) (sym (ha ra)) (way (test_holds o s.accumulator s.index) i.jt i.jf j.jt j.jf q.0 q.1))
+          subst (λ m. Follows following is p n (Goes (if test_holds o a m then j.jt else j.jf) t) (Goes (if test_holds o s.accumulator s.index then i.jt else i.jf) s)) (sym (hx rx)) (subst (λ v. Follows following is p n (Goes (if test_holds o v s.index then j.jt else j.jf) t) (Goes (if test_holds o s.accumulator s.index then i.jt else i.jf) s)) (sym (ha ra)) (way (test_holds o s.accumulator s.index) i.jt i.jf j.jt j.jf q.0 q.1))
       op_good ReturnConstant j i k ra rx f = ends j.k i.k (sym k)
       op_good ReturnAccumulator j i k ra rx f = ends a s.accumulator (ha ra)
       op_good CopyToIndex j i k ra rx f =
-          subst (λ v. Follows behind is p n (into Index (Some v) t) (into Index (Some s.accumulator) s)) (sym (ha ra)) (to_x (Some s.accumulator) f)
+          subst (λ v. Follows following is p n (into Index (Some v) t) (into Index (Some s.accumulator) s)) (sym (ha ra)) (to_x (Some s.accumulator) f)
       op_good CopyToAccumulator j i k ra rx f =
-          subst (λ v. Follows behind is p n (into Accumulator (Some v) t) (into Accumulator (Some s.index) s)) (sym (hx rx)) (to_a (Some s.index) f)
+          subst (λ v. Follows following is p n (into Accumulator (Some v) t) (into Accumulator (Some s.index) s)) (sym (hx rx)) (to_a (Some s.index) f)
 
   -- the same instruction
   same_good : (c is : List Insn) (ls : List Landing) (l : Landing) (all : AllLand c is ls) (low : l.place ≤ length c) (j i : Insn) (op : Option Operation) → operation_of i.code ≡ op → same_step op j l i ls ≡ true → (s : State) (a x : ℕ) → Same l.accumulator a s.accumulator → Same l.index x s.index → AsGood (j ∷ tail c (l.place - 1)) (i ∷ is) p n 0 0 (other s a x) s
@@ -343,7 +343,7 @@ module _ (p : List ℕ) (n : ℕ) where
           let w = subst (λ m. AsGood (tail c (l.place - 1)) (u ∷ is) p n j.jt m (other s a x) s) one (fit c (u ∷ is) ls l all low (1 + u.jf) j.jt false l.index g s a x (λ q. cc) hx) in
           record { same = w.same; upper_bound = w.upper_bound }
 
-  -- one load for a number that goes to X by A, and a load behind X
+  -- one load for a number that goes to X by A, and a load at X
   record Direct (old new : ℕ) : Type 0 where
     width : Width
     indirect : operation_of old ≡ Some (LoadIndirect width)
@@ -393,7 +393,7 @@ module _ (p : List ℕ) (n : ℕ) where
           let w = fit c (u ∷ v ∷ is) ls l all low 2 0 true false f (record s { accumulator = y }) y x (λ q. refl) (λ q. cc) in
           record { same = w.same; upper_bound = w.upper_bound }
 
-  -- the header length and a load behind it, for a number and the header length that are added in A and go to X
+  -- the header length and a load after it, for a number and the header length that are added in A and go to X
   record Indirect (o : Option Operation) : Type 0 where
     width : Width
     is : o ≡ Some (LoadIndirect width)
@@ -415,7 +415,7 @@ module _ (p : List ℕ) (n : ℕ) where
         let r = fit c (t ∷ u ∷ v ∷ w ∷ is) ls (record l { place = l.place - 1 }) all (omega arith) 4 0 true false fitting (record s { accumulator = y }) y x (λ q. refl) (λ q. cc) in
         record { same = r.same; upper_bound = r.upper_bound }
 
-    -- behind the header length
+    -- after the header length
     measured : (s : State) (a h : ℕ) → s.accumulator ≡ i.k → AsGood (j ∷ beyond) (u ∷ v ∷ w ∷ is) p n 0 0 (other s a h) (record s { index = h })
     measured s a h number =
         let m = (i.k + h) % 2 ^ 32 in
@@ -476,7 +476,7 @@ module _ (p : List ℕ) (n : ℕ) where
       let second = knows_step t (Some LoadHeaderLength) s1 t_is ∙ ap (λ m. into Index (option_map header_length (field p m Byte)) s1) h_k in
       let new = knows_step h (Some LoadHeaderLength) (other s a x) (ap operation_of (sym h_code) ∙ t_is) in
       let some = above (slice_get ls 4) 0 (l.place - 1) true false rd.1 in
-      let rest : j ∷ tail c (l.place - 1 - 1) ≡ tail c (l.place - 1) = ap (λ z. j ∷ z) (sym (tail_behind c (l.place - 1) j js some (omega arith) (sym at))) ∙ at in
+      let rest : j ∷ tail c (l.place - 1 - 1) ≡ tail c (l.place - 1) = ap (λ z. j ∷ z) (sym (tail_after c (l.place - 1) j js some (omega arith) (sym at))) ∙ at in
       let g = measures c is ls l t u v w all low rd.1 i j load.width (ap operation_of u_code ∙ add_is) (ap operation_of v_code ∙ copy_is) load.is (ap operation_of (sym j_code) ∙ load.is) j_k s1 a x (option_map header_length (field p h.k Byte)) refl in
       let d = j ∷ tail c (l.place - 1 - 1) in
       let upper_bound = g.upper_bound in
@@ -497,7 +497,7 @@ module _ (p : List ℕ) (n : ℕ) where
   or_either A true b e f g = f refl
   or_either A false b e f g = g e
 
-  -- the instruction j and the code behind its place are as good as the instruction i and those behind it
+  -- the instruction j and the code after its place are as good as the instruction i and those after it
   abbrev Good : List Insn → Landing → Insn → Insn → State → ℕ → ℕ → List Insn → Type 0
   Good c l j i s a x is = AsGood (j ∷ tail c (l.place - 1)) (i ∷ is) p n 0 0 (other s a x) s
 

@@ -72,9 +72,9 @@ faultless_flow (h ∷ hs) (i ∷ is) f =
       faultless_flow (with_arrivals 0 op h i is hs) is f.1,
     )
 
-ends_behind : (i : Insn) (c : List Insn) → 0 < length c → ends_in_return (i ∷ c) ≡ ends_in_return c
-ends_behind i [] l = absurd (omega arith)
-ends_behind i (j ∷ c) l = refl
+ends_after : (i : Insn) (c : List Insn) → 0 < length c → ends_in_return (i ∷ c) ≡ ends_in_return c
+ends_after i [] l = absurd (omega arith)
+ends_after i (j ∷ c) l = refl
 
 pub ends_flow : (hs : List Held) (is : List Insn) → ends_in_return (flow hs is) ≡ ends_in_return is
 ends_flow hs [] = refl
@@ -83,7 +83,7 @@ ends_flow (h ∷ hs) (i ∷ []) = ap (λ code. is_return (operation_of code)) (t
 ends_flow (h ∷ hs) (i ∷ j ∷ is) =
     let hs' = with_arrivals 0 (operation_of i.code) h i (j ∷ is) hs in
     let long = length_flow hs' (j ∷ is) in
-    ends_behind (insn_past_loads (operation_of i.code) h i (j ∷ is)) (flow hs' (j ∷ is)) (omega arith) ∙ ends_flow hs' (j ∷ is)
+    ends_after (insn_past_loads (operation_of i.code) h i (j ∷ is)) (flow hs' (j ∷ is)) (omega arith) ∙ ends_flow hs' (j ∷ is)
 
 -- jumps
 code_at : (hs : List Held) (is : List Insn) (k : ℕ) (d : Insn) → (get_or (flow hs is) k d).code ≡ (get_or is k d).code

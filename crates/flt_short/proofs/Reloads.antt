@@ -51,7 +51,7 @@ pub flow_all : (hs : List Held) (now : List Insn) → flow_from (length now) hs 
 flow_all hs [] = refl
 flow_all hs (i ∷ is) = ap (λ c. i ∷ c) (flow_all hs is)
 
--- what lies behind a place is raised alone
+-- what lies after a place is raised alone
 pub raised_drop : (from k : ℕ) (hs : List Held) (h : Held) → drop from (with_arrival hs (from + k) h) ≡ with_arrival (drop from hs) k h
 raised_drop from k hs h =
     drop-set-add from hs k (held_on_both (get_or hs (from + k) Unknown) h) ∙ ap (λ g. set (drop from hs) k (held_on_both g h)) (sym (get_or-drop from hs k Unknown))
@@ -109,8 +109,8 @@ passed_length from op Unknown i is hs = on_length from op Unknown i is hs
 passed_length from op (Field code k) i is hs = on_length from op (Field code k) i is hs
 
 -- one more instruction is done
-pub flow_step : (at : ℕ) (held held' : List Held) (now behind : List Insn) (g : Held) (e t : Insn) → at < length now → at < length held → behind ≡ drop (at + 1) now → held' ≡ with_arrivals (at + 1) (operation_of (get_or now at e).code) (get_or held at g) (get_or now at e) behind held → t ≡ insn_past_loads (operation_of (get_or now at e).code) (get_or held at g) (get_or now at e) behind → flow_from at (drop at held) now ≡ flow_from (at + 1) (drop (at + 1) held') (set now at t)
-flow_step at held held' now behind g e t l m rest same turns =
+pub flow_step : (at : ℕ) (held held' : List Held) (now following : List Insn) (g : Held) (e t : Insn) → at < length now → at < length held → following ≡ drop (at + 1) now → held' ≡ with_arrivals (at + 1) (operation_of (get_or now at e).code) (get_or held at g) (get_or now at e) following held → t ≡ insn_past_loads (operation_of (get_or now at e).code) (get_or held at g) (get_or now at e) following → flow_from at (drop at held) now ≡ flow_from (at + 1) (drop (at + 1) held') (set now at t)
+flow_step at held held' now following g e t l m rest same turns =
     let one : suc at ≡ at + 1 = omega arith in
     let i = get_or now at e in
     let h = get_or held at g in
@@ -119,7 +119,7 @@ flow_step at held held' now behind g e t l m rest same turns =
     ∙ flow_more at h (drop (at + 1) held) now e l
     ∙ ap (λ k. flow_from k (with_arrivals 0 op h i (drop k now) (drop (at + 1) held)) (set now at (insn_past_loads op h i (drop k now)))) one
     ∙ ap (λ b. flow_from (at + 1) (with_arrivals 0 op h i b (drop (at + 1) held)) (set now at (insn_past_loads op h i b))) (sym rest)
-    ∙ ap (λ hs. flow_from (at + 1) hs (set now at (insn_past_loads op h i behind))) (sym (passed_drop (at + 1) op h i behind held) ∙ ap (drop (at + 1)) (sym same))
+    ∙ ap (λ hs. flow_from (at + 1) hs (set now at (insn_past_loads op h i following))) (sym (passed_drop (at + 1) op h i following held) ∙ ap (drop (at + 1)) (sym same))
     ∙ ap (λ z. flow_from (at + 1) (drop (at + 1) held') (set now at z)) (sym turns)
 
 module _ (p : List ℕ) (n : ℕ) where
@@ -189,7 +189,7 @@ module _ (p : List ℕ) (n : ℕ) where
   passed_keeps op (Field code k) i is hs m s x = on_keeps op (Field code k) i is hs m s x
   passed_keeps op Unknown i is hs m s x = on_keeps op Unknown i is hs m s x
 
-  -- code behind a load of what A holds has the answer of the code that begins with the load
+  -- code after a load of what A holds has the answer of the code that begins with the load
   past_same : (h : Held) (is : List Insn) (to : ℕ) (i : Insn) (s : State) → Holds h s → slice_get is to ≡ Some i → loads h i ≡ true → answer_of is p n (suc to) s ≡ answer_of is p n to s
   past_same Unreached is to i s x g l = absurd x
   past_same Unknown is to i s x g l = cc
@@ -243,7 +243,7 @@ module _ (p : List ℕ) (n : ℕ) where
   unfolding step
   knows_step j op s e = ap (λ o. does_if_known o j p n s) e
 
-  -- the code behind an instruction has the same answers wherever A holds what is said
+  -- the code after an instruction has the same answers wherever A holds what is said
   abbrev Alike : List Insn → List Insn → List Held → Type 0
   Alike c d hs = (k : ℕ) (t : State) → HoldsAt hs k t → answer_of c p n k t ≡ answer_of d p n k t
 

@@ -15,7 +15,7 @@ use Rattle.flt_bpf.specs.Valid.{IsValid}
 use Rattle.flt_short.specs.declared.alike.Landing.{Landing}
 use Rattle.flt_bpf.specs.Layout.{HasNoJump, JumpsAreNeeded}
 
--- a run comes to this answer in at most so many instructions
+-- a run reaches this answer in at most this many instructions
 pub record Comes (prog : List Insn) (p : List ℕ) (n answer most : ℕ) : Type 0 where
   pub count : ℕ
   pub answered : machine prog p n (length prog) ≡ Answered answer count
@@ -70,7 +70,7 @@ abbrev pub implies : Bool → Bool → Bool
 implies true b = b
 implies false b = true
 
--- a landing stands so far behind the instruction at a place, and what is read there is the same in
+-- a landing is this far past the instruction at a place, and what is read there is the same in
 -- both programs: A and X are, as the two tests say
 abbrev pub landing_fits_at : Option Landing → ℕ → ℕ → Bool → Bool → Bool
 landing_fits_at None far place a x = false
@@ -81,7 +81,7 @@ landing_fits_at (Some l) far place a x =
 abbrev pub landing_fits : List Landing → ℕ → ℕ → ℕ → Bool → Bool → Bool
 landing_fits ls k far place a x = landing_fits_at (slice_get ls k) far place a x
 
--- both programs go on alike behind an instruction that both have
+-- both programs go on alike after an instruction that both have
 abbrev pub goes_on : Operation → Insn → Landing → Insn → List Landing → Bool
 goes_on Jump j l i ls = false
 goes_on (JumpIf test operand) j l i ls =
@@ -111,7 +111,7 @@ EQUAL = code_of (JumpIf test.Equal Constant)
 abbrev pub ANY_BIT : ℕ
 ANY_BIT = code_of (JumpIf test.AnyBit Constant)
 
--- it is one test for a mask and a test of what is left for 0; A isn't read behind it
+-- it is one test for a mask and a test of what is left for 0; A isn't read after it
 unfoldable pub one_test : Insn → Landing → Insn → List Insn → List Landing → Bool
 one_test j l i [] ls = false
 one_test j l i (t ∷ is) ls =
@@ -120,7 +120,7 @@ one_test j l i (t ∷ is) ls =
     && (landing_fits ls (1 + t.jt) j.jf l.place false l.index
     && landing_fits ls (1 + t.jf) j.jt l.place false l.index))
 
--- the code of a load at a fixed place that is as wide as one behind X
+-- the code of a load at a fixed place that is as wide as one at X
 abbrev pub direct_code : Option Operation → Option ℕ
 direct_code (Some (LoadIndirect width)) = Some (code_of (LoadAbsolute width))
 direct_code _ = None
@@ -129,7 +129,7 @@ abbrev pub is_number : Option ℕ → ℕ → Bool
 is_number None n = false
 is_number (Some m) n = m == n
 
--- it is one load for a number that goes to X by A, and a load behind X; X isn't read behind it
+-- it is one load for a number that goes to X by A, and a load at X; X isn't read after it
 unfoldable pub direct_load : Insn → Landing → Insn → List Insn → List Landing → Bool
 direct_load j l i [] ls = false
 direct_load j l i (t ∷ []) ls = false
@@ -138,7 +138,7 @@ direct_load j l i (t ∷ u ∷ is) ls =
     && (is_number (direct_code (operation_of u.code)) j.code && (i.k + u.k) % 2 ^ 32 == j.k))
     && landing_fits ls 2 0 l.place true false
 
--- a load behind X
+-- a load at X
 abbrev pub is_indirect : Option Operation → Bool
 is_indirect (Some (LoadIndirect width)) = true
 is_indirect _ = false
@@ -149,13 +149,13 @@ adds_header i t u v =
     (i.code == code_of (Load Accumulator Immediate) && t.code == code_of LoadHeaderLength)
     && (u.code == code_of (Compute Add IndexRegister) && v.code == code_of CopyToIndex)
 
--- two loads are the same header's length, and as many bytes behind X
+-- two loads are the same header's length, and as many bytes past X
 abbrev pub loads_alike : Insn → Insn → Insn → Insn → Bool
 loads_alike t h w j =
     (t.code == h.code && t.k == h.k) && (is_indirect (operation_of w.code) && w.code == j.code)
 
--- they are the header length and a load behind it, for a number, the header length, their sum that
--- goes to X, and a load behind X; X isn't read behind it
+-- they are the header length and a load after it, for a number, the header length, their sum that
+-- goes to X, and a load at X; X isn't read after it
 unfoldable pub header_load : List Insn → Landing → Insn → List Insn → List Landing → Bool
 header_load (h ∷ j ∷ js) l i (t ∷ u ∷ v ∷ w ∷ is) ls =
     adds_header i t u v && (loads_alike t h w j
@@ -172,7 +172,7 @@ stands_at (j ∷ js) l i is ls =
     (same_step (operation_of i.code) j l i ls || one_test j l i is ls)
     || (direct_load j l i is ls || header_load (j ∷ js) l i is ls)
 
--- the code does at a landing, if it is one, what the instruction i and those behind it do
+-- the code does at a landing, if it is one, what the instruction i and those after it do
 abbrev pub stands : List Insn → Landing → Insn → List Insn → List Landing → Bool
 stands c l i is ls = l.place == 0 || stands_at (code_from c l.place) l i is ls
 

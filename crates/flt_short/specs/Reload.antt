@@ -39,7 +39,7 @@ insn_past_loads (Some (JumpIf test operand)) h i is =
     record i { jt = offset_past_load h is i.jt; jf = offset_past_load h is i.jf }
 insn_past_loads _ h i is = i
 
--- a run comes to a place with this in A
+-- a run reaches a place with this in A
 abbrev pub with_arrival : List Held → ℕ → Held → List Held
 with_arrival hs at h = slice_set hs at (held_on_both (slice_index_or hs at Unknown) h)
 
@@ -57,12 +57,12 @@ with_arrivals_by from (Some ReturnConstant) h i is hs = hs
 with_arrivals_by from (Some ReturnAccumulator) h i is hs = hs
 with_arrivals_by from _ h i is hs = with_arrival hs from Unknown
 
--- a run goes on from an instruction to those behind it, the first of which is at a place
+-- a run goes on from an instruction to those after it, the first of which is at a place
 abbrev pub with_arrivals : ℕ → Option Operation → Held → Insn → List Insn → List Held → List Held
 with_arrivals from op Unreached i is hs = hs
 with_arrivals from op h i is hs = with_arrivals_by from op h i is hs
 
--- the code with its offsets past loads, where A holds so much as the runs come to each instruction
+-- the code with its offsets past loads, where A holds so much as the runs reach each instruction
 -- from the code in front
 abbrev pub flow : List Held → List Insn → List Insn
 flow hs [] = []

@@ -84,8 +84,8 @@ fn implied(one: bool, other: bool) -> bool
     if one { other } else { true }
 }
 
-/// How far a way leads: in the old program, of which the landings behind an instruction are given,
-/// and in the new one, behind the instruction at a place.
+/// How far a way leads: in the old program, of which the landings after an instruction are given,
+/// and in the new one, after the instruction at a place.
 #[derive(Clone, Copy)]
 struct Way {
     pub old: usize,
@@ -102,10 +102,10 @@ fn leads_to(way: Way, place: usize) -> bool
 }
 
 /// Both ways lead to one landing, and what is read there is the same in both programs.
-fn fits(behind: &[Landing], way: Way, accumulator: bool, index: bool) -> bool
-    ensures { result ≡ landing_fits behind.now way.old way.new way.place accumulator index }
+fn fits(following: &[Landing], way: Way, accumulator: bool, index: bool) -> bool
+    ensures { result ≡ landing_fits following.now way.old way.new way.place accumulator index }
 {
-    match behind.get(way.old) {
+    match following.get(way.old) {
         None => false,
         Some(landing) => {
             leads_to(way, landing.place)
@@ -114,9 +114,9 @@ fn fits(behind: &[Landing], way: Way, accumulator: bool, index: bool) -> bool
     }
 }
 
-/// Both programs go on alike behind an instruction that both have.
-fn goes_on(operation: Operation, new: Insn, landing: Landing, old: Insn, behind: &[Landing]) -> bool
-    ensures { result ≡ goes_on operation new landing old behind.now }
+/// Both programs go on alike after an instruction that both have.
+fn goes_on(operation: Operation, new: Insn, landing: Landing, old: Insn, following: &[Landing]) -> bool
+    ensures { result ≡ goes_on operation new landing old following.now }
 {
     let Landing {
         place,
@@ -136,11 +136,11 @@ fn goes_on(operation: Operation, new: Insn, landing: Landing, old: Insn, behind:
                 new: usize::from(new.jf),
                 place,
             };
-            fits(behind, yes, accumulator, index) && fits(behind, no, accumulator, index)
+            fits(following, yes, accumulator, index) && fits(following, no, accumulator, index)
         }
         Operation::ReturnConstant | Operation::ReturnAccumulator => true,
         _ => fits(
-            behind,
+            following,
             Way {
                 old: 0,
                 new: 0,
@@ -154,8 +154,8 @@ fn goes_on(operation: Operation, new: Insn, landing: Landing, old: Insn, behind:
 
 /// The instruction of the new program is that of the old one.
 #[tactic(auto, unfolding(crate::specs::Alike::same_step))]
-fn same_step(new: Insn, landing: Landing, old: Insn, behind: &[Landing]) -> bool
-    ensures { result ≡ same_step (operation_of old.code) new landing old behind.now }
+fn same_step(new: Insn, landing: Landing, old: Insn, following: &[Landing]) -> bool
+    ensures { result ≡ same_step (operation_of old.code) new landing old following.now }
 {
     match decode(old.code) {
         None => false,
@@ -163,7 +163,7 @@ fn same_step(new: Insn, landing: Landing, old: Insn, behind: &[Landing]) -> bool
             (old.code == new.code && old.k == new.k)
                 && (implied(reads_accumulator(operation), landing.accumulator)
                     && implied(reads_index(operation), landing.index))
-                && goes_on(operation, new, landing, old, behind)
+                && goes_on(operation, new, landing, old, following)
         }
     }
 }
@@ -182,8 +182,8 @@ fn tests_bits(new: Insn, mask: Insn, test: Insn) -> bool
 
 /// It is one test of bits for a mask and a test of what is left for 0.
 #[tactic(auto, unfolding(crate::specs::Alike::one_test))]
-fn one_test(new: Insn, landing: Landing, old: Insn, after: &[Insn], behind: &[Landing]) -> bool
-    ensures { result ≡ one_test new landing old after.now behind.now }
+fn one_test(new: Insn, landing: Landing, old: Insn, after: &[Insn], following: &[Landing]) -> bool
+    ensures { result ≡ one_test new landing old after.now following.now }
 {
     match after {
         [] => false,
@@ -201,13 +201,13 @@ fn one_test(new: Insn, landing: Landing, old: Insn, after: &[Insn], behind: &[La
             };
             tests_bits(new, old, *test)
                 && (landing.accumulator
-                    && (fits(behind, zero, false, landing.index)
-                        && fits(behind, other, false, landing.index)))
+                    && (fits(following, zero, false, landing.index)
+                        && fits(following, other, false, landing.index)))
         }
     }
 }
 
-/// The code of a load at a fixed place is as wide as the one behind X.
+/// The code of a load at a fixed place is as wide as the one at X.
 fn is_direct(indirect: u16, code: u16) -> bool
     ensures { result ≡ is_number (direct_code (operation_of indirect)) code }
 {
@@ -217,10 +217,10 @@ fn is_direct(indirect: u16, code: u16) -> bool
     }
 }
 
-/// It is one load for a number that goes to X by A, and a load behind X.
+/// It is one load for a number that goes to X by A, and a load at X.
 #[tactic(auto, unfolding(crate::specs::Alike::direct_load))]
-fn direct_load(new: Insn, landing: Landing, old: Insn, after: &[Insn], behind: &[Landing]) -> bool
-    ensures { result ≡ direct_load new landing old after.now behind.now }
+fn direct_load(new: Insn, landing: Landing, old: Insn, after: &[Insn], following: &[Landing]) -> bool
+    ensures { result ≡ direct_load new landing old after.now following.now }
 {
     let number = Operation::Load(Register::Accumulator, Source::Immediate).code();
     let copy = Operation::CopyToIndex.code();
@@ -233,7 +233,7 @@ fn direct_load(new: Insn, landing: Landing, old: Insn, after: &[Insn], behind: &
             };
             (old.code == number && to_index.code == copy)
                 && (is_direct(load.code, new.code) && old.k.wrapping_add(load.k) == new.k)
-                && fits(behind, way, true, false)
+                && fits(following, way, true, false)
         }
         _ => false,
     }
@@ -249,7 +249,7 @@ pub fn adds_header(number: Insn, length: Insn, add: Insn, to_index: Insn) -> boo
             && to_index.code == Operation::CopyToIndex.code())
 }
 
-/// Two loads are the same header's length, and as many bytes behind X.
+/// Two loads are the same header's length, and as many bytes past X.
 fn loads_alike(old_length: Insn, new_length: Insn, old_load: Insn, new_load: Insn) -> bool
     ensures { result ≡ loads_alike old_length new_length old_load new_load }
 {
@@ -257,24 +257,24 @@ fn loads_alike(old_length: Insn, new_length: Insn, old_load: Insn, new_load: Ins
         && (is_indirect(old_load.code) && old_load.code == new_load.code)
 }
 
-/// The code is that of a load behind X.
+/// The code is that of a load at X.
 pub fn is_indirect(code: u16) -> bool
     ensures { result ≡ is_indirect (operation_of code) }
 {
     matches!(decode(code), Some(Operation::LoadIndirect(_)))
 }
 
-/// They are the header length and a load behind it, for a number, the header length, their sum that
-/// goes to X by A, and a load behind X.
+/// They are the header length and a load after it, for a number, the header length, their sum that
+/// goes to X by A, and a load at X.
 #[tactic(auto, unfolding(crate::specs::Alike::header_load))]
 fn header_load(
     new: &[Insn],
     landing: Landing,
     old: Insn,
     after: &[Insn],
-    behind: &[Landing],
+    following: &[Landing],
 ) -> bool
-    ensures { result ≡ header_load new.now landing old after.now behind.now }
+    ensures { result ≡ header_load new.now landing old after.now following.now }
 {
     match (new, after) {
         ([length, load, ..], [header_length, add, to_index, indirect, ..]) => {
@@ -285,15 +285,15 @@ fn header_load(
             };
             adds_header(old, *header_length, *add, *to_index)
                 && (loads_alike(*header_length, *length, *indirect, *load)
-                    && (old.k.wrapping_add(indirect.k) == load.k && fits(behind, way, true, false)))
+                    && (old.k.wrapping_add(indirect.k) == load.k && fits(following, way, true, false)))
         }
         _ => false,
     }
 }
 
-/// The code does at a landing, if it is one, what an instruction and those behind it do.
-fn stands(code: &[Insn], landing: Landing, old: Insn, after: &[Insn], behind: &[Landing]) -> bool
-    ensures { result ≡ stands code.now landing old after.now behind.now }
+/// The code does at a landing, if it is one, what an instruction and those after it do.
+fn stands(code: &[Insn], landing: Landing, old: Insn, after: &[Insn], following: &[Landing]) -> bool
+    ensures { result ≡ stands code.now landing old after.now following.now }
 {
     if landing.place == 0 {
         return true;
@@ -306,9 +306,9 @@ fn stands(code: &[Insn], landing: Landing, old: Insn, after: &[Insn], behind: &[
         [] => false,
         [new, ..] => {
             let new = *new;
-            (same_step(new, landing, old, behind) || one_test(new, landing, old, after, behind))
-                || (direct_load(new, landing, old, after, behind)
-                    || header_load(from, landing, old, after, behind))
+            (same_step(new, landing, old, following) || one_test(new, landing, old, after, following))
+                || (direct_load(new, landing, old, after, following)
+                    || header_load(from, landing, old, after, following))
         }
     }
 }

@@ -10,7 +10,7 @@ use flt_bpf::insn::Insn;
 use flt_bpf::operation::{Operation, decode};
 use std::alloc::{AllocError, Allocator};
 
-/// What A holds where a run comes to an instruction.
+/// What A holds where a run reaches an instruction.
 #[derive(Clone, Copy)]
 pub enum Held {
     /// No run comes there.
@@ -51,12 +51,12 @@ fn loads(held: Held, insn: Insn) -> bool
 }
 
 /// The offset of a conditional jump, past the load at its target if A holds that load's field.
-fn offset_past_load(held: Held, behind: &[Insn], to: u8) -> u8
-    ensures { result ≡ offset_past_load held behind.now to }
+fn offset_past_load(held: Held, following: &[Insn], to: u8) -> u8
+    ensures { result ≡ offset_past_load held following.now to }
 {
-    match behind.get(usize::from(to)) {
+    match following.get(usize::from(to)) {
         Some(insn) => {
-            if to < 255 && usize::from(to) + 1 < behind.len() && loads(held, *insn) {
+            if to < 255 && usize::from(to) + 1 < following.len() && loads(held, *insn) {
                 to + 1
             } else {
                 to
@@ -67,20 +67,20 @@ fn offset_past_load(held: Held, behind: &[Insn], to: u8) -> u8
 }
 
 /// An instruction with its offsets past loads.
-fn insn_past_loads(held: Held, insn: Insn, behind: &[Insn]) -> Insn
-    ensures { result ≡ insn_past_loads (operation_of insn.code) held insn behind.now }
+fn insn_past_loads(held: Held, insn: Insn, following: &[Insn]) -> Insn
+    ensures { result ≡ insn_past_loads (operation_of insn.code) held insn following.now }
 {
     match decode(insn.code) {
         Some(Operation::JumpIf(_, _)) => Insn {
-            jt: offset_past_load(held, behind, insn.jt),
-            jf: offset_past_load(held, behind, insn.jf),
+            jt: offset_past_load(held, following, insn.jt),
+            jf: offset_past_load(held, following, insn.jf),
             ..insn
         },
         _ => insn,
     }
 }
 
-/// A run comes to a place with this in A.
+/// A run reaches a place with this in A.
 fn arrive(held: &mut [Held], at: usize, came: Held)
     ensures { held.new ≡ with_arrival held.old at came }
 {
@@ -89,10 +89,10 @@ fn arrive(held: &mut [Held], at: usize, came: Held)
     }
 }
 
-/// A run goes on from an instruction to those behind it, the first of which is at a place.
-fn arrive_behind(held: &mut [Held], from: usize, came: Held, insn: Insn, behind: &[Insn])
+/// A run goes on from an instruction to those after it, the first of which is at a place.
+fn arrive_after(held: &mut [Held], from: usize, came: Held, insn: Insn, following: &[Insn])
     requires { from < 2 ^ 32 }
-    ensures { held.new ≡ with_arrivals from (operation_of insn.code) came insn behind.now held.old }
+    ensures { held.new ≡ with_arrivals from (operation_of insn.code) came insn following.now held.old }
 {
     if let Held::Unreached = came {
         return;
@@ -100,8 +100,8 @@ fn arrive_behind(held: &mut [Held], from: usize, came: Held, insn: Insn, behind:
     match decode(insn.code) {
         Some(Operation::JumpIf(_, _)) => {
             let (yes, no) = (
-                offset_past_load(came, behind, insn.jt),
-                offset_past_load(came, behind, insn.jf),
+                offset_past_load(came, following, insn.jt),
+                offset_past_load(came, following, insn.jf),
             );
             arrive(held, from + usize::from(yes), came);
             arrive(held, from + usize::from(no), came);
@@ -115,7 +115,7 @@ fn arrive_behind(held: &mut [Held], from: usize, came: Held, insn: Insn, behind:
     }
 }
 
-/// The same with what A holds where a run comes to each instruction from the code in front.
+/// The same with what A holds where a run reaches each instruction from the code in front.
 fn turn_all(held: &mut [Held], insns: &mut [Insn])
     requires upper_bound { length insns.old < 2 ^ 31 }
     requires each { length held.old ≡ length insns.old }
@@ -125,7 +125,7 @@ fn turn_all(held: &mut [Held], insns: &mut [Insn])
     // The label names the loop in its proof.
     'insns: while at < insns.len() {
         let (came, insn) = (held[at], insns[at]);
-        arrive_behind(held, at + 1, came, insn, &insns[at + 1..]);
+        arrive_after(held, at + 1, came, insn, &insns[at + 1..]);
         insns[at] = insn_past_loads(came, insn, &insns[at + 1..]);
         at += 1;
     }

@@ -40,7 +40,7 @@ fn landing_before(operation: Operation, place: usize, next: Landing) -> Landing 
     }
 }
 
-/// What is read behind a test that goes on at one of two landings.
+/// What is read after a test that goes on at one of two landings.
 fn next_of_test(yes: Landing, no: Landing) -> Landing {
     Landing {
         place: 0,
@@ -49,8 +49,8 @@ fn next_of_test(yes: Landing, no: Landing) -> Landing {
     }
 }
 
-/// So many instructions behind the next one.
-fn behind(at: usize, offset: usize) -> usize {
+/// The place `offset` instructions after the next one.
+fn following(at: usize, offset: usize) -> usize {
     at.saturating_add(offset).saturating_add(1)
 }
 
@@ -72,7 +72,7 @@ fn reaching(insn: Insn, yes: usize, no: usize) -> Option<Insn> {
     }
 }
 
-/// An instruction put so many instructions farther in front, if its offsets reach so far.
+/// An instruction put `farther` instructions earlier, if its offsets reach so far.
 fn in_front(insn: Insn, farther: usize) -> Option<Insn> {
     match decode(insn.code) {
         Some(Operation::JumpIf(_, _)) => reaching(
@@ -97,7 +97,7 @@ fn is_copied(number: Insn, copy: Insn) -> bool {
         && copy.code == Operation::CopyToIndex.code()
 }
 
-/// The code of a load at a fixed place that is as wide as this one behind X.
+/// The code of a load at a fixed place that is as wide as this one at X.
 fn direct_code(indirect: u16) -> Option<u16> {
     match decode(indirect) {
         Some(Operation::LoadIndirect(width)) => Some(Operation::LoadAbsolute(width).code()),
@@ -141,7 +141,7 @@ impl Shortening<'_> {
         }
     }
 
-    /// A run comes to an instruction. Until it has its landing, the place says so.
+    /// A run reaches an instruction. Until it has its landing, the place says so.
     fn reach(&mut self, at: usize) {
         self.land(
             at,
@@ -152,18 +152,18 @@ impl Shortening<'_> {
         );
     }
 
-    /// Which instructions a run comes to.
+    /// Which instructions a run reaches.
     fn reach_all(&mut self) {
         self.reach(0);
         for (at, insn) in self.insns.iter().enumerate() {
             if self.landing_at(at).place > 0 {
                 match decode(insn.code) {
                     Some(Operation::JumpIf(_, _)) => {
-                        self.reach(behind(at, usize::from(insn.jt)));
-                        self.reach(behind(at, usize::from(insn.jf)));
+                        self.reach(following(at, usize::from(insn.jt)));
+                        self.reach(following(at, usize::from(insn.jf)));
                     }
                     Some(Operation::ReturnConstant | Operation::ReturnAccumulator) => {}
-                    _ => self.reach(behind(at, 0)),
+                    _ => self.reach(following(at, 0)),
                 }
             }
         }
@@ -177,7 +177,7 @@ impl Shortening<'_> {
         }
     }
 
-    /// One test of bits for the mask at a place, if a test for 0 is next and A isn't read behind.
+    /// One test of bits for the mask at a place, if a test for 0 is next and A isn't read after.
     fn bits_at(&self, at: usize) -> Option<Insn> {
         let [mask, test, ..] = self.insns_from(at) else {
             return None;
@@ -185,8 +185,8 @@ impl Shortening<'_> {
         if !is_mask(*mask, *test) {
             return None;
         }
-        let zero = self.landing_at(behind(at, 1 + usize::from(test.jt)));
-        let other = self.landing_at(behind(at, 1 + usize::from(test.jf)));
+        let zero = self.landing_at(following(at, 1 + usize::from(test.jt)));
+        let other = self.landing_at(following(at, 1 + usize::from(test.jf)));
         if zero.accumulator || other.accumulator {
             return None;
         }
@@ -203,7 +203,7 @@ impl Shortening<'_> {
         let [number, copy, load, ..] = self.insns_from(at) else {
             return None;
         };
-        if !is_copied(*number, *copy) || self.landing_at(behind(at, 2)).index {
+        if !is_copied(*number, *copy) || self.landing_at(following(at, 2)).index {
             return None;
         }
         let code = direct_code(load.code)?;
@@ -211,7 +211,7 @@ impl Shortening<'_> {
         Some(Insn { code, k, ..*load })
     }
 
-    /// The header length and a load behind it for the number at a place, if it is only added to the
+    /// The header length and a load after it for the number at a place, if it is only added to the
     /// header length for the place of a load.
     fn header_load_at(&self, at: usize) -> Option<(Insn, Insn)> {
         let [number, length, add, copy, load, ..] = self.insns_from(at) else {
@@ -220,7 +220,7 @@ impl Shortening<'_> {
         if !adds_header(*number, *length, *add, *copy) || !is_indirect(load.code) {
             return None;
         }
-        if self.landing_at(behind(at, 4)).index {
+        if self.landing_at(following(at, 4)).index {
             return None;
         }
         let k = number.k.wrapping_add(load.k);
@@ -233,7 +233,7 @@ impl Shortening<'_> {
         self.insns.get(at).is_some_and(|insn| insn.code == code)
     }
 
-    /// The number so many instructions in front is in one load with this one.
+    /// The number `before` instructions in front is in one load with this one.
     fn is_joined_by(&self, at: usize, before: usize) -> bool {
         let number = at.saturating_sub(before);
         at >= before
@@ -256,7 +256,7 @@ impl Shortening<'_> {
                 let leads_there = usize::from(other.jt) == at.saturating_sub(yes)
                     && usize::from(other.jf) == at.saturating_sub(no);
                 if leads_there && other.code == insn.code && other.k == insn.k {
-                    return Some(behind(at, 0));
+                    return Some(following(at, 0));
                 }
             }
         }
@@ -276,13 +276,13 @@ impl Shortening<'_> {
         let top = self.len;
         let test = reaching(insn, top.saturating_sub(yes), top.saturating_sub(no))?;
         self.push(test);
-        Some(behind(top, 0))
+        Some(following(top, 0))
     }
 
-    /// A test, whose targets stand so far behind the instruction `last` of the old code.
+    /// A test, whose targets are this far past the instruction `last` of the old code.
     fn emit_test(&mut self, at: usize, insn: Insn, last: usize) {
-        let yes = self.landing_at(behind(last, usize::from(insn.jt)));
-        let no = self.landing_at(behind(last, usize::from(insn.jf)));
+        let yes = self.landing_at(following(last, usize::from(insn.jt)));
+        let no = self.landing_at(following(last, usize::from(insn.jf)));
         let place = self.place_test(insn, yes.place, no.place);
         if let (Some(operation), Some(place)) = (decode(insn.code), place) {
             self.land(at, landing_before(operation, place, next_of_test(yes, no)));
@@ -333,7 +333,7 @@ impl Shortening<'_> {
             .is_some_and(|other| *other == insn)
     }
 
-    /// Another instruction, behind which the run goes on where one of the old code lands.
+    /// Another instruction, after which the run goes on where one of the old code lands.
     fn emit_plain(&mut self, at: usize, insn: Insn, next: usize) {
         let landing = self.landing_at(next);
         let Some(operation) = decode(insn.code) else {
@@ -344,7 +344,7 @@ impl Shortening<'_> {
         }
         if landing.place < self.len {
             if self.is_at(landing.place, insn) {
-                let place = behind(landing.place, 0);
+                let place = following(landing.place, 0);
                 self.land(at, landing_before(operation, place, landing));
                 return;
             }
@@ -363,18 +363,18 @@ impl Shortening<'_> {
                 self.push(insn);
                 self.land(at, landing_before(operation, self.len, NOWHERE));
             }
-            _ => self.emit_plain(at, insn, behind(at, 0)),
+            _ => self.emit_plain(at, insn, following(at, 0)),
         }
     }
 
-    /// An instruction of the old code, in one with those behind it where that is shorter.
+    /// An instruction of the old code, in one with those after it where that is shorter.
     fn emit(&mut self, at: usize) {
         if let Some(test) = self.bits_at(at) {
-            self.emit_test(at, test, behind(at, 0));
+            self.emit_test(at, test, following(at, 0));
         } else if let Some(load) = self.load_at(at) {
-            self.emit_plain(at, load, behind(at, 2));
+            self.emit_plain(at, load, following(at, 2));
         } else if let Some((length, load)) = self.header_load_at(at) {
-            self.emit_plain(at, load, behind(at, 4));
+            self.emit_plain(at, load, following(at, 4));
             self.emit_plain(at, length, at);
         } else if let Some(insn) = self.insn_at(at) {
             self.emit_alone(at, insn);

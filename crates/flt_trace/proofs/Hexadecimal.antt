@@ -19,12 +19,12 @@ digits_last k n acc last =
     ap (λ b. if b then digit_glyph false (n % 16) ∷ acc else digits_onto k 16 false (n / 16) (digit_glyph false (n % 16) ∷ acc)) test
     ∙ ap (λ m. digit_glyph false m ∷ acc) same
 
--- a number of so many digits has one fewer without its last
+-- a number of a given number of digits has one fewer without its last
 pub fewer : (k n : ℕ) → n < 16 ^ (k + 1) → n / 16 < 16 ^ k
 fewer k n small =
     omega (arith, small, pow_more 16 k)
 
--- a number of so many digits that has another one before the last has room for it
+-- a number of a given number of digits that has another one before the last has room for it
 pub has_room : (s n : ℕ) → n < 16 ^ (s + 1) → 16 ≤ n → 1 ≤ s
 has_room zero n small more = omega (arith, small, more)
 has_room (suc s) n small more = omega arith

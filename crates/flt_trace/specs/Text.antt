@@ -91,7 +91,7 @@ operand_text ReturnAccumulator k place = []
 operand_text CopyToIndex k place = []
 operand_text CopyToAccumulator k place = []
 
--- a text with blanks behind it, up to a width
+-- a text with blanks after it, up to a width
 abbrev pub filled_text : ℕ → List ℕ → List ℕ
 filled_text width text = text ++ replicate (width - length text) 32
 

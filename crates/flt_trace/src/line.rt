@@ -72,7 +72,7 @@ impl Line {
         self.len = end;
     }
 
-    /// Appends a byte so many times.
+    /// Appends a byte a given number of times.
     pub(crate) fn push_times(&mut self, byte: u8, count: usize)
         requires { length self.old + count ≤ 80 }
         ensures { self.new ≡ self.old ++ replicate count byte }

@@ -71,15 +71,15 @@ pub(crate) fn operation_name(operation: Operation) -> &'static str
 }
 
 /// Appends a number between two texts.
-fn push_between(line: &mut Line, before: &[u8], number: u32, behind: &[u8])
-    requires { length line.old + length before.now + 11 + length behind.now ≤ 80 }
-    ensures value { line.new ≡ line.old ++ (before.now ++ (signed_number number ++ behind.now)) }
+fn push_between(line: &mut Line, before: &[u8], number: u32, following: &[u8])
+    requires { length line.old + length before.now + 11 + length following.now ≤ 80 }
+    ensures value { line.new ≡ line.old ++ (before.now ++ (signed_number number ++ following.now)) }
     ensures bound { length line.new ≤ length line.old + length before.now + 11
-        + length behind.now }
+        + length following.now }
 {
     line.push_all(before);
     line.push_signed(number);
-    line.push_all(behind);
+    line.push_all(following);
 }
 
 /// Appends a mask.

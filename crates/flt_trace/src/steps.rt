@@ -29,7 +29,7 @@ pub struct Step {
 /// Where an instruction leads.
 #[derive(Clone, Copy)]
 pub(crate) enum Course {
-    /// So many instructions further than the next one.
+    /// How many instructions past the next one.
     Further(u32),
     /// To the end of the run, which returns this.
     End(u32),
@@ -103,7 +103,7 @@ fn holds(test: Test, a: u32, b: u32) -> bool
 /// What one instruction of a valid program does on a packet of original length `len`.
 #[tactic(auto, unfolding(flt_bpf::specs::Machine::step, flt_bpf::specs::Check::fault_of))]
 fn act(insn: &Insn, packet: &[u8], len: u32, state: &mut Step) -> Course
-    requires { (behind : ℕ) × (fault_of insn.now behind ≡ None) }
+    requires { (following : ℕ) × (fault_of insn.now following ≡ None) }
     ensures leads { step insn.now packet.now len (step_state state.old)
         ≡ course_next result state.new }
     ensures place { state.new.place ≡ state.old.place }

@@ -46,7 +46,7 @@ check_fault e =
     first_excess (some_primitive divides_by_zero e) (nat_lt 16 (words_of e))
     (nat_lt 32768 (bound_of e))
 
--- over the nodes: a division right behind the number 0, where before says that such a number stands
+-- over the nodes: a division right after the number 0, where before says that such a number stands
 -- in front
 abbrev pub is_zero_node : Node → Bool
 is_zero_node (node.Literal n) = n == 0

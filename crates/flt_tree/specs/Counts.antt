@@ -17,7 +17,7 @@ use Rattle.flt_tree.specs.declared.node.Node.{Node}
 use Rattle.flt_tree.specs.declared.node.Node.TheVariants as node
 use Rattle.flt_tree.specs.Tree.{NumberTree, literal, len, named, load, negated, applied, TruthTree, check, cast, sized, bare, valued, qualified, compared, denied, joined, Expression, empty, truth}
 
--- so many tests for the source, for the destination, or for each of them
+-- n tests for the source, for the destination, or for each of them
 abbrev pub side_tests : Direction → ℕ → ℕ
 side_tests (direction.One s) n = n
 side_tests (direction.Both j) n = n + n
@@ -59,7 +59,7 @@ abbrev pub transport_tests : Option Protocol → ℕ
 transport_tests None = 2
 transport_tests (Some p) = 1
 
--- ports over IPv4, where the packet is no later fragment, or over IPv6, so many tests a side
+-- ports over IPv4, where the packet is no later fragment, or over IPv6, n tests a side
 abbrev pub port_tests : Option Protocol → Direction → ℕ → ℕ
 port_tests p d n =
     (1 + transport_tests p + 1 + side_tests d n) + (1 + transport_tests p + side_tests d n)
@@ -97,7 +97,7 @@ number_tests (load p s a) = number_tests a + accessor_test_count p
 number_tests (negated a) = number_tests a
 number_tests (applied o a b) = number_tests a + number_tests b
 
--- a value that lacks qualifiers has no formula; a comparison is one test behind the checks
+-- a value that lacks qualifiers has no formula; a comparison is one test after the checks
 abbrev pub truth_tests : TruthTree → ℕ
 truth_tests (check p) = check_tests p
 truth_tests (cast p c) = cast_tests c

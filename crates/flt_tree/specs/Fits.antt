@@ -50,7 +50,7 @@ is_of_ether _ = false
 abbrev pub is_whole : Dotted → Bool
 is_whole d = d.parts == 4
 
--- a mask has four parts, a prefix at most so many bits
+-- a mask has four parts, a prefix at most as many bits as the address
 abbrev pub is_net_mask : NetMask → Bool
 is_net_mask (mask.Mask d) = is_whole d
 is_net_mask _ = true

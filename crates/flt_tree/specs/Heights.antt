@@ -3,7 +3,7 @@ use Rattle.std.specs.Prelude.{ℕ, ◌+◌, ◌-◌, max}
 use Rattle.flt_tree.specs.declared.node.Node.{Node}
 use Rattle.flt_tree.specs.declared.node.Node.TheVariants as node
 
--- how many numbers there are behind a node
+-- how many numbers there are after a node
 abbrev pub height_after : ℕ → Node → ℕ
 height_after h (node.Literal n) = h + 1
 height_after h node.Len = h + 1

@@ -7,11 +7,11 @@ use Rattle.flt_tree.specs.declared.value.Value.TheVariants as value
 use Rattle.flt_tree.specs.declared.net.Ip4Net.{Ip4Net}
 use Rattle.flt_tree.specs.declared.net.Ip6Net.{Ip6Net}
 
--- the first n of so many bits
+-- the first n of a number of bits
 abbrev pub first_bits : ℕ → ℕ → ℕ
 first_bits width n = 2 ^ width - 2 ^ (width - n)
 
--- an address of so many parts with no mask has a mask of as many bytes
+-- an address of these parts with no mask has a mask of as many bytes
 abbrev pub ip4_mask : ℕ → NetMask → ℕ
 ip4_mask parts mask.Unwritten = first_bits 32 (8 * parts)
 ip4_mask parts (mask.Prefix n) = first_bits 32 n

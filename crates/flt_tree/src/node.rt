@@ -34,7 +34,7 @@ pub enum Node {
     Len,
     /// A name of a number.
     Named(u32),
-    /// Takes a number, the place, and reads so many bytes there: 1 where no size is written.
+    /// Takes a number, the place, and reads this many bytes there: 1 where no size is written.
     Load(Protocol, u32),
     /// Takes a number.
     Negate,
@@ -143,7 +143,7 @@ impl Node {
         }
     }
 
-    /// How many numbers wait behind it, where so many wait in front of it.
+    /// How many numbers wait after it, where `height` wait in front of it.
     pub fn height_after(self, height: usize) -> usize
         requires { height < 2 ^ 63 }
         ensures { result ≡ height_after height self }

@@ -9,7 +9,7 @@ pub struct Dotted {
     pub parts: u8,
 }
 
-/// What stands behind a number or an IPv4 address to say how long a network's address is.
+/// What follows a number or an IPv4 address to say how long a network's address is.
 #[derive(Clone, Copy)]
 pub enum NetMask {
     /// Nothing: the mask is as long as the parts that are written.

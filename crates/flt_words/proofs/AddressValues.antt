@@ -41,7 +41,7 @@ reads_below form text joined r = rw (r.3, r.4) (groups_below form r.0 r.1.each)
 one_digit : (base n d power more : ℕ) → (n * base + d) * power + more ≡ n * (power * base) + ((0 * base + d) * power + more)
 one_digit base n d power more = omega arith
 
--- digits behind a number
+-- digits after a number
 number_after : (base n : ℕ) (digits : List ℕ) → number_from_digits_after base n digits ≡ n * base ^ length digits + number_from_digits base digits
 number_after base n [] = rw pow-zero (omega arith)
 number_after base n (d ∷ digits) =
@@ -54,11 +54,11 @@ zeros_after : (base n k : ℕ) → number_from_digits_after base n (replicate k 
 zeros_after base n zero = rw pow-zero (omega arith)
 zeros_after base n (suc k) = rw (zeros_after base (n * base + 0) k, pow-suc) (one_zero base n (base ^ k))
 
--- a number with zeros behind it
+-- a number with zeros after it
 pub number_zeros : (base k : ℕ) (digits : List ℕ) → number_from_digits base (digits ++ replicate k 0) ≡ number_from_digits base digits * base ^ k
 number_zeros base k digits = number_after_append base 0 digits (replicate k 0) ∙ zeros_after base (number_from_digits base digits) k
 
--- and with other digits behind those
+-- and with other digits after those
 pub number_between : (base k : ℕ) (digits others : List ℕ) → number_from_digits base (digits ++ (replicate k 0 ++ others)) ≡ number_from_digits base digits * base ^ (k + length others) + number_from_digits base others
 number_between base k digits others =
     number_after_append base 0 digits (replicate k 0 ++ others)

@@ -41,7 +41,7 @@ digits_lack c radix (d ∷ digits) high all =
 ltb_is : (m n : ℕ) → m < n → nat_lt m n ≡ true
 ltb_is m n h = grind (arith, nat_tests)
 
--- a separator that the front lacks is found behind it
+-- a separator that the front lacks is found after it
 pub cut_at : (c : ℕ) (front back : List ℕ) → has c front ≡ false → position (λ b. b == c) (front ++ c ∷ back) ≡ Some (length front)
 cut_at c front back lacks =
     let within : nat_lt (length front) (length (front ++ c ∷ back)) ≡ true = ltb_is (length front) (length (front ++ c ∷ back)) (simp length-append (omega arith)) in

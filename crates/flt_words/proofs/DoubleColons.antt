@@ -79,7 +79,7 @@ none_before front back k p below double =
 pub none_before_first : {front : List ℕ} {groups : List (List ℕ)} (back : List ℕ) → AreGroups group.Quad front groups → (k : ℕ) → k < length front → IsDoubleColon (front ++ 58 ∷ 58 ∷ back) k → ⊥
 none_before_first {front} back are k below double = none_before front back k (parted are) below double
 
--- so the first two colons stand behind the first groups
+-- so the first two colons follow the first groups
 pub first_double_colon : (front back : List ℕ) (groups : List (List ℕ)) (i : ℕ) → AreGroups group.Quad front groups → IsDoubleColon (front ++ 58 ∷ 58 ∷ back) i → ((k : ℕ) → k < i → IsDoubleColon (front ++ 58 ∷ 58 ∷ back) k → ⊥) → i ≡ length front
 first_double_colon front back groups i are double first =
     let not_below : i < length front → ⊥ = λ below. none_before front back i (parted are) below double in

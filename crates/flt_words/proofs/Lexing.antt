@@ -11,7 +11,7 @@ use Rattle.flt_words.specs.Characters.{is_blank, is_inside}
 use Rattle.flt_words.specs.Tokens.{IsRefused, IsToken, TokensFrom, before}
 use Rattle.flt_words.specs.Tokens.TokensFrom.{at_end, blank, refused, token}
 
--- an answer behind tokens
+-- an answer after tokens
 abbrev pub after : List Token → Result (List Token) ExprFault → Result (List Token) ExprFault
 after [] answer = answer
 after (t ∷ tokens) answer = before t (after tokens answer)
@@ -28,7 +28,7 @@ pub after_err : (tokens : List Token) (refusal : ExprFault) → after tokens (Er
 after_err [] refusal = refl
 after_err (t ∷ tokens) refusal = ap (before t) (after_err tokens refusal)
 
--- the tokens up to a byte: whatever the rest gives, the whole text gives it behind them
+-- the tokens up to a byte: whatever the rest gives, the whole text gives it after them
 pub record IsCut (text : List ℕ) (at : ℕ) (tokens : List Token) : Type 0 where
   pub whole : (answer : Result (List Token) ExprFault) → TokensFrom text at answer → TokensFrom text 0 (after tokens answer)
 

@@ -70,7 +70,7 @@ fn octet(digits: &[u8]) -> Option<u32>
     }
 }
 
-/// The number of so many hexadecimal digits at most.
+/// The number of `most` hexadecimal digits at most.
 fn hexadecimal(most: usize, digits: &[u8]) -> Option<u32>
     requires { most ≤ 4 }
     ensures { MatchOption result (IsNumeral 16 digits.now × (length digits.now ≤ most) → ⊥)
@@ -104,7 +104,7 @@ fn groups_of(form: Group, text: &[u8]) -> Option<Joined>
     Some(Joined { value, count })
 }
 
-/// The number of groups with zeros behind them.
+/// The number of groups with zeros after them.
 fn before_zeros(form: Group, joined: Joined, zeros: u32) -> u128
     requires small { joined.value < base_of form ^ joined.count }
     requires upper_bound { joined.count + zeros ≤ 8 }

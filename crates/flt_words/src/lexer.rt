@@ -35,7 +35,7 @@ fn word_len(inside: bool, rest: &[u8]) -> usize
     len
 }
 
-/// The symbol of so many bytes with which a text begins.
+/// The symbol of this length with which a text begins.
 fn symbol_of_len(inside: bool, len: usize, rest: &[u8]) -> Option<TokenKind>
     ensures { MatchOption result
         (len ≤ length rest.now → symbol_of inside (take len rest.now) ≡ None)

@@ -17,7 +17,7 @@ const RESOLUTIONS: [u16; 8] = [0, 3, 6, 7, 9, 12, 0x8a, 0xa0];
 /// Types of blocks that are skipped: names, statistics, journals, secrets, custom ones.
 const SKIPPED: [u16; 6] = [4, 5, 9, 10, 0xbad, 77];
 
-/// Bytes that are put one behind another. Where memory runs out some are left out, and it is kept
+/// Bytes that are put one after another. Where memory runs out some are left out, and it is kept
 /// that they were.
 #[derive(Drop)]
 pub struct Growing {
@@ -52,9 +52,9 @@ pub struct Capture {
     pub file: Growing,
     /// How many packets it has.
     pub packets: usize,
-    /// Their captured bytes, one packet's behind another's.
+    /// Their captured bytes, one packet's after another's.
     pub data: Growing,
-    /// Their comments, one behind another.
+    /// Their comments, one after another.
     pub comments: Growing,
 }
 

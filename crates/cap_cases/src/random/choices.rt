@@ -32,12 +32,12 @@ impl Random {
         self.half().checked_rem(end).unwrap_or(0)
     }
 
-    /// A place among so many; 0 where there are none.
+    /// A place among `count`; 0 where there are none.
     pub fn place(&mut self, count: usize) -> usize {
         self.below(u32::try_from(count).unwrap_or(u32::MAX)) as usize
     }
 
-    /// Whether what happens once in so many times happens.
+    /// Whether what happens once in `times` times happens.
     pub fn one_in(&mut self, times: u32) -> bool {
         self.below(times) == 0
     }

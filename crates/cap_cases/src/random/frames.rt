@@ -57,7 +57,7 @@ fn protocol(random: &mut Random) -> [u8; 1] {
     [low]
 }
 
-/// Writes an IPv4 header, and ports behind it.
+/// Writes an IPv4 header, and ports after it.
 fn write_ip(random: &mut Random, frame: &mut [u8], network: usize) {
     let words = if random.one_in(4) {
         random.below(16)
@@ -75,7 +75,7 @@ fn write_ip(random: &mut Random, frame: &mut [u8], network: usize) {
     write_ports(random, frame, network.saturating_add(size));
 }
 
-/// Writes an IPv6 header, and ports behind it.
+/// Writes an IPv6 header, and ports after it.
 fn write_ip6(random: &mut Random, frame: &mut [u8], network: usize) {
     overwrite(frame, network, &[0x60]);
     overwrite(frame, network.saturating_add(6), &protocol(random));
@@ -151,7 +151,7 @@ impl Frame {
         self.bytes.get(..self.size).unwrap_or_default()
     }
 
-    /// Leaves at most so many bytes.
+    /// Leaves at most `size` bytes.
     pub fn cut(&mut self, size: usize) {
         self.size = self.size.min(size);
     }

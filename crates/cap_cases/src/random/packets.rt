@@ -8,8 +8,8 @@ const BEFORE_BODY: usize = 8;
 /// How many bytes of a packet's block stand before its data.
 const BEFORE_DATA: usize = 28;
 
-/// How many bytes of a block stand behind its body.
-const BEHIND_BODY: usize = 4;
+/// How many bytes of a block follow its body.
+const AFTER_BODY: usize = 4;
 
 /// A packet as it was written.
 #[derive(Clone, Copy)]
@@ -47,7 +47,7 @@ fn number(bytes: &[u8], place: usize) -> Option<u32> {
     }
 }
 
-/// The first block of some, and what is behind it.
+/// The first block of some, and what is after it.
 fn block(bytes: &[u8]) -> Option<(&[u8], &[u8])> {
     let size = number(bytes, 4)? as usize;
     Some((bytes.get(..size)?, bytes.get(size..)?))
@@ -89,7 +89,7 @@ impl<'b> Packet<'b> {
         let padded = self.data().len().div_ceil(4).saturating_mul(4);
         let option = BEFORE_DATA.saturating_add(padded);
         match number(self.block, option) {
-            Some(head) if option.saturating_add(BEHIND_BODY) < self.block.len() => {
+            Some(head) if option.saturating_add(AFTER_BODY) < self.block.len() => {
                 let start = option.saturating_add(4);
                 let end = start.saturating_add((head >> 16) as usize);
                 self.block.get(start..end).unwrap_or_default()
@@ -116,10 +116,10 @@ pub fn packets_of<'b>(alloc: Global, bytes: &'b [u8]) -> Result<Packets<'b>, All
     let mut rest = bytes;
     let mut is_whole = true;
     for _ in 0..bytes.len() {
-        let Some((first, behind)) = block(rest) else {
+        let Some((first, following)) = block(rest) else {
             break;
         };
-        rest = behind;
+        rest = following;
         match number(first, 0) {
             Some(0x0A0D_0D0A) => {}
             Some(1) => interfaces.push(first)?,

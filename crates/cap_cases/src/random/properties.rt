@@ -39,7 +39,7 @@ fn is_unfiltered(outcome: &Outcome) -> bool {
     outcome.messages.ends_with(b": link type not filtered\n")
 }
 
-/// The bytes of packets, and of their comments, one behind another.
+/// The bytes of packets, and of their comments, one after another.
 fn contents(alloc: Global, packets: &Packets<'_>) -> Result<(Vec<u8>, Vec<u8>), AllocError> {
     let (mut data, mut comments) = (Vec::new(alloc), Vec::new(alloc));
     for packet in packets.list.iter() {
@@ -167,7 +167,7 @@ fn reported(fuzzer: &mut Fuzzer<'_>, whole: &Outcome, packets: &Packets<'_>) {
     );
 }
 
-/// What a report of a file of so many bytes has in front of its dates.
+/// What a report of a file of `size` bytes has in front of its dates.
 fn report_front(alloc: Global, size: usize, sums: Sums) -> Result<String, AllocError> {
     let Sums {
         count,
@@ -181,7 +181,7 @@ fn report_front(alloc: Global, size: usize, sums: Sums) -> Result<String, AllocE
     )
 }
 
-/// What a report has behind its dates.
+/// What a report has after its dates.
 fn report_back(alloc: Global, sums: Sums) -> Result<String, AllocError> {
     let (seconds, nanos) = (sums.duration / 1_000_000_000, sums.duration % 1_000_000_000);
     let order = if sums.is_ordered { "yes" } else { "no" };

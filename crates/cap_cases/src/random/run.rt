@@ -89,7 +89,7 @@ fn is_message(messages: &str) -> bool {
     messages.starts_with("capkit: ") && messages.ends_with("\n") && messages.lines().count() == 1
 }
 
-/// Whether the status, the message and what was written go together, for an input of so many bytes.
+/// Whether the status, the message and what was written go together, for an input of this size.
 fn is_ended(outcome: &Outcome, size: usize) -> bool {
     let Ok(messages) = str::from_utf8(&outcome.messages) else {
         return false;
@@ -343,7 +343,7 @@ fn print_command(
     }))
 }
 
-/// The names of so many inputs, and of the output.
+/// The names of `inputs` inputs, and of the output.
 fn names_of(alloc: Global, inputs: usize) -> Result<Vec<String>, AllocError> {
     let mut names = Vec::new(alloc);
     for _ in 0..inputs {

@@ -267,7 +267,7 @@ fn most_interfaces(rt: HostRuntime) -> Result<(), Fail> {
     Ok(())
 }
 
-/// A prefix of a capture is whole behind a unit, no capture before its first number, and else
+/// A prefix of a capture is whole after a unit, no capture before its first number, and else
 /// truncated.
 #[test]
 fn prefixes_are_truncated(rt: HostRuntime) -> Result<(), Fail> {

@@ -42,7 +42,7 @@ const PROGRAMS: &[(&[Row], u32)] = &[
     (&[(0x6c, 0, 0, 0), RETURN], 0),
     (&[(0x7c, 0, 0, 0), RETURN], 0),
     (&[(0x64, 0, 0, 1), (0x74, 0, 0, 1), RETURN], 1),
-    // Words of memory, read behind a write of them, of another one, of none.
+    // Words of memory, read after a write of them, of another one, of none.
     (&[(0x02, 0, 0, 15), (0x60, 0, 0, 15), RETURN], 1),
     (&[(0x03, 0, 0, 0), (0x61, 0, 0, 0), RETURN], 1),
     (&[(0x02, 0, 0, 14), (0x60, 0, 0, 15), RETURN], 0),

@@ -226,7 +226,7 @@ const RUNS: &[(&[Row], (u32, usize))] = &[
     (&[(5, 0, 0, 9), (6, 0, 0, 1)], (0, 0)),
     (&[(9, 0, 0, 9), (6, 0, 0, 1)], (0, 0)),
     (&[], (0, 0)),
-    // What it doesn't come to may break rules.
+    // What it doesn't reach may break rules.
     (&[(6, 0, 0, 5), (9, 0, 0, 0)], (5, 1)),
 ];
 

@@ -68,7 +68,7 @@ const FOUND: [&str; 26] = [
     "no room in the buffer",
 ];
 
-/// Whether a number is named so in a buffer of 32 bytes, filled with `~`, with a NUL behind.
+/// Whether a number is named so in a buffer of 32 bytes, filled with `~`, with a NUL after.
 fn is_named(number: u32, name: &str) -> bool {
     let mut buffer = [b'~'; 32];
     let length = capkit_text(number, &mut buffer);

@@ -21,7 +21,7 @@ enum Unit {
     Packet(u32, u64, usize, usize),
 }
 
-/// The first bytes, so many where there are.
+/// The first bytes, as many of `count` as there are.
 fn first(bytes: &[u8], size: usize) -> &[u8] {
     &bytes[..size.min(bytes.len())]
 }

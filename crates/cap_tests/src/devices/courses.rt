@@ -6,7 +6,7 @@ use std::io::{ErrorKind, Result};
 use std::process::Abort;
 use std::time::{SystemTime, UNIX_EPOCH};
 
-/// So many bytes go through a buffer of this capacity, in calls of these sizes by turns.
+/// A given number of bytes go through a buffer of this capacity, in calls of these sizes by turns.
 #[derive(Clone, Copy)]
 pub struct Course {
     pub len: usize,
@@ -16,7 +16,7 @@ pub struct Course {
 }
 
 impl Course {
-    /// So many bytes, in small calls and one that is large.
+    /// `len` bytes, in small calls and one that is large.
     pub fn long(len: usize, (capacity, piece, failing, large): LongCourse) -> Self {
         Course {
             len,
@@ -61,7 +61,7 @@ impl Course {
         );
     }
 
-    /// How many bytes the call of this turn is for, where there is room for so many.
+    /// How many bytes the call of this turn is for, where there is room for that many.
     pub fn size(&self, turn: usize, room: usize) -> usize
         ensures { result ≤ room }
     {

@@ -80,7 +80,7 @@ impl Manner {
     }
 }
 
-/// Gives so many marked bytes.
+/// Gives a given number of marked bytes.
 #[derive(Drop)]
 pub struct MarkedReader<'a> {
     pub len: usize,

@@ -79,7 +79,7 @@ fn are_zeros(bytes: &[u8]) -> bool {
     true
 }
 
-/// Whether a buffer of zeros has so many bytes of the stream at its start, and no others.
+/// Whether a buffer of zeros has a given number of bytes of the stream at its start, and no others.
 fn is_filled(buf: &[u8], given: usize, count: usize) -> bool {
     count <= buf.len() && are_marks(given, &buf[..count]) && are_zeros(&buf[count..])
 }

@@ -66,7 +66,7 @@ fn devices_give_and_take_what_std_does(rt: HostRuntime) -> Result<()> {
     Ok(())
 }
 
-/// Fails for want of room, and at every later call since its reader went away.
+/// Fails for lack of room, and at every later call since its reader went away.
 #[derive(Drop)]
 struct Failing {
     called: bool,

@@ -19,7 +19,7 @@ fn output_of<'a>(
     Ok(StdOutput::new(buffered))
 }
 
-/// Whether this is what the writer did in a call that fails or not, after which so many bytes are
+/// Whether this is what the writer did in a call that fails or not, after which that many bytes are
 /// written in all: it failed as often, and took the bytes in order, all but those in the buffer.
 fn is_the_writers(fails: bool, taken: usize, capacity: usize, old: Counts, new: Counts) -> bool {
     new.failures == old.failures.wrapping_add(usize::from(fails))
@@ -108,7 +108,7 @@ fn writes_over_small_buffers_come_to_the_writer(rt: HostRuntime) -> Result<(), F
     Ok(())
 }
 
-/// Whether a write of so many bytes returns this, after so many calls in all.
+/// Whether a write of a given number of bytes returns this, after a given number of calls in all.
 fn is_written(
     output: &mut StdOutput<MarkedWriter<'_>>,
     counts: &Cell<Counts>,

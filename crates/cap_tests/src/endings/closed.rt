@@ -16,7 +16,7 @@ const MOST_STEPS: usize = 1_000;
 /// How many bytes are written and reported at most.
 const ROOM: usize = 1_000;
 
-/// What was asked of each input up to the last of so many steps and up to the job's end, and the
+/// What was asked of each input up to the last step that was made and up to the job's end, and the
 /// status, if a step returned it.
 #[derive(Drop)]
 struct Seen {
@@ -25,7 +25,7 @@ struct Seen {
     ended: [Asked; 2],
 }
 
-/// Makes so many steps. The status, if the last one returned it.
+/// Makes `steps` steps. The status, if the last one returned it.
 fn make_steps(job: &mut WatchedJob<'_, '_>, steps: usize) -> Option<u8> {
     let mut status = None;
     for _ in 0..steps {
@@ -42,7 +42,7 @@ fn end(job: WatchedJob<'_, '_>) {
     let _ = job.close();
 }
 
-/// Makes so many steps of the work's job, and ends it.
+/// Makes a given number of steps of the work's job, and ends it.
 fn step_and_end(
     memory: &Memory,
     work: &Work,
@@ -87,7 +87,7 @@ fn are_ends_quiet(alloc: Global, work: &Work, lends: bool) -> Result<bool, Fail>
     Ok(false)
 }
 
-/// Whether so many bytes were given as the work says.
+/// Whether as many bytes were given as the work says.
 fn are_bytes(asked: &[Asked; 2], work: &Work) -> bool {
     asked[0].bytes == work.bytes[0] && asked[1].bytes == work.bytes[1]
 }

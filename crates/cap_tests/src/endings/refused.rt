@@ -49,7 +49,7 @@ fn is_unasked(asked: &[Asked; 2]) -> bool {
 }
 
 /// Refuses each growth in turn, until the job begins. How many were refused, if nothing was asked
-/// of an input before or behind.
+/// of an input before or after.
 fn refusals(alloc: Global, work: &Work, lends: bool) -> Result<Option<u64>, Fail> {
     let memory = Trial::new(alloc);
     let files = files_of(alloc, work)?;

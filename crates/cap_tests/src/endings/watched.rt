@@ -31,7 +31,7 @@ pub struct Watched<'a> {
 }
 
 impl Watched<'_> {
-    /// Counts a call that took so many bytes.
+    /// Counts a call that took `bytes` bytes.
     fn count(&self, bytes: usize) {
         let mut new = self.asked.get();
         new.calls = new.calls.saturating_add(1);

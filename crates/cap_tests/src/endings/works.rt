@@ -82,7 +82,7 @@ pub struct Work {
     pub bytes: [usize; 2],
 }
 
-/// Works that end before all is read, and some that end behind all.
+/// Works that end before all is read, and some that end after all.
 pub const WORKS: &[Work] = &[
     // The first packet is the last one that is asked for.
     Work {

@@ -62,7 +62,7 @@ const CHAINS: [(&str, usize, &str, Counts); 3] = [
     ("len = 1 or ", 1820, "ip", (1821, 3640, 1, 32_768)),
 ];
 
-/// A text so many times, and what follows it.
+/// A text, how many times, and what follows it.
 fn repeated(alloc: Global, part: &str, times: usize, end: &str) -> Result<String, AllocError> {
     let mut text = String::new(alloc);
     for _ in 0..times {

@@ -44,12 +44,12 @@ fn compiled(alloc: Global, text: &str) -> Result<Vec<Insn>, Fail> {
     Ok(read_listing(alloc, out.written())?)
 }
 
-/// Whether an offset of this instruction leads over so many others.
+/// Whether an offset of this instruction leads over `count` others.
 fn leads_over(insn: &Insn, count: usize) -> bool {
     usize::from(insn.jt) == count || usize::from(insn.jf) == count
 }
 
-/// Whether each `ja` stands behind a conditional jump, at most one other `ja` between them, that
+/// Whether each `ja` follows a conditional jump, at most one other `ja` between them, that
 /// leads to it, and for a target that is more than 255 instructions past the one after that.
 fn jumps_are_needed(insns: &[Insn]) -> bool {
     let mut test: Option<(usize, &Insn)> = None;
@@ -81,7 +81,7 @@ fn count_jumps(insns: &[Insn]) -> usize {
     count
 }
 
-/// How many instructions a program has at most: 2, so many for each test, and 6 for each node.
+/// How many instructions a program has at most: 2, `for_a_test` for each test, and 6 for each node.
 fn bound(for_a_test: usize, tests: usize, nodes: usize) -> usize {
     let of_tests = tests.saturating_mul(for_a_test);
     nodes
@@ -90,7 +90,7 @@ fn bound(for_a_test: usize, tests: usize, nodes: usize) -> usize {
         .saturating_add(2)
 }
 
-/// The jumps of a program are needed. With so many tests of the length behind `ip` it is no longer
+/// The jumps of a program are needed. With `times` tests of the length after `ip` it is no longer
 /// than its bound: 2, and 6 for each test and node; where 2, 4 for each test and 6 for each node are
 /// at most 256, no longer than that, and without `ja`.
 fn meets_bounds(insns: &[Insn], times: usize) -> bool {

@@ -27,7 +27,7 @@ const SYN: [u8; 54] = [
     10, 0, 0, 2, 4, 0, 0, 80, 0, 0, 0, 0, 0, 0, 0, 0, 0x50, 2, 0, 0, 0, 0, 0, 0,
 ];
 
-/// A pcap file of so many records of 60 bytes at time 0, each `SYN` with six bytes of data. Two in
+/// A pcap file of `packets` records of 60 bytes at time 0, each `SYN` and six bytes of data. Two in
 /// a row are equal, others differ.
 pub(crate) fn capture(alloc: Global, packets: u32) -> Result<Vec<u8>, AllocError> {
     let mut bytes = Vec::from_slice(alloc, &HEADER)?;
@@ -40,7 +40,7 @@ pub(crate) fn capture(alloc: Global, packets: u32) -> Result<Vec<u8>, AllocError
     Ok(bytes)
 }
 
-/// A pcapng file of a section, an interface and so many packets, each in a block of the greatest
+/// A pcapng file of a section, an interface and `packets` packets, each in a block of the greatest
 /// length.
 pub(crate) fn longest_blocks(alloc: Global, packets: u32) -> Result<Vec<u8>, AllocError> {
     let mut block = Vec::from_slice(alloc, &[6, 0, 0, 0])?;

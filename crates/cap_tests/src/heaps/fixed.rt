@@ -63,7 +63,7 @@ fn command_in<'h>(
     })
 }
 
-/// The names of so many inputs, each `a`, and of an output, over the heap.
+/// The names of `inputs` inputs, each `a`, and of an output, over the heap.
 fn names_in(
     heap: &LocalHeap,
     inputs: usize,
@@ -76,7 +76,7 @@ fn names_in(
     Ok(names)
 }
 
-/// Does the work in a heap of so many bytes, on so many inputs of these bytes. The devices are
+/// Does the work in a heap of this size, on some inputs of these bytes. The devices are
 /// outside of the heap.
 pub(crate) fn run_in(
     alloc: Global,

@@ -10,7 +10,7 @@ use std::alloc::{AllocError, Global};
 use std::{fs, io};
 
 /// A run: its words, whether the capture is in `out` before, its status, and how many of the first
-/// bytes of `in` are in `out` behind it; None where no `out` is there.
+/// bytes of `in` are in `out` after it; None where no `out` is there.
 type Run = (&'static str, bool, u8, Option<usize>);
 
 const RUNS: [Run; 17] = [
@@ -31,7 +31,7 @@ const RUNS: [Run; 17] = [
     ("print --code / -w out in", false, 1, None),
     ("edit none out", false, 1, None),
     // An output in a folder that isn't there can't be created. A new one is there after a refusal
-    // too. One that takes nothing is a fault, though the job comes to its end.
+    // too. One that takes nothing is a fault, though the job reaches its end.
     ("edit in none/out", false, 1, None),
     ("print -w out in port", false, 2, Some(0)),
     ("edit in /dev/null", false, 0, None),
@@ -46,7 +46,7 @@ const RUNS: [Run; 17] = [
     ("print -w out --format pcap -c 1 in", true, 0, Some(54)),
 ];
 
-/// Whether `out` has so many of the first bytes of `in`, or isn't there.
+/// Whether `out` has the first `written` bytes of `in`, or isn't there.
 fn has_output(rt: &HostRuntime, written: Option<usize>) -> io::Result<bool> {
     let Some(count) = written else {
         return Ok(!fs::exists(rt, "out")?);

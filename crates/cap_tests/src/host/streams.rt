@@ -56,7 +56,7 @@ impl Streams {
         holds(&self.output, output) && holds(&self.errors, errors)
     }
 
-    /// Whether so many calls wrote to standard error.
+    /// Whether `calls` calls wrote to standard error.
     pub fn have_calls(&self, calls: usize) -> bool {
         matches!(self.errors.try_borrow(), Ok(errors) if errors.calls == calls)
     }

@@ -18,7 +18,7 @@ const BLOCKS: [u8; 132] = [
     0, 0, 0, 0, 4, 0, 0, 0, 4, 0, 0, 0, 5, 6, 7, 8, 36, 0, 0, 0,
 ];
 
-/// A capture of two packets; where each ends, and how long the output in pcap is behind it.
+/// A capture of two packets; where each ends, and how long the output in pcap is after it.
 type Row = (&'static [u8], [(usize, usize); 2]);
 
 const ROWS: [Row; 2] = [
@@ -36,7 +36,7 @@ struct Course {
     taken: usize,
     reads: usize,
     writes: usize,
-    /// Whether each read came behind the writes of all packets that had been given.
+    /// Whether each read came after the writes of all packets that had been given.
     is_in_time: bool,
 }
 

@@ -22,7 +22,7 @@ pub(crate) const PACKET: [u8; 36] = [
     0xbb, 0xcc, 0xdd, 36, 0, 0, 0,
 ];
 
-/// Appends a record of so many bytes, at 1 second and 5 microseconds.
+/// Appends a record of `size` bytes, at 1 second and 5 microseconds.
 fn push_record<A: Allocator>(bytes: &mut Vec<u8, A>, size: u32) -> Result<(), AllocError> {
     bytes.extend_from_slice(&[1, 0, 0, 0, 5, 0, 0, 0])?;
     bytes.extend_from_slice(&size.to_le_bytes())?;

@@ -41,7 +41,7 @@ fn no_growth_for_what_is_too_long(rt: HostRuntime) -> Result<(), Fail> {
     Ok(())
 }
 
-/// How often a sink of the format takes memory for a packet, and with another one behind it.
+/// How often a sink of the format takes memory for a packet, and with another one after it.
 fn growths_in(alloc: Global, format: Format) -> Option<(u64, u64)> {
     let trial = Trial::new(alloc);
     let mut out = [0; 200];

@@ -64,7 +64,7 @@ fn last_results() -> [(usize, Result<bool, Fault>, u64); 5] {
 }
 
 #[test]
-fn no_read_behind_an_end(rt: HostRuntime) -> Result<(), Fail> {
+fn no_read_after_an_end(rt: HostRuntime) -> Result<(), Fail> {
     let bytes = capture(rt.alloc(), &[3])?;
     for (length, want, count) in last_results() {
         let prefix = bytes.get(..length).ok_or("too short")?;
@@ -76,7 +76,7 @@ fn no_read_behind_an_end(rt: HostRuntime) -> Result<(), Fail> {
 /// A packet without its interface is an error that stays: the section, and the block's header and
 /// body, take four reads.
 #[test]
-fn no_read_behind_an_error_of_a_block(rt: HostRuntime) -> Result<(), Fail> {
+fn no_read_after_an_error_of_a_block(rt: HostRuntime) -> Result<(), Fail> {
     let bytes = joined(rt.alloc(), &[&SECTION, &PACKET, &PACKET])?;
     assert!(rt; stays(rt.alloc(), &bytes, Err(Fault::UnknownInterface), 5));
     Ok(())

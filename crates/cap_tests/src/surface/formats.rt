@@ -43,7 +43,7 @@ fn kind_of(block: &cap_pcapng::Block<'_>) -> &'static str {
     }
 }
 
-/// The kind of the block that the bytes begin with, behind a little-endian section.
+/// The kind of the block that the bytes begin with, after a little-endian section.
 fn kind_in(bytes: &[u8]) -> Option<&'static str> {
     let first: &[u8; 12] = bytes.first_chunk::<12>()?;
     let frame: Result<cap_pcapng::Frame, Fault> = cap_pcapng::frame(Some(Order::Little), first);

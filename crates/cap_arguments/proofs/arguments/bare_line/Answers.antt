@@ -26,10 +26,10 @@ returns c =
     let helped : app_of c.after_help.result ≡ named = ap app_of_fields c.after_help.ensures ∙ about in
     let numbered : app_of c.version.result ≡ versioned named =
     ap app_of_fields c.version.ensures ∙ ap versioned helped in
-    let behind : app_of c.no_binary_name.result ≡ nameless (versioned named) =
+    let following : app_of c.no_binary_name.result ≡ nameless (versioned named) =
     ap app_of_fields c.no_binary_name.ensures ∙ ap nameless numbered in
     let required : app_of c.subcommand_required.result ≡ requiring (nameless (versioned named)) =
-    ap app_of_fields c.subcommand_required.ensures ∙ ap requiring behind in
+    ap app_of_fields c.subcommand_required.ensures ∙ ap requiring following in
     let alone : app_of c.disable_help_subcommand.result ≡ bare_line =
     ap app_of_fields c.disable_help_subcommand.ensures ∙ ap without_help required in
     IfOk-weaker c.bin_name.result _ _ (λ command is. ap app_of_fields is.0 ∙ alone) c.bin_name.ensures

@@ -5,10 +5,10 @@ use Rattle.cap_octet.specs.Device.{Takes}
 use Rattle.cap_io.proofs.unit.read_rest.Goals as goal
 
 -- a part of the buffer that is filled has the first bytes that weren't read
-filled : (unread unread' whole filling behind : List ℕ) (front part size count : ℕ) → front ≤ size → length whole ≡ size → part ≡ size - front → length (take part (drop front whole)) ≤ count
+filled : (unread unread' whole filling following : List ℕ) (front part size count : ℕ) → front ≤ size → length whole ≡ size → part ≡ size - front → length (take part (drop front whole)) ≤ count
     → Takes unread (take part (drop front whole)) count unread' filling → count ≤ part
-    → unread ≡ drop front (take size ((take front whole ++ (filling ++ drop part (drop front whole))) ++ behind)) ++ unread'
-filled unread unread' whole filling behind front part size count within long part_is full takes least =
+    → unread ≡ drop front (take size ((take front whole ++ (filling ++ drop part (drop front whole))) ++ following)) ++ unread'
+filled unread unread' whole filling following front part size count within long part_is full takes least =
     let rest : List ℕ = take part (drop front whole) in
     let has : length rest ≡ part = length-take-le part (drop front whole) (omega (arith, length-drop front whole)) in
     let is : filling ≡ take count unread =
@@ -16,10 +16,10 @@ filled unread unread' whole filling behind front part size count within long par
     let fills : length filling ≡ part = ap length is ∙ length-take-le count unread takes.there ∙ omega (arith, has, full, least) in
     let start : length (take front whole) ≡ front = length-take-le front whole (omega arith) in
     let put : List ℕ = take front whole ++ (filling ++ drop part (drop front whole)) in
-    let cut : take size (put ++ behind) ≡ take front whole ++ filling =
-    take-append-le size put behind (omega (arith, length-append (take front whole) (filling ++ drop part (drop front whole)), length-append filling (drop part (drop front whole)), start, fills))
+    let cut : take size (put ++ following) ≡ take front whole ++ filling =
+    take-append-le size put following (omega (arith, length-append (take front whole) (filling ++ drop part (drop front whole)), length-append filling (drop part (drop front whole)), start, fills))
     ∙ take-put_mid front part whole filling size (omega (arith, fills)) (omega arith) in
-    let came : drop front (take size (put ++ behind)) ≡ filling = ap (drop front) cut ∙ drop_at (take front whole) filling front start in
+    let came : drop front (take size (put ++ following)) ≡ filling = ap (drop front) cut ∙ drop_at (take front whole) filling front start in
     sym (take-append-drop count unread) ∙ ap (λ (l : List ℕ). take count unread ++ l) (sym takes.rest) ∙ ap (λ (l : List ℕ). l ++ unread') (sym is ∙ sym came)
 
 pub returns-clause-same : goal.returns-clause-same

@@ -1,4 +1,4 @@
--- The parts so far are at the buffer's start, and what is behind them is as it was.
+-- The parts so far are at the buffer's start, and what is after them is as it was.
 use Rattle.std.proofs.Common.{◌≡◌, ◌++◌, length, take, drop}
 use Rattle.std.specs.List.{flat_map}
 use Rattle.cap_memory.proofs.writing.put_parts.Given as goal

@@ -22,5 +22,5 @@ returns-in_err-time g c = grind arith
 pub overflow_cast-options : goal.overflow_cast-options
 overflow_cast-options g c = omega (arith, ap length c.options.ensures.rest, length-drop {A = ℕ})
 
-pub overflow_sub-behind : goal.overflow_sub-behind
-overflow_sub-behind g c = omega (arith, ap length c.options.ensures.rest, length-drop {A = ℕ})
+pub overflow_sub-following : goal.overflow_sub-following
+overflow_sub-following g c = omega (arith, ap length c.options.ensures.rest, length-drop {A = ℕ})

@@ -7,16 +7,16 @@ use Rattle.cap_pcapng.proofs.write.write_interface.Goals.{then-is_empty, else-is
 use Rattle.cap_pcapng.proofs.write.write_interface.Goals as goal
 
 joined : (g : Over) (c : goal.After-write_all_parts g) → c.interface_header-head.result
-    ++ ((take (7 - c.if-is_empty.start) (drop c.if-is_empty.start c.option_header-option.result)) ++ (c.args.packet.now.name.now ++ (take (19 - (3 - c.padding_behind-padding.result)) (drop (3 - c.padding_behind-padding.result) c.interface_end-end.result) ++ [])))
+    ++ ((take (7 - c.if-is_empty.start) (drop c.if-is_empty.start c.option_header-option.result)) ++ (c.args.packet.now.name.now ++ (take (19 - (3 - c.padding_after-padding.result)) (drop (3 - c.padding_after-padding.result) c.interface_end-end.result) ++ [])))
     ≡ interface_text c.args.packet.now.link c.args.packet.now.snap c.args.packet.now.name.now
 joined g c =
     let name : List ℕ = c.args.packet.now.name.now in
-    let padding = c.padding_behind-padding.ensures in
-    let name_is : (take (7 - c.if-is_empty.start) (drop c.if-is_empty.start c.option_header-option.result)) ++ (name ++ replicate c.padding_behind-padding.result 0) ≡ name_text name = elim c.if-is_empty.branch [
+    let padding = c.padding_after-padding.ensures in
+    let name_is : (take (7 - c.if-is_empty.start) (drop c.if-is_empty.start c.option_header-option.result)) ++ (name ++ replicate c.padding_after-padding.result 0) ≡ name_text name = elim c.if-is_empty.branch [
       | then-is_empty w ↦ rw w.start-is (unnamed _ name (sym c.is_empty.ensures ∙ w.if-is_empty.true) padding.padded)
       | else-is_empty w ↦ rw w.start-is (named _ name _ (sym c.is_empty.ensures ∙ w.if-is_empty.false) padding.padded c.option_header-option.ensures)
     ] in
-    interface_joined c.args.packet.now.link c.args.packet.now.snap c.padding_behind-padding.result name c.interface_header-head.result (take (7 - c.if-is_empty.start) (drop c.if-is_empty.start c.option_header-option.result)) c.interface_end-end.result
+    interface_joined c.args.packet.now.link c.args.packet.now.snap c.padding_after-padding.result name c.interface_header-head.result (take (7 - c.if-is_empty.start) (drop c.if-is_empty.start c.option_header-option.result)) c.interface_end-end.result
     padding.short name_is c.interface_header-head.ensures c.interface_end-end.ensures
 
 pub returns : goal.returns

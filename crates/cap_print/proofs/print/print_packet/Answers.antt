@@ -1,5 +1,5 @@
 use Rattle.std.proofs.Common.{◌∙◌}
-use Rattle.cap_print.proofs.Printing.{appends-behind, printed-alone, printed-with_rows, stops-in_line}
+use Rattle.cap_print.proofs.Printing.{appends-following, printed-alone, printed-with_rows, stops-in_line}
 use Rattle.cap_print.proofs.print.print_packet.Goals as goal
 
 pub returns-in_default-clause-exact : goal.returns-in_default-clause-exact
@@ -11,7 +11,7 @@ pub returns-then-options-clause-exact : goal.returns-then-options-clause-exact
 returns-then-options-clause-exact g c = λ tells.
     let line_is = c.as_slice.ensures ∙ c.write_line.ensures.value in
     rw (printed-with_rows c.args.options _ c.if-options.true, ← c.payload.ensures)
-    (appends-behind _ _ _ _ _ _ (rw line_is at (c.in-Ok.ensures.exact tells)) (c.write_rows.ensures.exact tells))
+    (appends-following _ _ _ _ _ _ (rw line_is at (c.in-Ok.ensures.exact tells)) (c.write_rows.ensures.exact tells))
 
 pub returns-clause-exact : goal.returns-clause-exact
 returns-clause-exact g c = λ tells.

@@ -5,7 +5,7 @@ use Rattle.std.specs.Option.{IsSome, option_copied, option_copied_mut}
 use Rattle.cap_window.specs.declared.links.Links.{Links}
 use Rattle.cap_window.specs.Index.{is_one, links_at, mark_at}
 use Rattle.cap_window.proofs.Marks.{links_are_there, mark_is_there}
-use Rattle.cap_window.proofs.Trees.{behind_links, placing_first, placing_end, placing_equal, placing_next, step_at}
+use Rattle.cap_window.proofs.Trees.{after_links, placing_first, placing_end, placing_equal, placing_next, step_at}
 use Rattle.cap_window.proofs.links.place_newest.Goals as goal
 
 nonzero : (n : ℕ) → (n == 0) ≡ false → 0 < n
@@ -54,10 +54,10 @@ returns-then-same-clause-placed g c = λ some class hung.
     get_or_from_slice_get marks top c.unwrap-below.result.now _ (sym c.get-in-loop-step.ensures ∙ ap option_copied c.unwrap-below.ensures) in
     let under : links_at c.loop-step.links.items top ≡ c.unwrap.result.now =
     get_or_from_slice_get c.loop-step.links.items top c.unwrap.result.now _ (sym c.get-in-loop-step-2.ensures ∙ ap option_copied c.unwrap.ensures) in
-    placing_equal marks c.args.links.now.items c.loop-step.links.items class (length marks - 1) c.loop-step.depth place c.loop-step.step top c.behind.result
+    placing_equal marks c.args.links.now.items c.loop-step.links.items class (length marks - 1) c.loop-step.depth place c.loop-step.step top c.following.result
     (c.loop-step.invariant.placing class hung) (omega arith) (omega arith) (omega arith)
     (above ∙ c.same.ensures.0 c.if-same.true ∙ sym below)
-    (rw under (behind_links c.unwrap.result.now c.behind.result c.loop-step.step c.behind.ensures.zeros c.behind.ensures.ones))
+    (rw under (after_links c.unwrap.result.now c.following.result c.loop-step.step c.following.ensures.zeros c.following.ensures.ones))
 
 pub unwrap-requires-in-loop-step : goal.unwrap-requires-in-loop-step
 unwrap-requires-in-loop-step g c =
@@ -85,7 +85,7 @@ loop-step-preserved g c =
           p (omega arith) (omega arith) (omega arith)
           (c.is_one-bit.ensures ∙ ap (λ m. is_one m c.loop-step.depth) (sym below))
           c.with.ensures.bit
-          (c.with.ensures.other ∙ rw under (behind_links c.unwrap.result.now c.behind-in-loop-step.result c.loop-step.step c.behind-in-loop-step.ensures.zeros c.behind-in-loop-step.ensures.ones (not bit)))));
+          (c.with.ensures.other ∙ rw under (after_links c.unwrap.result.now c.following-in-loop-step.result c.loop-step.step c.following-in-loop-step.ensures.zeros c.following-in-loop-step.ensures.ones (not bit)))));
     }
 
 pub loop-step-smaller : goal.loop-step-smaller

@@ -1,4 +1,4 @@
--- Behind smaller numbers the number comes before the first that isn't smaller.
+-- After smaller numbers the number comes before the first that isn't smaller.
 use Rattle.std.proofs.Common.{arith}
 use Rattle.flt_gen.proofs.Ascending.{inserted_at}
 use Rattle.flt_gen.proofs.group.place_among.Goals as goal

@@ -15,8 +15,8 @@ insns-preserved c =
     record {
       within = omega arith;
       same_length = omega arith;
-      each = ap length c.arrive_behind.ensures ∙ passed_length _ _ _ _ _ _ ∙ each ∙ sym long;
-      same = sym (flow_step c.insns.at c.insns.held c.arrive_behind.new.held c.insns.insns _ _ _ c.insn_past_loads.result inside (omega arith) (take_rest c.insns.insns (c.insns.at + 1)) c.arrive_behind.ensures c.insn_past_loads.ensures) ∙ i.same;
+      each = ap length c.arrive_after.ensures ∙ passed_length _ _ _ _ _ _ ∙ each ∙ sym long;
+      same = sym (flow_step c.insns.at c.insns.held c.arrive_after.new.held c.insns.insns _ _ _ c.insn_past_loads.result inside (omega arith) (take_rest c.insns.insns (c.insns.at + 1)) c.arrive_after.ensures c.insn_past_loads.ensures) ∙ i.same;
     }
 
 pub returns : goal.returns

@@ -1,4 +1,4 @@
--- The groups left out are zeros behind the first.
+-- The groups left out are zeros after the first.
 use Rattle.std.proofs.Common.{arith, length, ap}
 use Rattle.flt_words.specs.declared.address.Group.TheVariants as group
 use Rattle.flt_words.proofs.AddressValues.{ends_fit, ends_value, reads_below, same_groups}

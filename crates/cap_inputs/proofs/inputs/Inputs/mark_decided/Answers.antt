@@ -4,8 +4,8 @@ use Rattle.cap_inputs.specs.declared.inputs.Schedule.{Schedule}
 use Rattle.cap_inputs.specs.declared.inputs.Next.TheVariants as next
 use Rattle.cap_inputs.specs.Cursor.{HoldsQueue, IsNextAt, IsScheduled, ordering_of}
 use Rattle.cap_io.specs.Sequence.{PacketOrder}
-use Rattle.cap_inputs.specs.Inputs.{InputsView, InputView, MarksDecided, IsNext, input_behind, with_cursor}
-use Rattle.cap_inputs.proofs.Cursors.{behind-order, get-among}
+use Rattle.cap_inputs.specs.Inputs.{InputsView, InputView, MarksDecided, IsNext, input_after_decided, with_cursor}
+use Rattle.cap_inputs.proofs.Cursors.{following-order, get-among}
 use Rattle.cap_inputs.proofs.Leasts.{settled-in}
 use Rattle.cap_inputs.proofs.Placed.{decide-at, decided-waits, placed-decided}
 use Rattle.cap_inputs.proofs.inputs.Inputs.mark_decided.Goals as goal
@@ -19,7 +19,7 @@ returns g c =
     subst P c.self.view_is (record {
       cursor = c.index_mut.result.now;
       among = get-among c.self.inside.cursors.items c.args.input c.index_mut.result.now c.index_mut.result.now (subst W (sym c.self.view_is) c.requires.within) c.index_mut.ensures.value;
-      is = ap made (ap ordering_of c.go_back.ensures.schedule ∙ behind-order c.self.inside.schedule c.args.input) ∙ ap (with_cursor old c.args.input) c.mark_decided.ensures.behind;
+      is = ap made (ap ordering_of c.go_back.ensures.schedule ∙ following-order c.self.inside.schedule c.args.input) ∙ ap (with_cursor old c.args.input) c.mark_decided.ensures.following;
     })
 
 pub invariant_of-self : goal.invariant_of-self
@@ -33,8 +33,8 @@ invariant_of-self g c =
     let S : InputView → Type 0 = λ h. IsScheduled c.go_back.new.schedule (slice_set c.self.inside.cursors.items c.args.input h) in (
       subst P (sym c.go_back.ensures.schedule)
           (settled-in c.self.inside.schedule c.self.inside.cursors.items c.args.input c.mark_decided.new.self c.self.inside.queue c.go_back.new.queue
-          at (ap (λ (h : InputView). h.waiting) c.mark_decided.ensures.behind) c.go_back.ensures.queue c.self.invariant.0),
-      subst S (sym c.mark_decided.ensures.behind)
-          (let R : Schedule → Type 0 = λ p. IsScheduled p (slice_set c.self.inside.cursors.items c.args.input (input_behind c.index_mut.result.now)) in
+          at (ap (λ (h : InputView). h.waiting) c.mark_decided.ensures.following) c.go_back.ensures.queue c.self.invariant.0),
+      subst S (sym c.mark_decided.ensures.following)
+          (let R : Schedule → Type 0 = λ p. IsScheduled p (slice_set c.self.inside.cursors.items c.args.input (input_after_decided c.index_mut.result.now)) in
           subst R (sym c.go_back.ensures.schedule) (placed-decided c.self.inside.schedule c.self.inside.cursors.items c.args.input c.index_mut.result.now a at reading c.self.invariant.1)),
     )

@@ -1,7 +1,7 @@
 use Rattle.std.proofs.Common.{rules, refl, sym, ◌∙◌, arith}
 use Rattle.std.proofs.lemmas.Result.{err_from_is_err_and}
-use Rattle.cap_io.proofs.Came.{NoUnitCame-behind, error_is, first_of, joined_front, section_of_bytes}
-use Rattle.cap_io.proofs.CapturesCame.{ReadsUnit-behind, UnitPassed-behind, header_passed, rest_of_front}
+use Rattle.cap_io.proofs.Came.{NoUnitCame-following, error_is, first_of, joined_front, section_of_bytes}
+use Rattle.cap_io.proofs.CapturesCame.{ReadsUnit-following, UnitPassed-following, header_passed, rest_of_front}
 use Rattle.cap_io.proofs.next_unit.UnitReader.first_unit.Goals as goal
 
 pub returns-in_err-read_rest : goal.returns-in_err-read_rest
@@ -13,7 +13,7 @@ returns-in_err-read_rest g c =
       consistent = tt;
       known = tt;
       ok = tt;
-      err = λ t. rw c.requires.unknown (NoUnitCame-behind _ _ _ c.in_ok-first.first _ (c.in_ok-first.ensures.ok t)
+      err = λ t. rw c.requires.unknown (NoUnitCame-following _ _ _ c.in_ok-first.first _ (c.in_ok-first.ensures.ok t)
           (rest_of_front c.in_ok-first.first _ _ _ 12 refl (search rules) (sym c.begins_section.ensures ∙ c.if-not-begins_section.false) (c.in_err-read_rest.ensures.err t)));
       kept = (refl, refl);
       grown = omega arith;
@@ -31,7 +31,7 @@ pub returns : goal.returns
 returns g c =
     let first = c.in_ok-first.ensures.moves in
     let rest = c.in_ok-read_rest.ensures.moves in
-    ReadsUnit-behind g.I.Input c.args.self.now c.read_rest.new.input c.read_rest.new.buffer _ _
+    ReadsUnit-following g.I.Input c.args.self.now c.read_rest.new.input c.read_rest.new.buffer _ _
     (search rules) (search rules) (rest.sure ∙ first.sure) (λ t. rest.told t ∙ first.told t) (λ some. search rules)
     (λ t. joined_front _ _ _ c.in_ok-first.first c.read_rest.new.buffer 12 (search rules) (c.in_ok-first.ensures.ok t) c.in_ok-read_rest.ensures.same (c.in_ok-read_rest.ensures.ok t))
     c.read_block.ensures
@@ -42,7 +42,7 @@ returns-then-not-begins_section g c = record {
   sized = search rules;
   consistent = tt;
   known = tt;
-  ok = λ t. rw c.requires.unknown (UnitPassed-behind _ _ _ c.in_ok-first.first _ _ (c.in_ok-first.ensures.ok t) (header_passed _ _ c.in_ok-read_header.field-0 (c.in_ok-read_header.ensures.ok t)));
+  ok = λ t. rw c.requires.unknown (UnitPassed-following _ _ _ c.in_ok-first.first _ _ (c.in_ok-first.ensures.ok t) (header_passed _ _ c.in_ok-read_header.field-0 (c.in_ok-read_header.ensures.ok t)));
   err = tt;
   kept = tt;
   grown = omega arith;

@@ -7,7 +7,7 @@ use Rattle.cap_io.specs.Capture.{PcapngFile, first_link_after}
 use Rattle.cap_io.specs.Reading.{declared_by, known_first_link, section_before}
 use Rattle.cap_io.proofs.BlocksCame.{adds-describes, block-exceeds, block_came, entry_refused, frame-has_memory, frame_refused, front_says, no_room_for_block, rest_of_block, whole_came}
 use Rattle.cap_io.proofs.Came.{error_is}
-use Rattle.cap_io.proofs.CapturesCame.{block-takes, first-again, has-section, interface-takes, interfaces-held, interfaces-kept, order-held, packet-block, passed-block, refused-block, section-fits, small-behind}
+use Rattle.cap_io.proofs.CapturesCame.{block-takes, first-again, has-section, interface-takes, interfaces-held, interfaces-kept, order-held, packet-block, passed-block, refused-block, section-fits, small-following}
 use Rattle.cap_io.proofs.Fitting.{held_length-le}
 use Rattle.cap_io.proofs.OwnFaults.{entry-adds, entry-own}
 use Rattle.cap_io.proofs.next_unit.UnitReader.read_block.Goals as goal
@@ -120,7 +120,7 @@ returns-in-Ok-Some g c =
     let enters = rw c.in-Ok-Some.field-0-is at c.in-Ok-Some.ensures.ok in
     let stays = interfaces-kept frame c.args.self.now.table c.apply_block.new.table _ c.in-Ok-Some.packet enters in
     let says = front_says c.order.result c.args.front.now _ frame c.frame.ensures.answer c.in_ok-found.was in
-    let small = small-behind _ _ (length c.args.front.now) frame.length (search rules) moves.counted c.in_ok-found.ensures.shortest moves.bounded c.requires.bounded in
+    let small = small-following _ _ (length c.args.front.now) frame.length (search rules) moves.counted c.in_ok-found.ensures.shortest moves.bounded c.requires.bounded in
     record {
       moves = record {
         counted = omega (arith, moves.counted, enters.fits.0);
@@ -167,7 +167,7 @@ returns-in-Ok-None g c =
     let frame = c.in_ok-found.found in
     let enters = rw c.in-Ok-None.field-0-is at c.in-Ok-None.ensures.ok in
     let says = front_says c.order.result c.args.front.now _ frame c.frame.ensures.answer c.in_ok-found.was in
-    let small = small-behind _ _ (length c.args.front.now) frame.length (search rules) moves.counted c.in_ok-found.ensures.shortest moves.bounded c.requires.bounded in
+    let small = small-following _ _ (length c.args.front.now) frame.length (search rules) moves.counted c.in_ok-found.ensures.shortest moves.bounded c.requires.bounded in
     rw (c.first_link_type-link.ensures frame.order, c.first_link.ensures) (record {
       moves = record {
         counted = moves.counted;

@@ -7,7 +7,7 @@ use Rattle.cap_io.specs.Text.{interface_of}
 use Rattle.cap_io.specs.declared.numbering.InterfaceNumber.{InterfaceNumber}
 use Rattle.cap_io.proofs.Interfaces.{same_interface}
 use Rattle.cap_io.proofs.Keys.{among-keys, number-keys, insert-keys}
-use Rattle.cap_io.proofs.Places.{few-behind, first-behind, place-of-last}
+use Rattle.cap_io.proofs.Places.{few-following, first-following, place-of-last}
 use Rattle.cap_io.proofs.numbering.OutputInterfaces.number_of.Goals as goal
 
 pub returns-clause-number : goal.returns-clause-number
@@ -47,7 +47,7 @@ returns-2-clause-fits g c =
     let i = interface_of (captured c.args.packet.now) in
     let new = map interface_in c.insert_full.new.self.keys in
     let place : InterfaceNumber = record { number = c.in-Ok.index; is_new = c.in-Ok.is_new } in
-    few-behind c.args.self.now new i place (rw c.self.view_is at c.self.invariant.0) c.requires (search rules) (returns-2-clause-number g c)
+    few-following c.args.self.now new i place (rw c.self.view_is at c.self.invariant.0) c.requires (search rules) (returns-2-clause-number g c)
 
 pub invariant_of-self-2 : goal.invariant_of-self-2
 invariant_of-self-2 g c =
@@ -55,5 +55,5 @@ invariant_of-self-2 g c =
     let new = map interface_in c.insert_full.new.self.keys in
     let place : InterfaceNumber = record { number = c.in-Ok.index; is_new = c.in-Ok.is_new } in (
       returns-2-clause-fits g c,
-      first-behind c.args.self.now new i place (returns-2-clause-number g c),
+      first-following c.args.self.now new i place (returns-2-clause-number g c),
     )

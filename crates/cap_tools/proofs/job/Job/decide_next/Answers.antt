@@ -4,7 +4,7 @@ use Rattle.cap_tools.specs.declared.step.JobEnd.{JobEnd}
 use Rattle.cap_packets.specs.Output.{output_at}
 use Rattle.cap_inputs.specs.declared.inputs.Next.TheVariants as next
 use Rattle.cap_tools.specs.declared.step.JobEnd.TheVariants as end
-use Rattle.cap_inputs.specs.Inputs.{InputsView, InputView, InputPast, input_behind, with_cursor}
+use Rattle.cap_inputs.specs.Inputs.{InputsView, InputView, InputPast, input_after_decided, with_cursor}
 use Rattle.cap_inputs.specs.Inputs as input_spec
 use Rattle.cap_packets.specs.Verdict.{Policy}
 use Rattle.cap_packets.specs.Selector.{SelectorView, policy_state}
@@ -107,9 +107,9 @@ returns-after-last g c =
     let new : JobView = record { preparing = preparing; state = left c.mark_decided.new.self j.policy; programs = j.programs; err = err; turns = c.self.inside.turns; done = c.self.inside.done } in
     let N : JobView → Type 0 = λ v. input_spec.IsNext v.state.inputs (next.Decide c.args.input) in
     let tells = subst N (sym c.self.view_is) c.requires.next in
-    let behind : InputView → InputsView = λ v. with_cursor m.inputs c.args.input (input_behind v) in
+    let following : InputView → InputsView = λ v. with_cursor m.inputs c.args.input (input_after_decided v) in
     let same = among-same m.inputs.cursors c.args.input c.cursor.result.now c.mark_decided.ensures.cursor c.cursor.ensures c.mark_decided.ensures.among in
-    let inputs : c.mark_decided.new.self ≡ behind c.cursor.result.now = c.mark_decided.ensures.is ∙ ap behind (sym same) in
+    let inputs : c.mark_decided.new.self ≡ following c.cursor.result.now = c.mark_decided.ensures.is ∙ ap following (sym same) in
     let failed : JobState = mk m.inputs.cursors m.inputs.order m.policy j.state (output_at c.self.inside.messages.names c.decide.new.output) m.decided in
     let all : (ss : List InputPast) (before : List ℕ) (d : PacketsDecided ss before m) → IsTrue g.O.Output.tells → AnswerLeaves d c.args.input (Ok c.in-Ok.last) (left c.mark_decided.new.self j.policy) failed = λ ss before d to.
     let NF : InputsView → Type 0 = λ f. AnswerLeaves d c.args.input (Ok c.in-Ok.last) (left f m.policy) failed in
