@@ -1,6 +1,5 @@
 -- The command line as clap parses it.
-use Rattle.std.specs.Prelude.{◌≡◌, ℕ, List, [], ◌∷◌, Option, Some, true, codes, if◌then◌else◌, fold, map, pos, slice_get, ◌-◌, ◌^◌}
-use Rattle.std.specs.Str.{bytes_eq}
+use Rattle.std.specs.Prelude.{◌≡◌, ℕ, List, [], ◌∷◌, Option, Some, true, codes, fold, map, pos, slice_get, ◌-◌, ◌^◌}
 use Rattle.clap.specs.Words.{App, HasKind, Row, Rule, Shape, Text, fault_of, is_simple, is_simple_and_free, kind_of, new_app, new_rule, subcommand_of, takes, with_rule, with_subcommand}
 use Rattle.clap.specs.declared.builder.action.ArgAction.TheVariants.{SetTrue}
 use Rattle.clap.specs.declared.builder.value_parser.ValueParser.{ValueParser}
@@ -11,17 +10,8 @@ use Rattle.cap_octet.specs.Format.{all_formats, format_name}
 use Rattle.cap_octet.specs.Link.{all_links, link_name}
 use Rattle.cap_command.specs.Command.{least_window, most_window}
 use Rattle.cap_arguments.specs.declared.ids.TheConstants as ids
-use Rattle.cap_arguments.specs.declared.arguments.Choices.{Choices}
 use Rattle.cap_arguments.specs.declared.arguments.Subcommand.{Subcommand}
 use Rattle.cap_arguments.specs.declared.arguments.Subcommand.TheVariants as sub
-use Rattle.cap_arguments.specs.declared.options.Argument.{Argument}
-use Rattle.cap_arguments.specs.declared.options.CommandRow.{CommandRow}
-use Rattle.cap_arguments.specs.declared.options.Name.{Name}
-use Rattle.cap_arguments.specs.declared.options.Name.TheVariants as name
-use Rattle.cap_arguments.specs.declared.options.Value.{Value}
-use Rattle.cap_arguments.specs.declared.options.Value.TheVariants as value
-
--- ---- arguments
 
 -- the greatest numbers of 32 and of 64 bits
 abbrev pub most_32 : ℕ
@@ -69,8 +59,6 @@ abbrev pub many : Rule → Rule
 many rule = record rule {
   range = Some (record { start_inclusive = 0; end_inclusive = most_64 });
 }
-
--- ---- commands
 
 abbrev pub name_of : Subcommand → Text
 name_of sub.Edit = codes "edit"
@@ -169,46 +157,6 @@ LineIsSimple = (formats links : ValueParser) → is_simple (line_app formats lin
 abbrev pub LineIsFree : Type 0
 LineIsFree = (formats links : ValueParser) → is_simple_and_free (line_app formats links) ≡ true
 
--- ---- tables of arguments
-
-abbrev pub with_name : Name → Rule → Rule
-with_name name.Place rule = rule
-with_name (name.Letter letter) rule = record rule { short = Some letter }
-with_name (name.Long long) rule = record rule { long = Some long.now }
-
-abbrev pub with_value : Choices → Value → Rule → Rule
-with_value choices value.Flag rule = flag rule
-with_value choices (value.Text shown) rule = with_one_value rule
-with_value choices (value.Number shown least most) rule =
-    record (with_one_value rule) { parser = Some (parser.Signed least most) }
-with_value choices (value.Wide shown least most) rule = with_wide_bounds least most rule
-with_value choices value.Format rule = with_choices (parser.Names choices.formats) rule
-with_value choices value.Link rule = with_choices (parser.Names choices.links) rule
-with_value choices value.File rule = rule
-with_value choices value.NeededFile rule = as_required rule
-with_value choices value.Words rule = many rule
-
--- the rule of an argument's row
-abbrev pub rule_by : Choices → Argument → Rule
-rule_by choices argument =
-    with_value choices argument.value (with_name argument.name (new_rule argument.id.now))
-
-abbrev pub app_by : Choices → CommandRow → App
-app_by choices row = with_rules (new_app row.name.now) (map (rule_by choices) row.arguments.now)
-
-abbrev pub shape_by : Choices → CommandRow → Shape
-shape_by choices row = (app_by choices row).top
-
--- ---- names to choose from
-
--- the subcommand of one of these names
-abbrev pub subcommand_named : Text → Subcommand
-subcommand_named name =
-    if bytes_eq name (name_of sub.Edit) then sub.Edit
-    else (if bytes_eq name (name_of sub.Merge) then sub.Merge
-    else (if bytes_eq name (name_of sub.Infos) then sub.Infos
-    else (if bytes_eq name (name_of sub.Print) then sub.Print else sub.Compile)))
-
 abbrev pub format_names : List Text
 format_names = map format_name all_formats
 
@@ -220,8 +168,6 @@ link_names = map link_name all_links
 abbrev pub AreChoices : List Text → ValueParser → Type 0
 AreChoices texts (parser.Names names) = map (λ name. name.now) names.now ≡ texts
 AreChoices texts _ = ⊥
-
--- ---- a parse
 
 -- clap has nothing against the words, and they enter this subcommand with these matches
 pub record TakesWords (words : List Text) (entered : Option (Text × List Row)) : Type 0 where

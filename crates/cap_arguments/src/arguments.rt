@@ -4,9 +4,11 @@ ghost use Rattle.clap.specs.Words.{app_of, new_rule, rule_of, subcommand_rows_of
 ghost use Rattle.clap.specs.declared.builder.command.Command.TheViews.{out-Command as fields_of};
 ghost use Rattle.cap_arguments.specs.Arguments.{AreChoices, TakesWords, RefusesWords, format_names};
 ghost use Rattle.cap_arguments.specs.Arguments.{link_names};
-ghost use Rattle.cap_arguments.specs.Arguments.{app_by, bare_line, line_app, with_name, rule_by};
-ghost use Rattle.cap_arguments.specs.Arguments.{shape_by};
-ghost use Rattle.cap_arguments.specs.Arguments.{subcommand_named, with_rules, with_shapes};
+ghost use Rattle.cap_arguments.specs.Arguments.{bare_line, line_app};
+ghost use Rattle.cap_arguments.specs.inside.Arguments.{app_by, with_name, rule_by};
+ghost use Rattle.cap_arguments.specs.inside.Arguments.{shape_by};
+ghost use Rattle.cap_arguments.specs.Arguments.{with_rules, with_shapes};
+ghost use Rattle.cap_arguments.specs.inside.Arguments.{subcommand_named};
 
 use crate::examples::{LINE_HELP, VERSION};
 use crate::options::{Argument, COMMANDS, CommandRow, Name, Value};

@@ -5,7 +5,8 @@ use Rattle.flt_bpf.specs.Content.{Content}
 use Rattle.flt_tree.specs.Tree.{Expression, empty, truth}
 use Rattle.flt_tree.specs.Counts.{bound_of}
 use Rattle.cap_octet.specs.declared.link.Link.{Link}
-use Rattle.cap_filter.specs.Programs.{AreMade, IsMade, HasPrograms, steps_of_run, met_on, ran_at, spent_in}
+use Rattle.cap_filter.specs.Programs.{AreMade, IsMade, steps_of_run, met_on, ran_at, spent_in}
+use Rattle.cap_filter.specs.inside.Programs.{HasPrograms}
 use Rattle.cap_octet.specs.Link.{all_links}
 use Rattle.cap_filter.specs.FilterRules.{by_reading}
 use Rattle.cap_filter.specs.Filters.{most_cost}

@@ -19,7 +19,8 @@ use Rattle.flt_gen.specs.Correct.{IsProgramOf}
 use Rattle.flt_code.specs.Elementary.{Reading, Yes, No, Rejected}
 use Rattle.flt_gen.specs.Reading.{holds}
 use Rattle.cap_filter.specs.Decisions.{ReturnsDecision}
-use Rattle.cap_filter.specs.Programs.{AreMade, IsMade, HasPrograms, steps_of_run, met_on, ran_at, ran_if, ran_on}
+use Rattle.cap_filter.specs.Programs.{AreMade, IsMade, steps_of_run, met_on, ran_at, ran_if, ran_on}
+use Rattle.cap_filter.specs.inside.Programs.{HasPrograms}
 use Rattle.cap_octet.specs.Link.{all_links, link_of, link_type}
 use Rattle.cap_filter.specs.FilterRules.{by_reading, expression_decides, decision_of, read_on}
 use Rattle.cap_filter.specs.Filters.{program_place, spent_on}

@@ -5,3 +5,4 @@ pub mod Expressions
 pub mod FilterRules
 pub mod Filters
 pub mod Refusals
+pub mod inside

@@ -1,35 +1,18 @@
 -- What a contract sees of an expression with its programs, and what their runs cost.
 use Rattle.std.specs.Prelude.{ℕ, suc, zero, ◌+◌, ◌-◌, ◌^◌, min, List, [], ◌∷◌, length, Option, None, Some}
-use Rattle.std.specs.Coded.{Coded, code_by, coded_list}
 use Rattle.cap_octet.specs.Packet.{Captured}
 use Rattle.flt_bpf.specs.declared.insn.Insn.{Insn}
 use Rattle.flt_bpf.specs.Content.{Content}
 use Rattle.flt_bpf.specs.Machine.{machine, Progress, Answered}
 use Rattle.flt_bpf.specs.Valid.{IsValid}
-use Rattle.flt_tree.specs.Tree.{Expression, empty, truth}
-use Rattle.flt_tree.specs.declared.node.Node.{Node}
-use Rattle.flt_tree.specs.contracts.node.Node as stored
-use Rattle.flt_tree.specs.Nodes.{expr_nodes, tree_of, tree_back}
+use Rattle.flt_tree.specs.Tree.{Expression}
 use Rattle.cap_octet.specs.declared.link.Link.{Link}
 use Rattle.flt_gen.specs.Correct.{IsProgramOf}
-use Rattle.cap_octet.specs.Link.{all_links}
-
--- ---- an expression with its programs
 
 -- an expression, and its programs in the order of the links
 pub record CompiledView : Type 0 where
   pub tree : Expression
   pub programs : List Content
-
--- an expression is stored as its nodes
-abbrev pub coded_expression : Coded Expression
-coded_expression = code_by (List Node) (coded_list stored.the_row.coded)
-    expr_nodes tree_of tree_back
-
--- the expression isn't empty
-abbrev pub IsTruth : Expression → Type 0
-IsTruth empty = ⊥
-IsTruth (truth a) = Unit {0}
 
 -- a valid program for an expression on a link: it has at most as many instructions as the
 -- expression's bound, and accepts a packet exactly where the expression matches
@@ -43,13 +26,6 @@ AreMade e [] [] = Unit {0}
 AreMade e [] (program ∷ programs) = ⊥
 AreMade e (link ∷ links) [] = ⊥
 AreMade e (link ∷ links) (program ∷ programs) = IsMade program e link × AreMade e links programs
-
--- the expression isn't empty, and has its program for each link
-pub record HasPrograms (e : Expression) (programs : List Content) : Type 0 where
-  pub some : IsTruth e
-  pub made : AreMade e all_links programs
-
--- ---- runs
 
 -- how many instructions a run met that reached an answer
 abbrev pub steps_of_run : Progress → ℕ

@@ -23,7 +23,8 @@ pub struct Compiled<A: Allocator> {
 
 impl<A: Allocator> Model for Compiled<A> {
     ghost use Rattle.std.specs.Coded.{codes};
-    ghost use Rattle.cap_filter.specs.Programs.{CompiledView, HasPrograms, coded_expression};
+    ghost use Rattle.cap_filter.specs.Programs.{CompiledView};
+    ghost use Rattle.cap_filter.specs.inside.Programs.{HasPrograms, coded_expression};
 
     ghost Value = { CompiledView };
 
@@ -86,7 +87,8 @@ impl<A: Allocator> Compiled<A> {
     ghost use Rattle.std.specs.Prelude.{◌≡◌, ◌+◌, ◌≤◌, All, IfOk};
     ghost use Rattle.cap_octet.specs.Packet.{captured};
     ghost use Rattle.cap_filter.specs.Decisions.{ReturnsDecision};
-    ghost use Rattle.cap_filter.specs.Programs.{AreMade, IsTruth, spent_in};
+    ghost use Rattle.cap_filter.specs.Programs.{AreMade, spent_in};
+    ghost use Rattle.cap_filter.specs.inside.Programs.{IsTruth};
     ghost use Rattle.cap_octet.specs.Link.{all_links};
     ghost use Rattle.cap_filter.specs.FilterRules.{by_reading, expression_decides};
     ghost use Rattle.cap_filter.specs.Filters.{most_cost, spent_on};

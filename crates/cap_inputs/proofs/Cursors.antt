@@ -9,7 +9,8 @@ use Rattle.cap_octet.specs.declared.fault.Fault.{Fault}
 use Rattle.cap_io.specs.Source.{Advances, SectionFits, SkipsUnits, Phase, Reading, Ended, Failed, SourceView, Steps, end_offset, phase_after}
 use Rattle.cap_inputs.specs.declared.inputs.Schedule.{Schedule}
 use Rattle.cap_inputs.specs.declared.inputs.Schedule.TheVariants.{Turn, Merge}
-use Rattle.cap_inputs.specs.Cursor.{ordering_of, schedule_after, schedule_after_decided}
+use Rattle.cap_inputs.specs.Cursor.{ordering_of}
+use Rattle.cap_inputs.specs.inside.Cursor.{schedule_after, schedule_after_decided}
 use Rattle.cap_inputs.specs.Inputs.{DeviceLimits, device_limits, limits_of}
 use Rattle.cap_io.specs.Position.{given_in_all}
 use Rattle.cap_inputs.specs.Inputs.{InputView, InputsView, InputPast, AreInputsAfter, KnowGreatest, IsInput, ReadsInput, ReadSteps, greatest_of, input_after, input_after_decided, packet_time, with_cursor}

@@ -1,7 +1,8 @@
 -- Inputs as they are handed over.
 use Rattle.std.proofs.Common.{◌≡◌, ℕ, List, [], ◌∷◌, map, length, Bool, refl, ◌∙◌, ap}
 use Rattle.cap_inputs.specs.declared.inputs.Schedule.{Schedule}
-use Rattle.cap_inputs.specs.Cursor.{first_schedule, ordering_of}
+use Rattle.cap_inputs.specs.Cursor.{ordering_of}
+use Rattle.cap_inputs.specs.inside.Cursor.{first_schedule}
 use Rattle.cap_io.specs.Sequence.{PacketOrder, InTurn, ByTime, order_of}
 use Rattle.cap_inputs.specs.Inputs.{InputView}
 use Rattle.cap_octet.specs.Views.{FreshInput}

@@ -10,10 +10,12 @@ use Rattle.cap_inputs.specs.declared.queue.Waiting.{Waiting}
 use Rattle.cap_inputs.specs.declared.inputs.Schedule.{Schedule}
 use Rattle.cap_inputs.specs.declared.inputs.Schedule.TheVariants.{Turn, Merge}
 use Rattle.cap_inputs.specs.declared.inputs.Next.TheVariants as next
-use Rattle.cap_inputs.specs.Queue.{Queue, NotAfter, Precedes, IsFirstWaiting, is_entered}
+use Rattle.cap_inputs.specs.Queue.{Queue}
+use Rattle.cap_inputs.specs.inside.Queue.{NotAfter, Precedes, IsFirstWaiting, is_entered}
 use Rattle.cap_octet.specs.declared.fault.Fault.{Fault}
-use Rattle.cap_inputs.specs.Cursor.{EntersQueue, HasPlaceFor, HoldsQueue, IsNextAt, IsQueued, Leaves, TakesFirst, first_schedule, is_merge, schedule_after, schedule_after_decided, waiting_total, waits_with}
-use Rattle.cap_inputs.specs.Inputs.{InputView, NoneWaits, IsLeast, KeysOver, KeysFrom, IsInput, is_packet_found, key_of, waiting_count}
+use Rattle.cap_inputs.specs.inside.Cursor.{EntersQueue, HasPlaceFor, HoldsQueue, IsNextAt, IsQueued, Leaves, TakesFirst, first_schedule, is_merge, schedule_after, schedule_after_decided, waiting_total, waits_with}
+use Rattle.cap_inputs.specs.Inputs.{InputView, NoneWaits, IsLeast, KeysOver, KeysFrom, IsInput, is_packet_found, key_of}
+use Rattle.cap_inputs.specs.inside.Inputs.{waiting_count}
 use Rattle.cap_io.specs.Sequence.{order_of}
 use Rattle.cap_inputs.proofs.Cursors.{set-here}
 

@@ -11,7 +11,7 @@ use Rattle.std.proofs.lemmas.Bool.Decides.{nat_tests}
 use Rattle.std.proofs.lemmas.Bool.{cases_order}
 use Rattle.std.specs.Ordering.{is_lt, nat_cmp, ordering_then}
 use Rattle.cap_inputs.specs.declared.queue.Waiting.{Waiting}
-use Rattle.cap_inputs.specs.Queue.{Precedes, NotAfter, inputs_of, IsOnceEach, IsFirstWaiting, is_entered}
+use Rattle.cap_inputs.specs.inside.Queue.{Precedes, NotAfter, inputs_of, IsOnceEach, IsFirstWaiting, is_entered}
 
 -- the order of time, then number
 abbrev pub time_then_input : Waiting → Waiting → Ordering

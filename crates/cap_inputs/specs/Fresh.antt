@@ -1,9 +1,9 @@
 -- Inputs as they are handed over.
-use Rattle.std.specs.Prelude.{ℕ, ◌+◌, false, List, [], length, map}
+use Rattle.std.specs.Prelude.{false, List, [], map}
 use Rattle.cap_octet.specs.Views.{FreshInput}
 use Rattle.cap_io.specs.Source.{source_at}
 use Rattle.cap_io.specs.Sequence.{PacketOrder}
-use Rattle.cap_inputs.specs.Inputs.{DeviceLimits, InputView, InputsView, InputPast}
+use Rattle.cap_inputs.specs.Inputs.{InputView, InputsView, InputPast}
 
 abbrev pub fresh_view : FreshInput → InputView
 fresh_view o =
@@ -12,10 +12,6 @@ fresh_view o =
       waiting = false;
       greatest = 0;
     }
-
--- what no step changes of its device
-abbrev pub fresh_limits : FreshInput → DeviceLimits
-fresh_limits o = record { sure = o.sure; in_all = o.given + length o.text }
 
 abbrev pub nothing_done : FreshInput → InputPast
 nothing_done o = record { text = o.text; done = []; packets = [] }

@@ -1,17 +1,14 @@
 -- What a contract sees of the inputs of a job, and how far they are in their captures.
 use Rattle.std.specs.Prelude.{◌≡◌, ◌⊎◌, ℕ, suc, ◌+◌, ◌*◌, ◌-◌, ◌^◌, ◌<◌, ◌≤◌, Bool, true, false, max, List, [], ◌∷◌, ◌++◌, length, drop, map, Option, None, Some, Result, Ok, Err}
 use Rattle.std.specs.List.{slice_get, slice_set}
-use Rattle.std.specs.Option.{option_or}
 use Rattle.cap_octet.specs.Packet.{Captured}
 use Rattle.cap_octet.specs.declared.fault.Fault.{Fault}
-use Rattle.cap_io.specs.Capture.{Placed, Items, End, items_from, after_packets, first_link_of}
+use Rattle.cap_io.specs.Capture.{Placed, Items, End, after_packets}
 use Rattle.cap_io.specs.Source.{SourceView, Phase, Reading, Ended, Failed, Advances, SectionFits, Steps, phase_after}
 use Rattle.cap_io.specs.Position.{IsAt, given_in_all}
 use Rattle.cap_inputs.specs.declared.inputs.Next.{Next}
 use Rattle.cap_inputs.specs.declared.inputs.Next.TheVariants as next
 use Rattle.cap_io.specs.Sequence.{InputItems, Event, Sequence, PacketOrder, InTurn, ByTime, sequence_of, sequence_in_turn, sequence_by_time, with_front}
-
--- ---- views
 
 pub record InputView : Type 0 where
   pub source : SourceView
@@ -25,12 +22,6 @@ pub record InputsView : Type 0 where
   pub order : PacketOrder
   pub cursors : List InputView
 
-abbrev pub is_in_turn : PacketOrder → Bool
-is_in_turn InTurn = true
-is_in_turn ByTime = false
-
--- ---- what is left
-
 -- what comes after the current packet: the items, and the number of bytes of the whole input
 pub record Future : Type 0 where
   pub items : Items
@@ -43,13 +34,6 @@ packets_at offset (Some p) = record { offset = offset; packet = p } ∷ []
 abbrev pub waiting_packets : Bool → SourceView → List Placed
 waiting_packets true s = packets_at s.offset s.packet
 waiting_packets false s = []
-
--- what its device has left
-abbrev pub actual_future : SourceView → Future
-actual_future s = record {
-  items = items_from s.declared (s.offset + length s.block) s.unread;
-  size = s.offset + length s.block + length s.unread;
-}
 
 abbrev pub items_left : InputView → Future → InputItems
 items_left h f =
@@ -80,8 +64,6 @@ abbrev pub sequence_left : PacketOrder → List InputView → List InputItems �
 sequence_left InTurn cursors rs =
     sequence_in_turn (ended_count cursors) (drop (ended_count cursors) rs)
 sequence_left ByTime cursors rs = sequence_by_time rs
-
--- ---- what is done of the inputs
 
 -- an input's bytes, those of them that are done, and the packets in these
 pub record InputPast : Type 0 where
@@ -140,8 +122,6 @@ AreSettled ss inputs es = (fs : List Future) → AreFutures inputs.cursors fs
     → sequence_of inputs.order (inputs_with ss inputs.cursors fs)
     ≡ with_front es (sequence_left inputs.order inputs.cursors (inputs_left inputs.cursors fs))
 
--- ---- one input goes on
-
 -- one of the inputs
 pub record IsInput (cursors : List InputView) (i : ℕ) (h : InputView) : Type 0 where
   pub front : List InputView
@@ -187,10 +167,6 @@ pub record ReadSteps (old : InputsView) (i : ℕ) (r : Result Bool Fault)
   pub upper_bound : SectionFits source.declared
   pub is : new ≡ with_cursor old i (input_after cursor r source)
 
-abbrev pub waiting_count : Bool → ℕ
-waiting_count true = 1
-waiting_count false = 0
-
 -- The steps that follow without a byte more: a packet that waits is decided, and then its input is
 -- read on; an input that isn't at its end is read on.
 abbrev pub steps_owed : (waiting : Bool) → Phase → ℕ
@@ -211,14 +187,8 @@ abbrev pub steps_left_in : List InputView → ℕ
 steps_left_in [] = 0
 steps_left_in (h ∷ hs) = input_steps_left h + steps_left_in hs
 
--- how many steps a job makes at most
-abbrev pub most_steps : ℕ
-most_steps = 2 ^ 80
-
 abbrev pub steps_left : InputsView → ℕ
 steps_left f = steps_left_in f.cursors
-
--- ---- keys
 
 abbrev pub packet_time : Option Captured → ℕ
 packet_time None = 0
@@ -249,8 +219,6 @@ pub record IsLeast (cursors : List InputView) (i : ℕ) : Type 0 where
   pub waits : cursor.waiting ≡ true
   pub over : KeysOver (key_of cursor) among.front
   pub from : KeysFrom (key_of cursor) among.back
-
--- ---- what is next
 
 -- it isn't at its clean end
 abbrev pub IsOpen : InputView → Type 0
@@ -309,8 +277,6 @@ IsNextIn ByTime cursors r = IsNextByTime cursors r
 abbrev pub IsNext : InputsView → Next → Type 0
 IsNext inputs r = IsNextIn inputs.order inputs.cursors r
 
--- ---- a packet is decided
-
 -- the current packet is decided
 abbrev pub input_after_decided : InputView → InputView
 input_after_decided h =
@@ -324,10 +290,6 @@ pub record MarksDecided (old : InputsView) (i : ℕ) (new : InputsView) : Type 0
   pub cursor : InputView
   pub among : IsInput old.cursors i cursor
   pub is : new ≡ with_cursor old i (input_after_decided cursor)
-
-abbrev pub first_declared_link : List InputView → Option ℕ
-first_declared_link [] = None
-first_declared_link (h ∷ hs) = option_or (first_link_of h.source.declared) (first_declared_link hs)
 
 abbrev pub offset_of : Option InputView → ℕ
 offset_of None = 0

@@ -2,3 +2,4 @@ pub mod Cursor
 pub mod Fresh
 pub mod Inputs
 pub mod Queue
+pub mod inside

@@ -2,14 +2,15 @@
 ghost use Rattle.std.specs.Prelude.{◌≡◌, ◌&&◌, [], true, ◌<◌, ◌≤◌, ◌-◌, ◌^◌, IsTrue, false, length};
 ghost use Rattle.std.specs.Prelude.{map};
 ghost use Rattle.std.specs.Option.{IfSome};
-ghost use Rattle.cap_inputs.specs.Cursor.{EntersQueue, HasPlaceFor, IsAtCursor, IsNextOfMerge};
-ghost use Rattle.cap_inputs.specs.Cursor.{IsQueued};
-ghost use Rattle.cap_inputs.specs.Cursor.{Leaves, first_schedule, is_merge, schedule_after};
-ghost use Rattle.cap_inputs.specs.Cursor.{schedule_after_decided};
+ghost use Rattle.cap_inputs.specs.inside.Cursor.{EntersQueue, HasPlaceFor, IsAtCursor, IsNextOfMerge};
+ghost use Rattle.cap_inputs.specs.inside.Cursor.{IsQueued};
+ghost use Rattle.cap_inputs.specs.inside.Cursor.{Leaves, first_schedule, is_merge, schedule_after};
+ghost use Rattle.cap_inputs.specs.inside.Cursor.{schedule_after_decided};
 ghost use Rattle.cap_inputs.specs.Fresh.{fresh_view};
 ghost use Rattle.cap_io.specs.Sequence.{order_of};
 ghost use Rattle.cap_octet.specs.Views.{fresh_input};
-ghost use Rattle.cap_inputs.specs.Inputs.{first_declared_link, is_packet_found, key_of};
+ghost use Rattle.cap_inputs.specs.Inputs.{is_packet_found, key_of};
+ghost use Rattle.cap_inputs.specs.inside.Inputs.{first_declared_link};
 ghost use Rattle.cap_inputs.specs.Inputs.{packet_time};
 
 use crate::queue::{Queue, Waiting};
@@ -183,7 +184,8 @@ pub struct Inputs<I: Input, A: Allocator> {
 }
 
 impl<I: Input, A: Allocator> Model for Inputs<I, A> {
-    ghost use Rattle.cap_inputs.specs.Cursor.{HoldsQueue, IsScheduled, ordering_of};
+    ghost use Rattle.cap_inputs.specs.Cursor.{ordering_of};
+    ghost use Rattle.cap_inputs.specs.inside.Cursor.{HoldsQueue, IsScheduled};
     ghost use Rattle.cap_inputs.specs.Inputs.{InputsView};
 
     ghost Value = { InputsView };
@@ -198,8 +200,9 @@ impl<I: Input, A: Allocator> Inputs<I, A> {
     ghost use Rattle.cap_inputs.specs.Fresh.{fresh_inputs};
     ghost use Rattle.cap_inputs.specs.Inputs.{offset_at};
     ghost use Rattle.cap_inputs.specs.Inputs.{InputsView, IsInput, IsNext, MarksDecided};
-    ghost use Rattle.cap_inputs.specs.Inputs.{ReadSteps, ReadsInput, first_declared_link};
-    ghost use Rattle.cap_inputs.specs.Inputs.{is_in_turn};
+    ghost use Rattle.cap_inputs.specs.Inputs.{ReadSteps, ReadsInput};
+    ghost use Rattle.cap_inputs.specs.inside.Inputs.{first_declared_link};
+    ghost use Rattle.cap_inputs.specs.inside.Inputs.{is_in_turn};
 
     /// The inputs, one after another or merged; `None` where there is no memory.
     pub fn new(alloc: A, inputs: Vec<I, A>, merges: bool) -> Option<Self>

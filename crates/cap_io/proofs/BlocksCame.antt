@@ -14,8 +14,10 @@ use Rattle.cap_pcapng.specs.Interface.{Described}
 use Rattle.cap_pcapng.specs.Unit.{IsBlock, Section, block_size, checks_among, frame_after, interfaces_before, order_before, packet_by, packets_in, parts_after, section_after, section_by, unit_fault}
 use Rattle.cap_pcapng.proofs.Units.{passes, frame_checks-append, frame_in-append, unit_fault-frame, unit_fault-short, unit_fault-block, unit_fault-among, parts_in-append, block_checks-append}
 use Rattle.cap_pcapng.specs.declared.frames.Frame.{Frame}
-use Rattle.cap_pcapng.specs.Effect.{AddsInterface, Enters, IsEntryFault, PacketIfAny, held_packet, section_of}
-use Rattle.cap_io.specs.Reading.{RestMissing, most_in_unit, length_by_front, block_length, decisive_block_length}
+use Rattle.cap_pcapng.specs.Effect.{Enters, PacketIfAny, held_packet, section_of}
+use Rattle.cap_pcapng.specs.inside.Effect.{AddsInterface, IsEntryFault}
+use Rattle.cap_io.specs.Reading.{most_in_unit, length_by_front, block_length, decisive_block_length}
+use Rattle.cap_io.specs.inside.Reading.{RestMissing}
 use Rattle.cap_pcapng.specs.Effect.{span_bytes, is_interface}
 use Rattle.cap_pcapng.specs.declared.effect.PacketSpans.{PacketSpans}
 use Rattle.cap_io.proofs.OwnFaults.{entry-not_failed, frame-not_failed, frame-not_memory}

@@ -16,7 +16,8 @@ use Rattle.cap_pcap.proofs.Records.{field_checks-append, record_header_in-append
 use Rattle.cap_pcapng.specs.Frame.{is_section}
 use Rattle.cap_pcapng.proofs.Units as block
 use Rattle.cap_io.specs.Capture.{Declared, Nothing, PcapFile, Front, a_pcap_record, front_of, is_pcapng}
-use Rattle.cap_io.specs.Reading.{most_in_unit, most_taken, length_by_front, decisive_length, IsTaken, NoUnitCame, RestMissing, HeaderCame, PacketCame, TakesMemory, unit_length}
+use Rattle.cap_io.specs.Reading.{most_in_unit, most_taken, length_by_front, decisive_length, IsTaken, TakesMemory, unit_length}
+use Rattle.cap_io.specs.inside.Reading.{NoUnitCame, RestMissing, HeaderCame, PacketCame}
 use Rattle.cap_io.proofs.Fronts.{front_of-no_header, front_of-no_record, front_of-pcapng, is_section-append, is_pcapng-append, most_taken-block, most_taken-header, most_taken-record, most_taken-front, decisive_length-header}
 use Rattle.cap_io.proofs.OwnFaults.{fields-not_failed, fields-not_memory, header-not_failed, header-not_memory}
 

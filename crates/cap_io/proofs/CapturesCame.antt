@@ -29,7 +29,8 @@ use Rattle.cap_io.specs.declared.file_state.FileState.{FileState}
 use Rattle.cap_io.specs.declared.file_state.FileState.TheVariants as state
 use Rattle.cap_pcapng.specs.Effect.{Enters, KnowsIfAny, held_packet, section_of}
 use Rattle.cap_io.specs.Capture.{Declared, Nothing, PcapFile, PcapngFile, Front, IsUnit, a_pcap_header, a_first_block, a_block, file_after, first_link_after, front_of, front_of_block, is_pcapng}
-use Rattle.cap_io.specs.Reading.{BeginsBlock, FrontMissing, HasInterface, HeaderCame, IsSized, IsConsistent, PacketCame, ReadsUnit, NoUnitCame, RestMissing, TakesMemory, UnitCame, UnitPassed, declared_by, read_failures, known_first_link, known_order, most_taken, packet_in_unit, decisive_length, block_length, decisive_block_length, section_before, unit_size}
+use Rattle.cap_io.specs.Reading.{TakesMemory, declared_by, read_failures, most_taken, packet_in_unit, decisive_length, block_length, decisive_block_length}
+use Rattle.cap_io.specs.inside.Reading.{BeginsBlock, FrontMissing, HasInterface, HeaderCame, IsSized, IsConsistent, PacketCame, ReadsUnit, NoUnitCame, RestMissing, UnitCame, UnitPassed, known_first_link, known_order, section_before, unit_size}
 use Rattle.cap_pcapng.specs.Effect.{span_bytes, is_interface}
 use Rattle.cap_io.proofs.BlocksCame.{BlockCame, BlockMissing, Describes}
 use Rattle.cap_io.proofs.Came.{Taken-following, most_taken-file}

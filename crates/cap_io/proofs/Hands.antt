@@ -7,9 +7,11 @@ use Rattle.cap_pcap.specs.declared.header.Head.{Head}
 use Rattle.cap_pcap.specs.declared.header.RecordHead.{RecordHead}
 use Rattle.cap_pcap.specs.Record.{field_checks, most_captured, record_header_in}
 use Rattle.cap_pcapng.specs.declared.effect.PacketSpans.{PacketSpans}
-use Rattle.cap_io.specs.Reading.{PacketCame, most_in_unit, record_spans, packet_in_unit}
+use Rattle.cap_io.specs.Reading.{most_in_unit, packet_in_unit}
+use Rattle.cap_io.specs.inside.Reading.{PacketCame, record_spans}
 use Rattle.cap_io.specs.Capture.{Declared, PcapFile}
-use Rattle.cap_io.specs.Source.{SourceView, Reading, IsBetween, TakesNext}
+use Rattle.cap_io.specs.Source.{SourceView, Reading}
+use Rattle.cap_io.specs.inside.Source.{IsBetween, TakesNext}
 use Rattle.cap_io.proofs.Passing.{FindsPacket-next}
 use Rattle.cap_io.proofs.Came.{fields_came, record_came}
 

@@ -14,7 +14,8 @@ use Rattle.cap_pcapng.specs.Unit.{checks_among}
 use Rattle.cap_pcapng.specs.declared.frames.BlockType.{BlockType}
 use Rattle.cap_pcapng.specs.declared.frames.BlockType.TheVariants as type
 use Rattle.cap_pcapng.specs.declared.frames.Frame.{Frame}
-use Rattle.cap_pcapng.specs.Effect.{AddsInterface, IsBlockFault, IsEntryFault}
+use Rattle.cap_pcapng.specs.Effect.{IsBlockFault}
+use Rattle.cap_pcapng.specs.inside.Effect.{AddsInterface, IsEntryFault}
 use Rattle.cap_pcapng.proofs.Faults.{AreAll, all_failing, all_of_options}
 use Rattle.cap_io.specs.Reading.{read_failures}
 

@@ -18,9 +18,11 @@ use Rattle.cap_io.specs.Capture.{Declared, Nothing, PcapFile, PcapngFile, AreUni
 use Rattle.cap_io.proofs.Items.{AreUnits-append}
 use Rattle.cap_io.proofs.Fitting.{FitUnits-append, FitUnits-wider, one_unit_fits}
 use Rattle.cap_io.proofs.Units.{one_unit}
-use Rattle.cap_io.specs.Reading.{EndCame, HasInterface, PacketCame, NoUnitCame, TakesMemory, UnitPassed, held_length, no_unit_fits, packet_in_unit}
+use Rattle.cap_io.specs.Reading.{TakesMemory, held_length, no_unit_fits, packet_in_unit}
+use Rattle.cap_io.specs.inside.Reading.{EndCame, HasInterface, PacketCame, NoUnitCame, UnitPassed}
 use Rattle.cap_pcapng.specs.Effect.{span_bytes}
-use Rattle.cap_io.specs.Source.{SourceView, Reading, Ended, Failed, SkipsUnits, IsBetween, IsBroken, FindsPacket, FindsEnd, FindsFault, HoldsIfAny, block_at, end_offset, phase_at}
+use Rattle.cap_io.specs.Source.{SourceView, Reading, Ended, Failed, SkipsUnits, IsBroken, FindsPacket, FindsEnd, FindsFault, block_at, end_offset, phase_at}
+use Rattle.cap_io.specs.inside.Source.{IsBetween, HoldsIfAny}
 
 -- ---- no unit is gone over
 

@@ -5,7 +5,7 @@ use Rattle.std.proofs.lemmas.Cmp.{nat_eq_equiv, nat_list_eq_equiv}
 use Rattle.std.proofs.lemmas.List.{append-nil}
 use Rattle.std.proofs.lemmas.List.Elements.{All-append, All-nil, All-push}
 use Rattle.std.specs.List.{All}
-use Rattle.cap_io.specs.Numbering.{HasNumber, IsFirst}
+use Rattle.cap_io.specs.inside.Numbering.{HasNumber, IsFirst}
 use Rattle.cap_io.specs.Text.{Interface, is_same, is_among, new_among, number_among, most_output_interfaces, FitFile}
 use Rattle.cap_io.specs.declared.numbering.InterfaceNumber.{InterfaceNumber}
 use Rattle.cap_io.proofs.Interfaces.{same_interface}

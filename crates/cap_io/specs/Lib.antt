@@ -8,3 +8,4 @@ pub mod Sink
 pub mod RoundTrip
 pub mod Position
 pub mod Laws
+pub mod inside

@@ -1,29 +1,7 @@
 -- Interfaces that are numbered by first use.
-use Rattle.std.specs.Prelude.{◌≡◌, ℕ, false, not, List, ◌++◌, Result, Ok, Err, Some, slice_get}
-use Rattle.cap_octet.specs.declared.fault.Fault.{Fault}
-use Rattle.cap_octet.specs.declared.fault.Fault.TheVariants.{NoMemory}
 use Rattle.cap_io.specs.declared.numbering.InterfaceKey.{InterfaceKey}
-use Rattle.cap_io.specs.declared.numbering.InterfaceNumber.{InterfaceNumber}
-use Rattle.cap_io.specs.Text.{Interface, is_among, new_among, number_among}
+use Rattle.cap_io.specs.Text.{Interface}
 
 -- the interface that a key means
 abbrev pub interface_in : InterfaceKey → Interface
 interface_in key = record { link = key.link; snap = key.snap; name = key.name.items }
-
--- the number of an interface among those that were numbered, and whether it is new there
-pub record HasNumber (old : List Interface) (i : Interface) (given : InterfaceNumber)
-    (new : List Interface) : Type 0 where
-  pub number : given.number ≡ number_among old i
-  pub is_new : given.is_new ≡ not (is_among old i)
-  pub interfaces : new ≡ old ++ new_among old i
-
--- what has this number stands nowhere before
-abbrev pub IsFirst : ℕ → List Interface → Type 0
-IsFirst number interfaces =
-    (i : Interface) → slice_get interfaces number ≡ Some i → number_among interfaces i ≡ number
-
--- it is given a number, or there was no memory for one that is new
-abbrev pub Numbers : List Interface → Interface → Result InterfaceNumber Fault → List Interface
-    → Type 0
-Numbers old i (Ok given) new = HasNumber old i given new
-Numbers old i (Err fault) new = (fault ≡ NoMemory) × (is_among old i ≡ false) × (new ≡ old)

@@ -1,30 +1,22 @@
 -- What reading one unit from a device does to its bytes and its counts.
-use Rattle.std.specs.Prelude.{◌≡◌, ℕ, ◌+◌, ◌^◌, ◌<◌, ◌≤◌, ◌⊎◌, Bool, true, false, List, [], ◌∷◌, ◌++◌, length, take, drop, Option, None, Some, Result, Ok, Err, IfOk, IfErr, is_some, if◌then◌else◌, IsTrue, OnOk, OnErr}
+use Rattle.std.specs.Prelude.{◌≡◌, ℕ, ◌+◌, ◌<◌, ◌≤◌, ◌⊎◌, true, List, [], ◌++◌, length, drop, Option, None, Some, Result, Ok, Err, is_some, if◌then◌else◌}
 use Rattle.std.specs.List.{slice_get}
 use Rattle.std.specs.Option.{option_map}
 use Rattle.cap_octet.specs.Packet.{Captured}
 use Rattle.cap_octet.specs.declared.fault.Fault.{Fault}
-use Rattle.cap_octet.specs.declared.fault.Fault.TheVariants.{NoMemory, ReadFailed, Truncated}
-use Rattle.cap_octet.specs.Checks.{checked, first_failing}
-use Rattle.cap_octet.specs.declared.number.Order.{Order}
-use Rattle.cap_octet.specs.declared.device.Input.{Ghosts}
-use Rattle.cap_pcap.specs.Header.{IsHeader, form_in}
-use Rattle.cap_pcap.specs.Record.{field_checks, most_captured, record_header_in, record_size}
-use Rattle.cap_octet.specs.Device.{HasGiven}
+use Rattle.cap_octet.specs.declared.fault.Fault.TheVariants.{NoMemory, ReadFailed}
+use Rattle.cap_octet.specs.Checks.{first_failing}
+use Rattle.cap_pcap.specs.Header.{form_in}
+use Rattle.cap_pcap.specs.Record.{field_checks, record_size}
 use Rattle.cap_pcapng.specs.Comment.{comment_in}
-use Rattle.cap_pcapng.specs.Frame.{frame_checks, is_section, most_block}
-use Rattle.cap_pcapng.specs.Interface.{Described, FitSection}
+use Rattle.cap_pcapng.specs.Frame.{frame_checks, most_block}
+use Rattle.cap_pcapng.specs.Interface.{Described}
 use Rattle.cap_pcapng.specs.Unit.{Section, block_size, order_before, packet_of, parts_after, unit_fault}
-use Rattle.cap_pcap.specs.declared.header.Head.{Head}
-use Rattle.cap_pcap.specs.declared.header.RecordHead.{RecordHead}
-use Rattle.cap_io.specs.declared.file_state.NextUnit.{NextUnit}
-use Rattle.cap_io.specs.declared.file_state.NextUnit.TheVariants as next_unit
 use Rattle.cap_pcapng.specs.Effect.{is_interface, span_bytes}
 use Rattle.cap_pcapng.specs.declared.effect.PacketSpans.{PacketSpans}
-use Rattle.cap_io.specs.declared.next_unit.UnitReader.{UnitReader}
 use Rattle.cap_io.specs.declared.file_state.FileState.{FileState}
 use Rattle.cap_io.specs.declared.file_state.FileState.TheVariants as state
-use Rattle.cap_io.specs.Capture.{Declared, Nothing, PcapFile, PcapngFile, IsUnit, Front, Whole, Stops, first_link_after, front_of, is_pcapng}
+use Rattle.cap_io.specs.Capture.{Declared, Nothing, PcapFile, PcapngFile, IsUnit, Front, Whole, Stops, front_of, is_pcapng}
 
 -- how many bytes a unit may have
 abbrev pub most_in_unit : ℕ
@@ -35,24 +27,6 @@ abbrev pub read_failures : {X : Type 0} → Result X Fault → ℕ
 read_failures (Ok value) = 0
 read_failures (Err ReadFailed) = 1
 read_failures (Err fault) = 0
-
--- What reading a unit, or what follows its first `front` bytes, did to a device: with them `count`
--- bytes came, or at most `most` on an error. A failed read is told exactly where the device failed
--- in this call.
-pub record Moves {I X : Type 0} (device : Ghosts I) (old new : I) (front : ℕ) (count : X → ℕ)
-    (most : ℕ) (r : Result X Fault) : Type 0 where
-  pub counted : IfOk r (λ x. device.given new + front ≡ device.given old + count x)
-  pub grown : device.given old ≤ device.given new
-  pub bounded : IfOk r (λ x. front < count x → device.given new < 2 ^ 63)
-  pub at_most : IfErr r (λ _. device.given new + front ≤ device.given old + most)
-  pub failed : device.failures new ≡ device.failures old + read_failures r
-  pub sure : device.sure new ≡ device.sure old
-  -- a device that failed had given as many bytes as it was sure to
-  pub enough : 0 < device.failures new → HasGiven (device.sure new) (device.given new)
-  -- what was given is no longer unread
-  pub told : IsTrue device.tells
-      → device.given new + length (device.unread new)
-      ≡ device.given old + length (device.unread old)
 
 -- how many bytes are taken at most of a text that begins so: no more than its unit
 abbrev pub most_taken : Front → ℕ
@@ -88,8 +62,6 @@ pub record IsTaken (declared : Declared) (unread unread' : List ℕ) (fault : Fa
   pub unfinished : fault ≡ ReadFailed → count < decisive_length declared unread
   pub there : count ≤ length unread
   pub rest : unread' ≡ drop count unread
-
--- ---- what takes memory
 
 -- how long the unit is that stands there, as its header states; 0 where that fails a check, and of
 -- the file header of pcap, which the block doesn't hold
@@ -131,82 +103,16 @@ pub data FitUnits (room : ℕ) : Declared → List ℕ → Declared → Type 0 w
   unit_fits : {b c d : Declared} {u more : List ℕ} {qs : List Captured} → IsUnit b u qs c
       → held_length b c (length u) ≤ room → FitUnits room c more d → FitUnits room b (u ++ more) d
 
--- ---- why no unit comes
-
 -- Why no unit came: a fault is in its place, or the device failed, or memory ran out.
 abbrev pub IsReason : Declared → List ℕ → Fault → Type 0
 IsReason declared unread fault =
     (front_of declared unread ≡ Stops (Some fault)) ⊎ (fault ≡ ReadFailed) ⊎ (fault ≡ NoMemory)
-
-pub record NoUnitCame (declared : Declared) (unread unread' : List ℕ) (fault : Fault) : Type 0 where
-  pub why : IsReason declared unread fault
-  pub taken : IsTaken declared unread unread' fault
-
--- ---- the bytes of a unit
-
--- Bytes after the first `from` of a buffer of `size` didn't all come: with those in front of them
--- fewer than `size` did.
-pub record RestMissing (from size : ℕ) (unread unread' : List ℕ) (fault : Fault) : Type 0 where
-  pub why : ((fault ≡ Truncated) × (from + length unread < size)) ⊎ (fault ≡ ReadFailed)
-  pub count : ℕ
-  pub within : from + count < size
-  pub there : count ≤ length unread
-  pub rest : unread' ≡ drop count unread
-
--- the first bytes of a unit came, or the end
-abbrev pub FrontCame : List ℕ → List ℕ → Bool → List ℕ → Type 0
-FrontCame unread front true unread' = unread ≡ front ++ unread'
-FrontCame unread front false unread' = (unread ≡ []) × (unread' ≡ [])
-
--- some bytes are there, but not as many as a unit begins with
-pub record FrontMissing (size : ℕ) (unread unread' : List ℕ) (fault : Fault) : Type 0 where
-  pub some : 0 < length unread ⊎ (fault ≡ ReadFailed)
-  pub missing : RestMissing 0 size unread unread' fault
-
--- the file header of pcap came
-pub record HeaderCame (unread : List ℕ) (head : Head) (unread' : List ℕ) : Type 0 where
-  pub bytes : List ℕ
-  pub header : IsHeader bytes head
-  pub splits : unread ≡ bytes ++ unread'
-
--- ---- what is declared, as a source holds it
 
 abbrev pub declared_by : FileState → List Described → Declared
 declared_by state.Unknown interfaces = Nothing
 declared_by (state.Pcap head) interfaces = PcapFile head
 declared_by (state.Pcapng order first) interfaces =
     PcapngFile first (record { order = order; interfaces = interfaces })
-
--- the byte order of the current section, and the first link type
-abbrev pub known_order : FileState → Option Order
-known_order state.Unknown = None
-known_order (state.Pcap head) = None
-known_order (state.Pcapng order first) = Some order
-
-abbrev pub known_first_link : FileState → Option ℕ
-known_first_link state.Unknown = None
-known_first_link (state.Pcap head) = Some head.link
-known_first_link (state.Pcapng order first) = first
-
--- Before anything is read there is no interface. A section has no more than may be, and the first
--- link type of a file is known once its section has one.
-abbrev pub IsConsistent : FileState → List Described → Type 0
-IsConsistent state.Unknown interfaces = interfaces ≡ []
-IsConsistent (state.Pcap head) interfaces = Unit {0}
-IsConsistent (state.Pcapng order first) interfaces =
-    (first_link_after first (record { order = order; interfaces = interfaces }) ≡ first)
-    × FitSection interfaces
-
--- ---- the current packet
-
--- its unit lies in the buffer, and its data and its options in its unit
-pub record FitsBuffer (spans : PacketSpans) (buffer : List ℕ) : Type 0 where
-  pub bytes : spans.bytes.start + spans.bytes.length ≤ spans.size
-  pub options : spans.options.start + spans.options.length ≤ spans.size
-  pub there : spans.size ≤ length buffer
-  pub some : 0 < spans.size
-  pub small : spans.size ≤ most_in_unit
-  pub time : spans.time < 2 ^ 63
 
 abbrev pub packet_in_unit : Declared → PacketSpans → List ℕ → Option Captured
 packet_in_unit Nothing spans block = None
@@ -224,142 +130,3 @@ packet_in_unit (PcapngFile first section) spans block =
     (λ (i : Described). packet_of i spans.time spans.orig (span_bytes spans.bytes block)
     (comment_in section.order (span_bytes spans.options block)))
     (slice_get section.interfaces spans.interface)
-
--- its interface is known
-abbrev pub HasInterface : Declared → PacketSpans → Type 0
-HasInterface Nothing spans = ⊥
-HasInterface (PcapFile head) spans = Unit {0}
-HasInterface (PcapngFile first section) spans =
-    is_some (slice_get section.interfaces spans.interface) ≡ true
-
-abbrev pub HasInterfaceIfAny : Declared → PacketSpans → NextUnit → Type 0
-HasInterfaceIfAny declared spans (next_unit.Other size) = Unit {0}
-HasInterfaceIfAny declared spans next_unit.Packet = HasInterface declared spans
-HasInterfaceIfAny declared spans next_unit.End = Unit {0}
-
--- where the packet of a record lies
-abbrev pub record_spans : RecordHead → PacketSpans
-record_spans found = record {
-  size = 16 + found.captured;
-  bytes = record { start = 16; length = found.captured };
-  options = record { start = 16; length = 0 };
-  interface = 0;
-  time = found.time;
-  orig = found.orig;
-}
-
--- A record that fails no check was taken from what the device had at hand, to the start of the
--- buffer.
-pub record RecordTaken {I : Type 0} (device : Ghosts I) (head : Head) (old : I) (buffer : List ℕ)
-    (found : RecordHead) (new : I) : Type 0 where
-  pub says : checked (first_failing (field_checks head (take 16 buffer)))
-      (record_header_in head (take 16 buffer)) ≡ Ok found
-  pub short : found.captured ≤ most_captured
-  pub in_range : found.time < 2 ^ 63
-  pub there : 16 + found.captured ≤ length buffer
-  pub counted : device.given new ≡ device.given old + (16 + found.captured)
-  pub bounded : device.given new < 2 ^ 63
-  pub failed : device.failures new ≡ device.failures old
-  pub sure : device.sure new ≡ device.sure old
-  pub enough : 0 < device.failures new → HasGiven (device.sure new) (device.given new)
-  pub splits : IsTrue device.tells
-      → device.unread old ≡ take (16 + found.captured) buffer ++ device.unread new
-
--- the device gave nothing
-pub record NothingTaken {I : Type 0} (device : Ghosts I) (old new : I) : Type 0 where
-  pub counted : device.given new ≡ device.given old
-  pub failed : device.failures new ≡ device.failures old
-  pub sure : device.sure new ≡ device.sure old
-  pub rest : IsTrue device.tells → device.unread new ≡ device.unread old
-
--- ---- a unit
-
--- a unit without a packet came
-pub record UnitPassed (declared : Declared) (unread : List ℕ) (size : ℕ) (declared' : Declared)
-    (unread' : List ℕ) : Type 0 where
-  pub bytes : List ℕ
-  pub unit : IsUnit declared bytes [] declared'
-  pub sized : length bytes ≡ size
-  pub splits : unread ≡ bytes ++ unread'
-
--- a unit with a packet came, and is at the start of the buffer
-pub record PacketCame (declared : Declared) (unread buffer : List ℕ) (spans : PacketSpans)
-    (declared' : Declared) (unread' : List ℕ) : Type 0 where
-  pub packet : Captured
-  pub is_lent : packet_in_unit declared spans (take spans.size buffer) ≡ Some packet
-  pub unit : IsUnit declared (take spans.size buffer) (packet ∷ []) declared
-  pub same : declared' ≡ declared
-  pub splits : unread ≡ take spans.size buffer ++ unread'
-
--- nothing is left after a unit
-pub record EndCame (declared : Declared) (unread : List ℕ) (declared' : Declared)
-    (unread' : List ℕ) : Type 0 where
-  pub ends : front_of declared [] ≡ Stops None
-  pub over : unread ≡ []
-  pub same : declared' ≡ declared
-  pub rest : unread' ≡ []
-
-abbrev pub UnitCame : Declared → List ℕ → List ℕ → PacketSpans → NextUnit → Declared → List ℕ
-    → Type 0
-UnitCame declared unread buffer spans (next_unit.Other size) declared' unread' =
-    UnitPassed declared unread size declared' unread'
-UnitCame declared unread buffer spans next_unit.Packet declared' unread' =
-    PacketCame declared unread buffer spans declared' unread'
-UnitCame declared unread buffer spans next_unit.End declared' unread' =
-    EndCame declared unread declared' unread'
-
--- how many bytes it has
-abbrev pub unit_size : PacketSpans → NextUnit → ℕ
-unit_size spans (next_unit.Other size) = size
-unit_size spans next_unit.Packet = spans.size
-unit_size spans next_unit.End = 0
-
--- what holds of it on any device
-abbrev pub IsSized : PacketSpans → NextUnit → List ℕ → ℕ → Type 0
-IsSized spans (next_unit.Other size) buffer given = (0 < size) × (given < 2 ^ 63)
-IsSized spans next_unit.Packet buffer given = FitsBuffer spans buffer × (given < 2 ^ 63)
-IsSized spans next_unit.End buffer given = Unit {0}
-
--- ---- what is read
-
--- the section in front of a block of such a file
-abbrev pub section_before : FileState → List Described → Option Section
-section_before state.Unknown interfaces = None
-section_before (state.Pcap head) interfaces = None
-section_before (state.Pcapng order first) interfaces =
-    Some (record { order = order; interfaces = interfaces })
-
--- these bytes begin a block: a section header where nothing was read, and any block after a
--- section
-abbrev pub BeginsBlock : FileState → List ℕ → Type 0
-BeginsBlock state.Unknown front = is_section front ≡ true
-BeginsBlock (state.Pcap head) front = ⊥
-BeginsBlock (state.Pcapng order first) front = Unit {0}
-
--- What reading a unit whose first bytes had come did: to the device, to the buffer, to where a
--- packet lies in it, and to what is known of the file. A fault leaves what is known.
-pub record ReadsUnit {I A : Type 0} (device : Ghosts I) (old : UnitReader I A) (front : List ℕ)
-    (r : Result NextUnit Fault) (new : UnitReader I A) : Type 0 where
-  pub moves : Moves device old.input new.input (length front) (unit_size new.spans) most_in_unit r
-  pub sized : IfOk r (λ came. IsSized new.spans came new.buffer.items (device.given new.input))
-  pub consistent : OnOk r (IsConsistent new.file new.table)
-  pub known : IfOk r (HasInterfaceIfAny (declared_by new.file new.table) new.spans)
-  pub ok : IfOk r
-      (λ came. IsTrue device.tells
-      → UnitCame (declared_by old.file old.table) (front ++ device.unread old.input)
-      new.buffer.items new.spans came (declared_by new.file new.table) (device.unread new.input))
-  pub err : IfErr r
-      (λ fault. IsTrue device.tells
-      → NoUnitCame (declared_by old.file old.table) (front ++ device.unread old.input)
-      (device.unread new.input) fault)
-  pub kept : OnErr r ((new.file ≡ old.file) × (new.table ≡ old.table))
-  -- the buffer has room for the unit, and never less; it has no more than a unit may need
-  pub grown : length old.buffer.items ≤ length new.buffer.items
-  pub bounded : length old.buffer.items ≤ most_in_unit → length new.buffer.items ≤ most_in_unit
-  pub fits : IfOk r
-      (λ came. held_length (declared_by old.file old.table) (declared_by new.file new.table)
-      (unit_size new.spans came) ≤ length new.buffer.items)
-  -- memory runs out only for a unit that takes some
-  pub memory : r ≡ Err NoMemory → IsTrue device.tells
-      → TakesMemory (length new.buffer.items) (declared_by old.file old.table)
-      (front ++ device.unread old.input)

@@ -1,7 +1,7 @@
 -- What a contract sees of a sink, and what its calls do.
-use Rattle.std.specs.Prelude.{◌≡◌, ◌⊎◌, ◌==◌, ℕ, Bool, true, false, not, ◌+◌, ◌≤◌, List, [], ◌∷◌, ◌++◌, length, map, nat_le, Option, None, Some, Result, Ok, Err, IfErr, IsTrue, OnOk, unwrap_or}
+use Rattle.std.specs.Prelude.{◌≡◌, ◌⊎◌, ◌==◌, ℕ, Bool, true, false, not, ◌+◌, ◌≤◌, List, [], ◌∷◌, ◌++◌, length, map, nat_le, Option, None, Some, Result, Ok, Err, IfErr, OnOk, unwrap_or}
 use Rattle.cap_octet.specs.Assigned.{LINKTYPE_ETHERNET}
-use Rattle.cap_octet.specs.Device.{AppendsOrStops, Stops, failures_of}
+use Rattle.cap_octet.specs.Device.{AppendsOrStops, Stops}
 use Rattle.cap_octet.specs.Packet.{Captured}
 use Rattle.cap_octet.specs.declared.fault.Fault.{Fault}
 use Rattle.cap_octet.specs.declared.fault.Fault.TheVariants.{LinkTypesDiffer, NoMemory, TooManyOutputInterfaces, WriteFailed}
@@ -11,9 +11,6 @@ use Rattle.cap_octet.specs.Checks.{first_failing}
 use Rattle.cap_pcap.specs.Encoding as pcap
 use Rattle.cap_pcap.specs.declared.header.Resolution.TheVariants.{Microseconds, Nanoseconds}
 use Rattle.cap_pcapng.specs.Encoding as pcapng
-use Rattle.cap_octet.specs.declared.device.DeviceFault.{DeviceFault}
-use Rattle.cap_octet.specs.declared.device.Output.{Ghosts}
-use Rattle.cap_io.specs.declared.numbering.InterfaceNumber.{InterfaceNumber}
 use Rattle.cap_io.specs.declared.sink.SinkState.{SinkState}
 use Rattle.cap_io.specs.declared.sink.SinkState.TheVariants.{Empty, Started, Broken}
 use Rattle.cap_io.specs.Text.{Interface, interface_of, interfaces_of, is_among, new_among, number_among, most_output_interfaces, file_start, record_text, descriptions, text}
@@ -41,8 +38,6 @@ sink_at format written failures room =
       room = room;
     }
 
--- ---- which packets were put
-
 abbrev pub state_after : List Captured → SinkState
 state_after [] = Empty
 state_after (p ∷ ps) = Started p.link
@@ -68,8 +63,6 @@ abbrev pub takes_memory : Format → List Captured → Captured → Bool
 takes_memory Pcap packets p = false
 takes_memory NsecPcap packets p = false
 takes_memory Pcapng packets p = not (is_among (map interface_of packets) (interface_of p))
-
--- ---- a packet that is put, by what the sink keeps
 
 -- whether a packet has the link type of the first
 abbrev pub has_link : SinkState → Captured → Bool
@@ -125,24 +118,6 @@ appended_packet Pcapng interfaces p =
 abbrev pub added_in : SinkView → Captured → List ℕ
 added_in sink p =
     file_start_in sink.format sink.state p.link ++ appended_packet sink.format sink.interfaces p
-
--- a packet of pcapng by the number of its interface
-abbrev pub description_text : Bool → Captured → List ℕ
-description_text true p = pcapng.interface_text p.link p.snap p.name
-description_text false p = []
-
-abbrev pub packet_block_text : InterfaceNumber → Captured → List ℕ
-packet_block_text interface p =
-    description_text interface.is_new p ++ pcapng.packet_block interface.number p
-
--- These bytes are appended to a device; or a prefix of them, not the whole, where it failed.
-pub record Appends {Device : Type 0} (d : Ghosts Device) (old : Device) (bytes : List ℕ)
-    (r : Result (Unit {0}) DeviceFault) (new : Device) : Type 0 where
-  pub appended : IsTrue d.tells → AppendsOrStops r (d.written old) bytes (d.written new)
-  pub failed : d.failures new ≡ d.failures old + failures_of r
-  pub room : d.room new ≡ d.room old
-
--- ---- put
 
 -- how often the device failed in a call: only a failed write tells that it did
 abbrev pub write_failures : {X : Type 0} → Result X Fault → ℕ
@@ -221,8 +196,6 @@ PutWrites Empty old p r new =
 PutWrites (Started link) old p r new =
     WritesPacket (refusal_in old p) (added_in old p) old.written r new.written
 PutWrites (Broken fault) old p r new = new ≡ old
-
--- ---- finish
 
 -- The file header or section header is written, or the device failed.
 abbrev pub IsFinishAnswer : Result (Unit {0}) Fault → Type 0

@@ -1,5 +1,5 @@
 -- What a contract sees of a source, and what its calls do.
-use Rattle.std.specs.Prelude.{◌≡◌, ℕ, ◌+◌, ◌^◌, ◌<◌, ◌≤◌, Bool, true, false, IsTrue, List, [], ◌∷◌, ◌++◌, length, take, Option, None, Some, Result, Ok, Err, OnOk, OnErr, is_some}
+use Rattle.std.specs.Prelude.{◌≡◌, ℕ, ◌+◌, ◌^◌, ◌<◌, ◌≤◌, Bool, true, false, List, [], ◌∷◌, ◌++◌, length, take, Option, None, Some, Result, Ok, Err, OnOk, OnErr, is_some}
 use Rattle.cap_octet.specs.Device.{HasGiven}
 use Rattle.cap_octet.specs.declared.device.Input.{Ghosts}
 use Rattle.cap_octet.specs.Packet.{Captured}
@@ -8,14 +8,10 @@ use Rattle.cap_octet.specs.declared.fault.Fault.TheVariants.{NoMemory}
 use Rattle.cap_pcapng.specs.Interface.{FitSection}
 use Rattle.cap_io.specs.declared.source.Stage.{Stage}
 use Rattle.cap_io.specs.declared.source.Stage.TheVariants as stage
-use Rattle.cap_io.specs.declared.file_state.NextUnit.{NextUnit}
-use Rattle.cap_io.specs.declared.file_state.NextUnit.TheVariants as next_unit
 use Rattle.cap_pcapng.specs.declared.effect.PacketSpans.{PacketSpans}
 use Rattle.cap_io.specs.declared.next_unit.UnitReader.{UnitReader}
 use Rattle.cap_io.specs.Capture.{Declared, Nothing, PcapFile, PcapngFile, IsUnit, AreUnits, Stops, front_of}
-use Rattle.cap_io.specs.Reading.{most_in_unit, read_failures, HasInterface, IsReason, IsTaken, FitsBuffer, FitUnits, TakesMemory, IsConsistent, declared_by, packet_in_unit}
-
--- ---- the view
+use Rattle.cap_io.specs.Reading.{most_in_unit, read_failures, IsReason, IsTaken, FitUnits, TakesMemory, declared_by, packet_in_unit}
 
 -- how far a source is: it goes on, or it met the clean end or a fault
 pub data Phase : Type 0 where
@@ -56,8 +52,6 @@ source_at unread given failures sure = record {
   room = 0;
 }
 
--- ---- the view of the fields
-
 abbrev pub phase_at : Stage → Phase
 phase_at stage.Between = Reading
 phase_at stage.InHand = Reading
@@ -90,30 +84,6 @@ view_of device stage r offset = record {
   sure = device.sure r.input;
   room = length r.buffer.items;
 }
-
-abbrev pub HoldsIfAny : Stage → PacketSpans → List ℕ → Type 0
-HoldsIfAny stage.Between spans buffer = Unit {0}
-HoldsIfAny stage.InHand spans buffer = FitsBuffer spans buffer
-HoldsIfAny stage.Ended spans buffer = Unit {0}
-HoldsIfAny (stage.Failed fault) spans buffer = Unit {0}
-
-abbrev pub HasInterfaceIfInHand : Stage → PacketSpans → Declared → Type 0
-HasInterfaceIfInHand stage.Between spans declared = Unit {0}
-HasInterfaceIfInHand stage.InHand spans declared = HasInterface declared spans
-HasInterfaceIfInHand stage.Ended spans declared = Unit {0}
-HasInterfaceIfInHand (stage.Failed fault) spans declared = Unit {0}
-
--- what holds of each source's fields
-pub record IsSound {I A : Type 0} (device : Ghosts I) (stage : Stage) (r : UnitReader I A)
-    (offset : ℕ) : Type 0 where
-  pub fits : offset + length (block_at stage r.spans r.buffer.items) < 2 ^ 63
-  pub counted : offset + length (block_at stage r.spans r.buffer.items) ≤ device.given r.input
-  pub lies : HoldsIfAny stage r.spans r.buffer.items
-  pub known : HasInterfaceIfInHand stage r.spans (declared_by r.file r.table)
-  pub consistent : IsConsistent r.file r.table
-  pub bounded : length r.buffer.items ≤ most_in_unit
-
--- ---- what an advance does
 
 -- The source leaves the current unit and skips these bytes, which are whole units without packets,
 -- to `rest`.
@@ -164,11 +134,6 @@ Finds old (Ok true) new = FindsPacket old new
 Finds old (Ok false) new = FindsEnd old new
 Finds old (Err fault) new = FindsFault old new fault
 
-abbrev pub Continues : SourceView → Result Bool Fault → SourceView → Type 0
-Continues old (Ok true) new = FindsPacket old new
-Continues old (Ok false) new = FindsEnd old new
-Continues old (Err fault) new = IsBroken old new fault
-
 -- a source at its end or after a fault returns that again, and stays
 abbrev pub Advances : Phase → SourceView → Result Bool Fault → SourceView → Type 0
 Advances Reading old r new = Finds old r new
@@ -218,70 +183,3 @@ abbrev pub Steps : Phase → SourceView → Result Bool Fault → SourceView →
 Steps Reading old r new = KeepsBounds old r new
 Steps Ended old r new = (r ≡ Ok false) × (new ≡ old)
 Steps (Failed fault) old r new = (r ≡ Err fault) × (new ≡ old)
-
--- ---- the parts of an advance
-
--- the current unit is left
-abbrev pub past_unit : SourceView → SourceView
-past_unit s = record {
-  phase = s.phase;
-  declared = s.declared;
-  packet = None;
-  block = [];
-  offset = s.offset + length s.block;
-  unread = s.unread;
-  given = s.given;
-  failures = s.failures;
-  sure = s.sure;
-  room = s.room;
-}
-
--- no packet is current
-pub record IsBetween (s : SourceView) : Type 0 where
-  pub phase : s.phase ≡ Reading
-  pub block : s.block ≡ []
-  pub packet : s.packet ≡ None
-
--- what a source that reads one unit finds there
-abbrev pub FindsNext : SourceView → Result NextUnit Fault → SourceView → Type 0
-FindsNext old (Ok next_unit.Packet) new = FindsPacket old new
-FindsNext old (Ok (next_unit.Other size)) new = SkipsUnits old new new.unread
-FindsNext old (Ok next_unit.End) new = FindsEnd old new
-FindsNext old (Err fault) new = IsBroken old new fault
-
--- and what holds of any device
-pub record NextBounds (old : SourceView) (r : Result NextUnit Fault)
-    (new : SourceView) : Type 0 where
-  pub given : old.given ≤ new.given
-  pub failures : new.failures ≡ old.failures + read_failures r
-  pub sure : new.sure ≡ old.sure
-  pub enough : 0 < new.failures → HasGiven new.sure new.given
-  pub block : length new.block ≤ new.room
-  pub held : new.room ≤ most_in_unit
-  pub room : old.room ≤ new.room
-  pub packet : r ≡ Ok next_unit.Packet
-      → (old.given < new.given) × (new.given < 2 ^ 63) × (is_some new.packet ≡ true)
-  pub counted : OnOk r (new.given + end_offset old ≡ old.given + end_offset new)
-  pub broken : OnErr r
-      ((old.given + end_offset new ≤ new.given + end_offset old)
-      × (new.given + end_offset old ≤ old.given + end_offset new + most_in_unit))
-  pub ended : r ≡ Ok next_unit.End → new.phase ≡ Ended
-  pub found : r ≡ Ok next_unit.Packet → new.phase ≡ Reading
-  pub passed : (size : ℕ) → r ≡ Ok (next_unit.Other size)
-      → (old.given < new.given) × (new.given < 2 ^ 63) × IsBetween new
-
--- the next unit, which the device had at hand, is taken: it has a packet
-pub record TakesNext (tells : Bool) (old new : SourceView) : Type 0 where
-  pub packet : IsTrue tells → FindsPacket old new
-  pub bounds : NextBounds old (Ok next_unit.Packet) new
-
--- the source stays where it is
-pub record TakesNothing (tells : Bool) (old new : SourceView) : Type 0 where
-  pub between : IsBetween new
-  pub declared : new.declared ≡ old.declared
-  pub offset : new.offset ≡ old.offset
-  pub given : new.given ≡ old.given
-  pub failures : new.failures ≡ old.failures
-  pub sure : new.sure ≡ old.sure
-  pub room : new.room ≡ old.room
-  pub unread : IsTrue tells → new.unread ≡ old.unread

@@ -2,7 +2,8 @@
 ghost use Rattle.std.specs.Prelude.{◌≡◌, ◌++◌, ◌≤◌, [], length, nat_le};
 ghost use Rattle.cap_octet.specs.Packet.{captured};
 ghost use Rattle.cap_io.specs.Text.{interface_of, is_same, most_output_interfaces, new_among};
-ghost use Rattle.cap_io.specs.Numbering.{Numbers, interface_in};
+ghost use Rattle.cap_io.specs.Numbering.{interface_in};
+ghost use Rattle.cap_io.specs.inside.Numbering.{Numbers};
 
 use cap_octet::{Fault, Packet};
 use cap_pcapng::Name;
@@ -62,7 +63,8 @@ pub(crate) struct OutputInterfaces<A: Allocator> {
 impl<A: Allocator> Model for OutputInterfaces<A> {
     ghost use Rattle.std.specs.Prelude.{List, map};
     ghost use Rattle.cap_io.specs.Text.{FitFile, Interface};
-    ghost use Rattle.cap_io.specs.Numbering.{IsFirst, interface_in};
+    ghost use Rattle.cap_io.specs.Numbering.{interface_in};
+    ghost use Rattle.cap_io.specs.inside.Numbering.{IsFirst};
 
     ghost Value = { List Interface };
 

@@ -3,8 +3,8 @@ ghost use Rattle.std.specs.Prelude.{◌≡◌, ℕ, ◌+◌, ◌^◌, ◌<◌, �
 ghost use Rattle.std.specs.Prelude.{List, [], length, IfSome, IsNone};
 ghost use Rattle.cap_pcapng.specs.Frame.{is_section};
 ghost use Rattle.cap_io.specs.Capture.{Nothing};
-ghost use Rattle.cap_io.specs.Reading.{HeaderCame, Moves, NothingTaken, ReadsUnit, RecordTaken};
-ghost use Rattle.cap_io.specs.Reading.{NoUnitCame, record_spans};
+ghost use Rattle.cap_io.specs.inside.Reading.{HeaderCame, Moves, NothingTaken, ReadsUnit, RecordTaken};
+ghost use Rattle.cap_io.specs.inside.Reading.{NoUnitCame, record_spans};
 ghost use Rattle.cap_pcap.specs.Record.{most_captured};
 ghost use Rattle.cap_io.specs.declared.file_state.FileState.TheVariants as state;
 

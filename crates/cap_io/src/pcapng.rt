@@ -2,9 +2,10 @@
 ghost use Rattle.std.specs.Prelude.{◌≡◌, ℕ, ◌+◌, ◌^◌, ◌<◌, ◌≤◌, ◌++◌, ◌∷◌, ◌⊎◌, IfOk, IfErr};
 ghost use Rattle.std.specs.Prelude.{IsTrue, OnErr, [], is_some, length};
 ghost use Rattle.cap_pcapng.specs.Interface.{FitSection};
-ghost use Rattle.cap_pcapng.specs.Effect.{Enters, IsEntryFault, section_of};
+ghost use Rattle.cap_pcapng.specs.Effect.{Enters, section_of};
+ghost use Rattle.cap_pcapng.specs.inside.Effect.{IsEntryFault};
 ghost use Rattle.cap_io.specs.Capture.{first_link_after};
-ghost use Rattle.cap_io.specs.Reading.{BeginsBlock, IsConsistent, ReadsUnit, known_order};
+ghost use Rattle.cap_io.specs.inside.Reading.{BeginsBlock, IsConsistent, ReadsUnit, known_order};
 
 use crate::file_state::{FileState, NextUnit};
 use crate::next_unit::UnitReader;

@@ -41,7 +41,8 @@ pub struct Source<I: Input, A: Allocator> {
 }
 
 impl<I: Input, A: Allocator> Model for Source<I, A> {
-    ghost use Rattle.cap_io.specs.Source.{SourceView, view_of, IsSound};
+    ghost use Rattle.cap_io.specs.Source.{SourceView, view_of};
+    ghost use Rattle.cap_io.specs.inside.Source.{IsSound};
 
     ghost Value = { SourceView };
 
@@ -57,10 +58,13 @@ impl<I: Input, A: Allocator> Source<I, A> {
     ghost use Rattle.cap_octet.specs.Packet.{captured};
     ghost use Rattle.cap_io.specs.Capture.{kind_of, first_link_of};
     ghost use Rattle.cap_io.specs.Reading.{most_in_unit};
-    ghost use Rattle.cap_io.specs.Source.{Reading, Advances, Continues, FindsNext, IsBetween};
-    ghost use Rattle.cap_io.specs.Source.{KeepsBounds, SectionFits, NextBounds, Steps, past_unit};
+    ghost use Rattle.cap_io.specs.Source.{Reading, Advances};
+    ghost use Rattle.cap_io.specs.inside.Source.{Continues, FindsNext, IsBetween};
+    ghost use Rattle.cap_io.specs.Source.{KeepsBounds, SectionFits, Steps};
+    ghost use Rattle.cap_io.specs.inside.Source.{NextBounds, past_unit};
     ghost use Rattle.cap_io.specs.Source.{phase_after};
-    ghost use Rattle.cap_io.specs.Source.{TakesNext, TakesNothing, source_at};
+    ghost use Rattle.cap_io.specs.Source.{source_at};
+    ghost use Rattle.cap_io.specs.inside.Source.{TakesNext, TakesNothing};
 
     /// A source of which nothing is read yet. It takes no memory.
     pub fn new(alloc: A, input: I) -> Self

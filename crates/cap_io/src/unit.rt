@@ -1,7 +1,8 @@
 //! The bytes of a unit, read from a device to the start of the block buffer.
 ghost use Rattle.std.specs.Prelude.{◌≡◌, ℕ, ◌+◌, ◌^◌, ◌<◌, ◌≤◌, ◌++◌, true, false, IsTrue, IfOk};
 ghost use Rattle.std.specs.Prelude.{IfErr, OnOk, if◌then◌else◌, length, take, drop, vec_len};
-ghost use Rattle.cap_io.specs.Reading.{FrontCame, FrontMissing, Moves, RestMissing, most_in_unit};
+ghost use Rattle.cap_io.specs.Reading.{most_in_unit};
+ghost use Rattle.cap_io.specs.inside.Reading.{FrontCame, FrontMissing, Moves, RestMissing};
 
 use cap_octet::{Fault, Input, read_full};
 use std::alloc::Allocator;

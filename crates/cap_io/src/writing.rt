@@ -5,7 +5,8 @@ ghost use Rattle.cap_octet.specs.Packet.{captured};
 ghost use Rattle.cap_pcap.specs.Encoding.{IsPcap, record_fit_checks, resolution_of};
 ghost use Rattle.cap_pcapng.specs.Encoding.{block_fit_checks};
 ghost use Rattle.cap_io.specs.Text.{record_text};
-ghost use Rattle.cap_io.specs.Sink.{Appends, packet_block_text, checks_in, file_start_in};
+ghost use Rattle.cap_io.specs.Sink.{checks_in, file_start_in};
+ghost use Rattle.cap_io.specs.inside.Sink.{Appends, packet_block_text};
 ghost use Rattle.cap_io.specs.declared.sink.SinkState.TheVariants as state;
 
 use crate::numbering::{InterfaceNumber, OutputInterfaces};

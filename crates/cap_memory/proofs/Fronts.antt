@@ -20,9 +20,9 @@ use Rattle.cap_io.specs.Capture.{Declared, Nothing, PcapFile, PcapngFile, IsUnit
 use Rattle.cap_io.proofs.CapturesCame.{first-packets, section-kept}
 use Rattle.cap_io.proofs.Fronts.{front_of-following, front_of-pcapng, front_of-record, front_of_block-none, is_pcapng-append}
 use Rattle.cap_io.proofs.Units.{front_of-unit}
-use Rattle.cap_memory.specs.Blocks.{Following, BlockStands, IsNoBlock, IsOfIfAny}
+use Rattle.cap_memory.specs.inside.Blocks.{Following, BlockStands, IsNoBlock, IsOfIfAny}
 use Rattle.cap_io.specs.Reading.{declared_by}
-use Rattle.cap_memory.specs.Units.{ArePlaced, Begins, IsNoUnit, BeginsWithUnit}
+use Rattle.cap_memory.specs.inside.Units.{ArePlaced, Begins, IsNoUnit, BeginsWithUnit}
 use Rattle.cap_memory.specs.declared.block.UnitPacket.{UnitPacket}
 use Rattle.cap_memory.specs.declared.block.Refusal.{Refusal}
 use Rattle.cap_memory.specs.declared.block.Refusal.TheVariants as refusal

@@ -7,7 +7,8 @@ use Rattle.cap_octet.specs.declared.fault.Fault.{Fault}
 use Rattle.cap_io.specs.Capture.{Declared, Stops, Whole, front_of}
 use Rattle.cap_io.specs.Reading.{declared_by}
 use Rattle.cap_memory.specs.Layout.{declared_in, first_interfaces, reader_form, most_known}
-use Rattle.cap_memory.specs.Units.{ArePlaced, Counts, IsPacketFound, IsNoUnit, IsAtEnd, IsPlaced, NextLeaves, Stays, BeginsWithUnit, comment_by, ends, fails, finds, is_full, placed_packet, passes}
+use Rattle.cap_memory.specs.Units.{IsPacketFound, NextLeaves, Stays, comment_by, ends, fails, finds, is_full, passes}
+use Rattle.cap_memory.specs.inside.Units.{ArePlaced, Counts, IsNoUnit, IsAtEnd, IsPlaced, BeginsWithUnit, placed_packet}
 use Rattle.cap_memory.specs.declared.block.UnitPacket.{UnitPacket}
 use Rattle.cap_memory.specs.declared.block.Refusal.TheVariants as refusal
 use Rattle.cap_io.specs.declared.file_state.FileState.{FileState}

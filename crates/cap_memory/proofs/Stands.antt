@@ -17,7 +17,7 @@ use Rattle.cap_pcapng.specs.Effect.{Enters, IsBlockFault}
 use Rattle.cap_pcapng.specs.declared.effect.PacketSpans.{PacketSpans}
 use Rattle.cap_io.proofs.BlocksCame.{BlockCame, FrontSays, WholeCame, block_came, front_says, says_after}
 use Rattle.cap_io.proofs.BlocksCame as came
-use Rattle.cap_memory.specs.Blocks.{BlockPacketIfAny, BlockStands, IsNoBlock, IsRefusal, spans_of}
+use Rattle.cap_memory.specs.inside.Blocks.{BlockPacketIfAny, BlockStands, IsNoBlock, IsRefusal, spans_of}
 use Rattle.cap_memory.specs.declared.block.Refusal.{Refusal}
 use Rattle.cap_memory.specs.declared.block.Refusal.TheVariants as refusal
 use Rattle.cap_memory.specs.declared.block.UnitPacket.{UnitPacket}

@@ -1,4 +1,4 @@
 pub mod Layout
-pub mod Blocks
 pub mod Units
 pub mod Writing
+pub mod inside

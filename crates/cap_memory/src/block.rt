@@ -5,8 +5,8 @@ ghost use Rattle.std.specs.Option.{option_map};
 ghost use Rattle.std.specs.List.{slice_get};
 ghost use Rattle.cap_pcapng.specs.Interface.{description_of};
 ghost use Rattle.cap_memory.specs.Layout.{described_of, first_interfaces};
-ghost use Rattle.cap_memory.specs.Blocks.{BlockIs, EntersTable, IsNoBlock, IsOf, IsRefusal};
-ghost use Rattle.cap_memory.specs.Blocks.{spans_of};
+ghost use Rattle.cap_memory.specs.inside.Blocks.{BlockIs, EntersTable, IsNoBlock, IsOf, IsRefusal};
+ghost use Rattle.cap_memory.specs.inside.Blocks.{spans_of};
 
 use crate::layout::Interface;
 use cap_octet::{Fault, Order};

@@ -5,8 +5,9 @@ ghost use Rattle.cap_pcapng.specs.Interface.{Described};
 ghost use Rattle.cap_pcapng.specs.Effect.{section_of};
 ghost use Rattle.cap_io.specs.Capture.{first_link_after, is_pcapng};
 ghost use Rattle.cap_memory.specs.Layout.{declared_in, first_interfaces};
-ghost use Rattle.cap_memory.specs.Units.{Begins, Counts, IsBare, IsNoUnit, IsAtEnd, IsSomeFor};
-ghost use Rattle.cap_memory.specs.Units.{NextLeaves, BeginsWithUnit, comment_by, placed_packet};
+ghost use Rattle.cap_memory.specs.inside.Units.{Begins, Counts, IsBare, IsNoUnit, IsAtEnd, IsSomeFor};
+ghost use Rattle.cap_memory.specs.Units.{NextLeaves, comment_by};
+ghost use Rattle.cap_memory.specs.inside.Units.{BeginsWithUnit, placed_packet};
 ghost use Rattle.cap_io.specs.declared.file_state.FileState.TheVariants as form;
 
 use crate::block::{Refusal, UnitPacket, read_block};

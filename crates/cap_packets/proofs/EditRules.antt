@@ -6,7 +6,8 @@ use Rattle.cap_window.specs.Marks.{has_same, last, mark_of}
 use Rattle.cap_window.specs.View.{WindowView, window}
 use Rattle.cap_window.proofs.Marks.{answers-has_same}
 use Rattle.cap_packets.specs.Verdict.{Judgement, unique, skip_judgement, passes}
-use Rattle.cap_packets.specs.Selector.{IsWindowFor, ReturnsVerdict, state_of}
+use Rattle.cap_packets.specs.Selector.{state_of}
+use Rattle.cap_packets.specs.inside.Selector.{IsWindowFor, ReturnsVerdict}
 use Rattle.cap_packets.specs.Reports.{Tally}
 
 pub unique-seen : (n : Option ℕ) (w new : WindowView) (passed : ℕ) (tally : Tally) (p : Captured) (seen : Bool) → IsWindowFor n (Some w) → IsTrue seen ↔ Contains w.marks (mark_of p.bytes)

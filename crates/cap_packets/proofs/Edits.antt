@@ -11,7 +11,8 @@ use Rattle.cap_window.proofs.Marks.{last-last}
 use Rattle.cap_io.specs.Sequence.{Packet, FaultIn}
 use Rattle.cap_packets.specs.Verdict.{Judgement, Edit, EditRule, SelectorState, initial_state, edited_packet_with, is_selected, shifted_time, passes, refuses, selects, skip_judgement, unique, with_mark}
 use Rattle.cap_packets.specs.Outcome.{Form, AsReports, JobProgress, apply_verdict, next_progress, end_with, apply_events}
-use Rattle.cap_packets.specs.Edits.{PassesUnique, coming, is_repeated, packets_selected, unique_after}
+use Rattle.cap_packets.specs.Edits.{coming, is_repeated, packets_selected, unique_after}
+use Rattle.cap_packets.specs.inside.Edits.{PassesUnique}
 use Rattle.cap_packets.proofs.Selectors.{upper_bound}
 
 abbrev reports : Form

@@ -17,7 +17,8 @@ use Rattle.cap_packets.specs.Reports.{Report}
 use Rattle.cap_io.specs.Sequence.{Complete}
 use Rattle.cap_packets.specs.Verdict.{SelectorState}
 use Rattle.cap_packets.specs.Outcome.{Form, AsCapture, AsReports, AsLines, closing_text, lines_text, final_text, form_refuses, output_text}
-use Rattle.cap_packets.specs.Output.{Target, Capture, Text, Lines, HasWrittenTo, PutsIntoOutput, Reports, form_to, written_to, failures_to}
+use Rattle.cap_packets.specs.Output.{Target, Capture, Text, Lines, HasWrittenTo, form_to, written_to, failures_to}
+use Rattle.cap_packets.specs.inside.Output.{PutsIntoOutput, Reports}
 use Rattle.cap_packets.specs.Reports.{report_text, reports_text}
 
 -- what is written is the form's

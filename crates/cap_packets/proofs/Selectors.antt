@@ -9,7 +9,8 @@ use Rattle.cap_window.specs.declared.mark.Mark.{Mark}
 use Rattle.cap_packets.specs.declared.selector.Verdict as code
 use Rattle.cap_packets.specs.Verdict.{Policy, Edit, Filter, KeepAll, Count, SelectorState, Judgement, Pass, PassLast, Skip, judge, judge_by, refuses, is_last}
 use Rattle.cap_packets.specs.Reports.{Tally, tally_with}
-use Rattle.cap_packets.specs.Selector.{PolicyState, IsWindowFor, ReturnsVerdict, is_count, count_limit, spent_by, spent_by_verdict, TakesTally, marks_in, verdict_if, places, state_of, verdict_of, IsVerdict}
+use Rattle.cap_packets.specs.Selector.{is_count, spent_by, spent_by_verdict, marks_in, places, state_of}
+use Rattle.cap_packets.specs.inside.Selector.{PolicyState, IsWindowFor, ReturnsVerdict, count_limit, TakesTally, verdict_if, verdict_of, IsVerdict}
 
 nat_le-true : (a b : ℕ) → a ≤ b → nat_le a b ≡ true
 nat_le-true a b h = grind (arith, nat_tests, h)

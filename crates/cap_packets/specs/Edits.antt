@@ -1,11 +1,10 @@
 -- What an edit makes of packets that come one after another: what is unique of what is selected.
-use Rattle.std.specs.Prelude.{◌≡◌, ℕ, ◌+◌, ◌-◌, ◌^◌, ◌<◌, Bool, false, if◌then◌else◌, List, [], ◌∷◌, ◌++◌, length, Option, None, Some}
+use Rattle.std.specs.Prelude.{ℕ, ◌+◌, ◌-◌, Bool, false, if◌then◌else◌, List, [], ◌∷◌, ◌++◌, Option, None, Some}
 use Rattle.cap_octet.specs.Packet.{Captured}
 use Rattle.cap_window.specs.declared.mark.Mark.{Mark}
 use Rattle.cap_window.specs.Marks.{mark_of, has_same, last}
 use Rattle.cap_io.specs.Sequence.{Event, Packet}
-use Rattle.cap_packets.specs.Verdict.{Edit, EditRule, edited_packet_with, is_selected, shifted_time}
-use Rattle.cap_packets.specs.Outcome.{AsReports, no_progress, apply_events}
+use Rattle.cap_packets.specs.Verdict.{EditRule, edited_packet_with, is_selected, shifted_time}
 
 abbrev pub selected_at : EditRule → Captured → Option ℕ → List Captured → List Captured
 selected_at s p None rest = []
@@ -36,11 +35,3 @@ unique_after n before (p ∷ ps) =
 abbrev pub coming : List Captured → List Event
 coming [] = []
 coming (p ∷ ps) = Packet 0 (record { offset = 0; packet = p }) ∷ coming ps
-
--- where nothing is refused in writing, what passes of fewer than 2^63 packets is what is unique of
--- what is selected
-abbrev pub PassesUnique : Type 0
-PassesUnique =
-    (s : EditRule) (ps : List Captured) → length ps < 2 ^ 63
-    → (apply_events (Edit s) (AsReports []) no_progress (coming ps)).packets
-    ≡ unique_after s.window [] (packets_selected s 1 ps)

@@ -7,3 +7,4 @@ pub mod Whole
 pub mod Reports
 pub mod Verdict
 pub mod Messages
+pub mod inside

@@ -1,5 +1,5 @@
 -- Reports of files.
-use Rattle.std.specs.Prelude.{ℕ, ◌+◌, ◌-◌, ◌/◌, ◌%◌, ◌^◌, ◌<◌, ◌==◌, ◌&&◌, Bool, true, false, if◌then◌else◌, nat_le, min, max, List, [], ◌∷◌, ◌++◌, length, codes, Option, None, Some, unwrap_or}
+use Rattle.std.specs.Prelude.{ℕ, ◌+◌, ◌-◌, ◌/◌, ◌%◌, ◌==◌, ◌&&◌, Bool, true, false, if◌then◌else◌, nat_le, min, max, List, [], ◌∷◌, ◌++◌, length, codes, Option, None, Some, unwrap_or}
 use Rattle.std.specs.List.{flat_map, slice_get}
 use Rattle.std.specs.Fmt.{decimal}
 use Rattle.cap_octet.specs.Date.{NANOS_PER_SECOND, date_text, digits}
@@ -8,8 +8,6 @@ use Rattle.cap_octet.specs.Packet.{Captured}
 use Rattle.cap_octet.specs.declared.format.Format.TheVariants as format
 use Rattle.cap_io.specs.declared.source.Kind.{Kind}
 use Rattle.cap_io.specs.declared.source.Kind.TheVariants as kind
-
--- ---- tallies
 
 -- what is counted of the packets of a file: how many, the sums of original and captured lengths,
 -- the least, the greatest and the last time, and whether no time is less than the one before it
@@ -45,12 +43,6 @@ tally_with t p = record {
   last = p.time;
   strict = t.strict && nat_le t.last p.time;
 }
-
--- one packet more fits the tally's numbers
-abbrev pub FitsTally : Tally → Type 0
-FitsTally t = (t.count < 2 ^ 127) × (t.data_size < 2 ^ 127) × (t.captured_size < 2 ^ 127)
-
--- ---- reports
 
 pub record Report : Type 0 where
   pub input : ℕ

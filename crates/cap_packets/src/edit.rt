@@ -5,9 +5,10 @@ ghost use Rattle.cap_io.specs.Reading.{most_in_unit};
 ghost use Rattle.cap_packets.specs.Verdict.{edited_packet_with, is_before_stop, is_from_start, is_selected};
 ghost use Rattle.cap_packets.specs.Verdict.{shifted_time, selects};
 ghost use Rattle.cap_packets.specs.Verdict.{bytes_within_snap, unique, without_first, without_last};
-ghost use Rattle.cap_packets.specs.Selector.{IsWindowFor, ReturnsVerdict, marks_in, edit_rule_of};
+ghost use Rattle.cap_packets.specs.Selector.{marks_in, edit_rule_of};
+ghost use Rattle.cap_packets.specs.inside.Selector.{IsWindowFor, ReturnsVerdict};
 ghost use Rattle.cap_packets.specs.Selector.{state_of};
-ghost use Rattle.cap_packets.specs.Edits.{PassesUnique};
+ghost use Rattle.cap_packets.specs.inside.Edits.{PassesUnique};
 ghost use Rattle.cap_packets.specs.Reports.{Tally};
 
 use cap_command::{Edit, Shift};

@@ -48,7 +48,7 @@ impl<O: Output, A: Allocator> Model for JobOutput<O, A> {
 impl<O: Output, A: Allocator> JobOutput<O, A> {
     ghost use Rattle.std.specs.Prelude.{◌≡◌, IsTrue};
     ghost use Rattle.cap_octet.specs.Packet.{captured};
-    ghost use Rattle.cap_packets.specs.Output.{EndsOutput, ListsText, PutsIntoOutput, Reports};
+    ghost use Rattle.cap_packets.specs.inside.Output.{EndsOutput, ListsText, PutsIntoOutput, Reports};
     ghost use Rattle.cap_packets.specs.Output.{HasFewOutputInterfaces, failures_to};
     ghost use Rattle.cap_packets.specs.Output.{target_at, written_to};
     ghost use Rattle.cap_packets.specs.Reports.{file_report};

@@ -5,11 +5,14 @@ ghost use Rattle.cap_octet.specs.Packet.{Captured, captured};
 ghost use Rattle.cap_io.specs.Reading.{most_in_unit};
 ghost use Rattle.cap_filter.specs.Programs.{spent_in};
 ghost use Rattle.cap_packets.specs.Verdict.{is_last, judge_by};
-ghost use Rattle.cap_packets.specs.Selector.{IsWindowFor, ReturnsVerdict, count_limit, is_count};
+ghost use Rattle.cap_packets.specs.Selector.{is_count};
+ghost use Rattle.cap_packets.specs.inside.Selector.{IsWindowFor, ReturnsVerdict, count_limit};
 ghost use Rattle.cap_packets.specs.Selector.{marks_in};
-ghost use Rattle.cap_packets.specs.Selector.{most_spent, verdict_if, policy_of, programs_in};
+ghost use Rattle.cap_packets.specs.Selector.{most_spent, policy_of, programs_in};
+ghost use Rattle.cap_packets.specs.inside.Selector.{verdict_if};
 ghost use Rattle.cap_packets.specs.Selector.{spent_by};
-ghost use Rattle.cap_packets.specs.Selector.{state_of, verdict_of, window_of};
+ghost use Rattle.cap_packets.specs.Selector.{state_of, window_of};
+ghost use Rattle.cap_packets.specs.inside.Selector.{verdict_of};
 ghost use Rattle.cap_packets.specs.Reports.{Tally, nothing_counted};
 ghost use Rattle.cap_window.specs.View.{window};
 
@@ -57,8 +60,9 @@ pub struct Selector<A: Allocator> {
 
 impl<A: Allocator> Model for Selector<A> {
     ghost use Rattle.std.specs.Coded.{codes};
-    ghost use Rattle.cap_filter.specs.Programs.{coded_expression};
-    ghost use Rattle.cap_packets.specs.Selector.{IsWindowFor, SelectorView, policy_of, marks_in};
+    ghost use Rattle.cap_filter.specs.inside.Programs.{coded_expression};
+    ghost use Rattle.cap_packets.specs.Selector.{SelectorView, policy_of, marks_in};
+    ghost use Rattle.cap_packets.specs.inside.Selector.{IsWindowFor};
     ghost use Rattle.cap_packets.specs.Selector.{programs_in, state_of, window_of};
 
     ghost Value = { SelectorView };
@@ -162,11 +166,12 @@ impl<A: Allocator> Policy<A> {
 impl<A: Allocator> Selector<A> {
     ghost use Rattle.std.specs.Prelude.{IfOk};
     ghost use Rattle.cap_filter.specs.Filters.{programs_of, rule_of};
-    ghost use Rattle.cap_packets.specs.Reports.{FitsTally};
+    ghost use Rattle.cap_packets.specs.inside.Reports.{FitsTally};
     ghost use Rattle.cap_packets.specs.Verdict.{Filter as AskedFilter, judge};
-    ghost use Rattle.cap_packets.specs.Selector.{GrowsByOne, HasFewMarks, IsVerdict};
-    ghost use Rattle.cap_packets.specs.Reports.{FitsTally};
-    ghost use Rattle.cap_packets.specs.Selector.{SelectorView, TakesTally, policy_state};
+    ghost use Rattle.cap_packets.specs.inside.Selector.{GrowsByOne, HasFewMarks, IsVerdict};
+    ghost use Rattle.cap_packets.specs.inside.Reports.{FitsTally};
+    ghost use Rattle.cap_packets.specs.Selector.{SelectorView};
+    ghost use Rattle.cap_packets.specs.inside.Selector.{TakesTally, policy_state};
     ghost use Rattle.cap_packets.specs.Selector.{spent_by_verdict, state_with};
 
     /// A selector that has met nothing. Where it looks for duplicates it takes the memory of their

@@ -52,7 +52,8 @@ impl Model for Tally {
 impl Tally {
     ghost use Rattle.std.specs.Prelude.{◌≡◌, ◌+◌, ◌^◌, ◌≤◌, length};
     ghost use Rattle.cap_octet.specs.Packet.{captured};
-    ghost use Rattle.cap_packets.specs.Reports.{FitsTally, tally_with, nothing_counted};
+    ghost use Rattle.cap_packets.specs.Reports.{tally_with, nothing_counted};
+    ghost use Rattle.cap_packets.specs.inside.Reports.{FitsTally};
 
     /// No packets.
     pub fn new() -> Self

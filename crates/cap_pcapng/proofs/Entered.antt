@@ -24,7 +24,8 @@ use Rattle.cap_pcapng.specs.declared.blocks.SimpleBlock.{SimpleBlock}
 use Rattle.cap_pcapng.specs.declared.frames.BlockType.{BlockType}
 use Rattle.cap_pcapng.specs.declared.frames.BlockType.TheVariants as type
 use Rattle.cap_pcapng.specs.declared.frames.Frame.{Frame}
-use Rattle.cap_pcapng.specs.Effect.{Enters, IsBlockFault, PacketFound, held_packet, section_of, fault_among, span_bytes}
+use Rattle.cap_pcapng.specs.Effect.{Enters, IsBlockFault, held_packet, section_of, span_bytes}
+use Rattle.cap_pcapng.specs.inside.Effect.{PacketFound, fault_among}
 use Rattle.cap_pcapng.specs.declared.effect.PacketSpans.{PacketSpans}
 use Rattle.cap_pcapng.proofs.Faults.{all_failing, all_of_options}
 

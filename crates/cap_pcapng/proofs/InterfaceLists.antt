@@ -9,8 +9,9 @@ use Rattle.cap_octet.proofs.Checks.{met_front, failing_front}
 use Rattle.cap_octet.specs.Checks.{first_failing}
 use Rattle.cap_octet.specs.declared.fault.Fault.{Fault}
 use Rattle.cap_octet.specs.declared.number.Order.{Order}
-use Rattle.cap_pcapng.specs.Interface.{Adds, IsFound, is_found}
-use Rattle.cap_pcapng.specs.InterfaceOptions.{checks_after, first_checks, first_value, fitting_options, list_checks, name_code, offset_code, offset_in_value, resolution_code, units_in_value, value_for}
+use Rattle.cap_pcapng.specs.inside.Interface.{Adds, IsFound, is_found}
+use Rattle.cap_pcapng.specs.InterfaceOptions.{checks_after, first_checks, first_value, fitting_options, list_checks, name_code, offset_code, offset_in_value, resolution_code, units_in_value}
+use Rattle.cap_pcapng.specs.inside.InterfaceOptions.{value_for}
 use Rattle.cap_pcapng.specs.OptionList.{CodedValue}
 use Rattle.cap_pcapng.specs.Time.{microseconds}
 use Rattle.cap_pcapng.specs.declared.interface.Found.{Found}

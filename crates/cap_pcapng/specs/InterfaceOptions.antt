@@ -2,12 +2,11 @@
 -- (draft-ietf-opsawg-pcapng, "Interface Description Block").
 use Rattle.std.specs.Prelude.{ℕ, ◌==◌, if◌then◌else◌, Bool, false, ℤ, List, [], ◌∷◌, ◌++◌, length, slice_index, nat_le, Option, Some, None, is_some, Result, Ok, Err}
 use Rattle.std.specs.Int.{cast_signed, w64}
-use Rattle.cap_octet.specs.Checks.{first_failing}
 use Rattle.cap_octet.specs.Number.{number_in}
 use Rattle.cap_octet.specs.declared.fault.Fault.{Fault}
 use Rattle.cap_octet.specs.declared.fault.Fault.TheVariants.{BadOption, BadTimeResolution}
 use Rattle.cap_octet.specs.declared.number.Order.{Order}
-use Rattle.cap_pcapng.specs.OptionList.{CodedValue, options_in}
+use Rattle.cap_pcapng.specs.OptionList.{CodedValue}
 use Rattle.cap_pcapng.specs.Time.{is_resolution, units_by}
 
 -- the codes of the options that are looked at
@@ -19,8 +18,6 @@ resolution_code = 9
 
 abbrev pub offset_code : ℕ
 offset_code = 14
-
--- ---- the checks
 
 abbrev pub name_checks : List ℕ → List (Bool × Fault)
 name_checks value = (nat_le (length value) 255, BadOption) ∷ []
@@ -40,10 +37,6 @@ first_checks option =
     else (if option.code == offset_code then offset_checks option.value
     else []))
 
--- the value of an option, if it has this code
-abbrev pub value_for : ℕ → CodedValue → Option (List ℕ)
-value_for code option = if option.code == code then Some option.value else None
-
 -- the value of the first option of a code
 abbrev pub first_value : ℕ → List CodedValue → Option (List ℕ)
 first_value code [] = None
@@ -62,12 +55,6 @@ list_checks before [] = []
 list_checks before (Err fault ∷ items) = (false, fault) ∷ list_checks before items
 list_checks before (Ok option ∷ items) =
     checks_after before option ++ list_checks (before ++ option ∷ []) items
-
--- why a list of options can't be read
-abbrev pub options_fault : Order → List ℕ → Option Fault
-options_fault order text = first_failing (list_checks [] (options_in order text))
-
--- ---- what they say
 
 -- the options whose values fit
 abbrev pub fitting_options : List (Result CodedValue Fault) → List CodedValue

@@ -11,3 +11,4 @@ pub mod Padding
 pub mod Time
 pub mod Unit
 pub mod Encoding
+pub mod inside

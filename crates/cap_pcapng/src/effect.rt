@@ -2,7 +2,8 @@
 ghost use Rattle.std.specs.Prelude.{◌≡◌, ◌+◌, ◌≤◌, IfOk, IfErr, length};
 ghost use Rattle.cap_pcapng.specs.Answer.{ChecksGive};
 ghost use Rattle.cap_pcapng.specs.Block.{parts_of};
-ghost use Rattle.cap_pcapng.specs.Effect.{HasEffect, IsBlockFault, PacketFound, fault_among};
+ghost use Rattle.cap_pcapng.specs.Effect.{HasEffect, IsBlockFault};
+ghost use Rattle.cap_pcapng.specs.inside.Effect.{PacketFound, fault_among};
 ghost use Rattle.cap_pcapng.specs.Effect.{span_bytes};
 ghost use Rattle.cap_pcapng.specs.Unit.{checks_among};
 ghost use Rattle.cap_pcapng.specs.declared.blocks.Block.TheVariants as a;

@@ -88,7 +88,7 @@ fn offset_in(order: Order, value: &[u8]) -> Result<i64, Fault>
 }
 
 impl<'a> Found<'a> {
-    ghost use Rattle.cap_pcapng.specs.Interface.{Adds, IsFound, is_found};
+    ghost use Rattle.cap_pcapng.specs.inside.Interface.{Adds, IsFound, is_found};
     ghost use Rattle.cap_pcapng.specs.InterfaceOptions.{first_checks, fitting_options, list_checks};
     ghost use Rattle.cap_pcapng.specs.OptionList.{coded_value, options_left};
 

@@ -1,6 +1,6 @@
 //! Outputs that are a file which is read too, under another name or through links.
 ghost use Rattle.std.specs.Prelude.{◌≡◌, false, true, is_none, option_map, string_bytes, vec_len};
-ghost use Rattle.cap_streams.specs.Streams.{input_path, output_path};
+ghost use Rattle.cap_streams.specs.inside.Streams.{input_path, output_path};
 
 use crate::files::{Identify, Identity};
 use capkit::{Line, STANDARD};

@@ -3,7 +3,8 @@ ghost use Rattle.std.specs.Prelude.{◌≡◌, ◌≢◌, ◌||◌, IfOk, OnOk, 
 ghost use Rattle.std.specs.Io.{WritesAtMost};
 ghost use Rattle.std.specs.Io.KnownBytes.{WriteAppends};
 ghost use Rattle.capkit.specs.Names.{is_standard};
-ghost use Rattle.cap_streams.specs.Streams.{holds_old_bytes, is_standard_input, is_standard_output};
+ghost use Rattle.cap_streams.specs.Streams.{holds_old_bytes};
+ghost use Rattle.cap_streams.specs.inside.Streams.{is_standard_input, is_standard_output};
 
 use crate::USAGE;
 use capkit::STANDARD;

@@ -27,20 +27,25 @@ use Rattle.cap_packets.specs.declared.selector.Verdict as code
 use Rattle.cap_packets.specs.declared.selector.Verdict.TheVariants as code_verdict
 use Rattle.cap_tools.specs.declared.step.JobEnd.TheVariants as end
 use Rattle.cap_inputs.specs.declared.inputs.Next.TheVariants as next
-use Rattle.cap_packets.specs.Reports.{FitsTally, Tally}
+use Rattle.cap_packets.specs.Reports.{Tally}
+use Rattle.cap_packets.specs.inside.Reports.{FitsTally}
 use Rattle.cap_io.specs.Sequence.{InputItems, Event, Packet, SequenceEnd, Complete, FaultIn, Sequence, sequence_of, with_front, PacketOrder}
 use Rattle.cap_packets.specs.Verdict.{Policy, Edit, Filter, KeepAll, Count, EditRule, SelectorState, Verdict, Pass, PassLast, PassesAs, Skip, Refuse, judge}
 use Rattle.cap_window.specs.Marks.{mark_of, has_same}
 use Rattle.cap_packets.specs.Verdict as judged_spec
-use Rattle.cap_packets.specs.Selector.{PolicyState, GrowsByOne, IsWithin, IsVerdict}
+use Rattle.cap_packets.specs.Selector.{IsWithin}
+use Rattle.cap_packets.specs.inside.Selector.{PolicyState, GrowsByOne, IsVerdict}
 use Rattle.cap_print.specs.declared.print.Options.{Options}
 use Rattle.cap_print.specs.Rendering.{printed_text}
 use Rattle.cap_packets.specs.Outcome.{Form, AsCapture, AsLines, JobProgress, IsNextEvent, lines_text, no_progress, decide, decide_unless, apply_verdict, apply_event, apply_events, final_progress, packet_bytes, form_refuses, end_with, final_text, first_link, output_text}
 use Rattle.cap_packets.specs.Outcome as course_spec
-use Rattle.cap_packets.specs.Output.{JobOutputView, Target, Capture, Text, Lines, HasWritten, PutsIntoOutput, form_at, form_to, output_at, written_to, failures_to}
-use Rattle.cap_inputs.specs.Inputs.{InputView, InputsView, Future, InputPast, AreInputsAfter, AreSettled, IsInput, input_after_decided, actual_future, inputs_with, items_left, inputs_left, sequence_left, most_steps}
+use Rattle.cap_packets.specs.Output.{JobOutputView, Target, Capture, Text, Lines, HasWritten, form_at, form_to, output_at, written_to, failures_to}
+use Rattle.cap_packets.specs.inside.Output.{PutsIntoOutput}
+use Rattle.cap_inputs.specs.Inputs.{InputView, InputsView, Future, InputPast, AreInputsAfter, AreSettled, IsInput, input_after_decided, inputs_with, items_left, inputs_left, sequence_left}
+use Rattle.cap_inputs.specs.inside.Inputs.{actual_future, most_steps}
 use Rattle.cap_inputs.specs.Inputs as input_spec
-use Rattle.cap_tools.specs.Packets.{JobState, PacketsDecided, GoesOn, CompletesOutput, DecidesPacket, Offers, StopsWriting, NextPacket, EndLeaves, progress_at, progress_of, progress_over, output_form, wholes_of, work_of, written_by, end_of_failed_write, sieve}
+use Rattle.cap_tools.specs.Packets.{JobState, PacketsDecided, GoesOn, CompletesOutput, StopsWriting, NextPacket, EndLeaves, progress_at, progress_of, progress_over, output_form, wholes_of, work_of, written_by}
+use Rattle.cap_tools.specs.inside.Packets.{DecidesPacket, Offers, end_of_failed_write, sieve}
 use Rattle.cap_tools.proofs.Places.{get-at}
 use Rattle.cap_tools.proofs.Splits.{At, stands-split, stands-join, stands-length, rests-join, finish-here, come-on}
 use Rattle.cap_tools.proofs.Coming.{carries-decided, come-first, true-wholes, true-fit, true-fits}

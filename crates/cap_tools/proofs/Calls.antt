@@ -23,7 +23,8 @@ use Rattle.cap_octet.specs.Views.{OutputView, output_view}
 use Rattle.cap_packets.specs.Messages.{IsTold}
 use Rattle.cap_tools.specs.Listing.{Runs}
 use Rattle.cap_octet.specs.Views.{FreshInput}
-use Rattle.cap_inputs.specs.Fresh.{fresh_limits, fresh_view, nothing_done}
+use Rattle.cap_inputs.specs.Fresh.{fresh_view, nothing_done}
+use Rattle.cap_inputs.specs.inside.Fresh.{fresh_limits}
 use Rattle.cap_inputs.specs.Inputs.{DeviceLimits, InputView, InputsView, InputPast, input_after, device_limits, limits_of, offset_at}
 use Rattle.cap_io.specs.Sequence.{InputItems, Event, Packet, InputEnd, SequenceEnd, Complete, FaultIn, PacketOrder, InTurn, ByTime, whole_input}
 use Rattle.cap_packets.specs.declared.output.Writing.{Writing}

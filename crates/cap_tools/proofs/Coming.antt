@@ -9,7 +9,8 @@ use Rattle.cap_io.specs.Position.{IsAt, pending}
 use Rattle.cap_io.proofs.Items.{items_from-stops}
 use Rattle.cap_io.proofs.Standing.{IsAt-items, items-begin, Advances-sound}
 use Rattle.cap_io.specs.Sequence.{InputItems, Event, Packet, InputEnd, FaultIn, Sequence, sequence_of, sequence_in_turn, input_sequence, with_front, whole_input, PacketOrder}
-use Rattle.cap_inputs.specs.Inputs.{InputView, InputsView, Future, InputPast, AreInputsAfter, AreFutures, AreSettled, actual_future, waiting_packets, packets_at, input_items, inputs_with, items_left, inputs_left, sequence_left, no_future, input_after, input_after_decided}
+use Rattle.cap_inputs.specs.Inputs.{InputView, InputsView, Future, InputPast, AreInputsAfter, AreFutures, AreSettled, waiting_packets, packets_at, input_items, inputs_with, items_left, inputs_left, sequence_left, no_future, input_after, input_after_decided}
+use Rattle.cap_inputs.specs.inside.Inputs.{actual_future}
 use Rattle.cap_tools.specs.Packets.{wholes_of}
 use Rattle.cap_packets.specs.Outcome.{ComeFirst}
 use Rattle.cap_tools.proofs.Splits.{At, Fit, Carries}

@@ -4,7 +4,8 @@ use Rattle.std.proofs.lemmas.List.{append-nil}
 use Rattle.cap_octet.specs.declared.device.Stopped.{Stopped}
 use Rattle.flt_bpf.specs.Listing.{listing}
 use Rattle.cap_packets.specs.Messages.{write_failed_message}
-use Rattle.cap_packets.specs.Output.{Target, Capture, Text, Lines, ListsText, output_at, target_at, written_to, failures_to}
+use Rattle.cap_packets.specs.Output.{Target, Capture, Text, Lines, output_at, target_at, written_to, failures_to}
+use Rattle.cap_packets.specs.inside.Output.{ListsText}
 use Rattle.cap_packets.specs.Reports.{name_at, nothing_counted}
 use Rattle.cap_tools.specs.Packets.{JobState, written_by}
 use Rattle.cap_tools.specs.Messages.{MessagesView}
@@ -30,11 +31,13 @@ use Rattle.cap_inputs.specs.Fresh.{fresh_inputs, nothing_done}
 use Rattle.cap_io.specs.Sequence.{order_of}
 use Rattle.cap_tools.specs.declared.step.JobEnd.TheVariants as end
 use Rattle.cap_inputs.specs.Inputs.{InputsView, steps_left}
-use Rattle.cap_tools.specs.FirstStep.{EndsList, is_text, output_by}
-use Rattle.cap_tools.specs.Step.{ending}
+use Rattle.cap_tools.specs.FirstStep.{output_by}
+use Rattle.cap_tools.specs.inside.FirstStep.{EndsList, is_text}
+use Rattle.cap_tools.specs.inside.Step.{ending}
 use Rattle.cap_tools.specs.Start.{Assignment, FilterAsked, Preparing, assignment}
 use Rattle.cap_packets.specs.Selector.{SelectorView, state_with}
-use Rattle.cap_tools.specs.Commands.{IsReadyIf, CompileGives, DecidedBy, FilterGives, KeepsFirst, PreparesOnly, StepKeeps, preparing_left}
+use Rattle.cap_tools.specs.Commands.{CompileGives, DecidedBy, FilterGives, PreparesOnly, StepKeeps, preparing_left}
+use Rattle.cap_tools.specs.inside.Commands.{IsReadyIf, KeepsFirst}
 use Rattle.cap_tools.proofs.CommandRuns.{RunsBy, RunsCommand}
 use Rattle.cap_tools.proofs.Programs.{new-for}
 use Rattle.cap_tools.proofs.Starts.{nothing-decided, first-few, first-less}

@@ -12,7 +12,7 @@ use Rattle.cap_inputs.specs.Inputs.{InputView, InputPast}
 use Rattle.cap_tools.specs.Packets.{JobState, StepGives, output_form, work_of}
 use Rattle.cap_tools.specs.Jobs.{JobView, EndsJob, end_message, end_status}
 use Rattle.cap_inputs.specs.Inputs.{offset_at, offset_of}
-use Rattle.cap_tools.specs.Step.{IsStep, ending}
+use Rattle.cap_tools.specs.inside.Step.{IsStep, ending}
 use Rattle.cap_tools.proofs.Runs.{IsUnderWay}
 
 pub offset-here : (cursors : List InputView) (i : ℕ) (h : InputView) → slice_get cursors i ≡ Some h → offset_at cursors i ≡ h.source.offset

@@ -16,13 +16,17 @@ use Rattle.cap_tools.specs.declared.step.JobEnd.{JobEnd}
 use Rattle.cap_packets.specs.Reports.{Report, Tally}
 use Rattle.cap_io.specs.Sequence.{InputItems, Event, FaultIn, PacketOrder, InTurn, ByTime, Sequence, sequence_of, with_front, whole_input}
 use Rattle.cap_packets.specs.Verdict.{Policy, Edit, Filter, KeepAll, Count, SelectorState}
-use Rattle.cap_packets.specs.Selector as selecting
-use Rattle.cap_packets.specs.Selector.{PolicyState, IsWithin, with_empty_tally, is_count}
+use Rattle.cap_packets.specs.inside.Selector as selecting_inside
+use Rattle.cap_packets.specs.Selector.{IsWithin, is_count}
+use Rattle.cap_packets.specs.inside.Selector.{PolicyState, with_empty_tally}
 use Rattle.cap_packets.specs.Outcome.{Form, AsReports, JobProgress, cut_at, no_progress, apply_events, final_progress, end_with, final_text, output_text, text_at_end, first_link}
-use Rattle.cap_packets.specs.Output.{JobOutputView, Target, Capture, Text, Lines, HasWritten, Reports, form_at, written_to, failures_to}
-use Rattle.cap_inputs.specs.Inputs.{InputView, InputsView, Future, InputPast, AreInputsAfter, AreSettled, IsInput, ReadsInput, IsNext, waiting_packets, input_after, actual_future, input_items, inputs_with, inputs_left, limits_of, sequence_left, is_in_turn}
+use Rattle.cap_packets.specs.Output.{JobOutputView, Target, Capture, Text, Lines, HasWritten, form_at, written_to, failures_to}
+use Rattle.cap_packets.specs.inside.Output.{Reports}
+use Rattle.cap_inputs.specs.Inputs.{InputView, InputsView, Future, InputPast, AreInputsAfter, AreSettled, IsInput, ReadsInput, IsNext, waiting_packets, input_after, input_items, inputs_with, inputs_left, limits_of, sequence_left}
+use Rattle.cap_inputs.specs.inside.Inputs.{actual_future, is_in_turn}
 use Rattle.cap_packets.specs.Reports.{report_text, reports_text}
-use Rattle.cap_tools.specs.Packets.{JobState, AppendsOnce, PacketsDecided, GoesOn, CompletesOutput, BreaksAt, WhyBroken, StopsWriting, StepLeaves, Closes, ClosesBy, asks_report, report_at, unless_failed, progress_at, progress_of, progress_over, output_form, failures_by, written_by, wholes_of, sieve}
+use Rattle.cap_tools.specs.Packets.{JobState, AppendsOnce, PacketsDecided, GoesOn, CompletesOutput, BreaksAt, WhyBroken, StopsWriting, StepLeaves, asks_report, report_at, progress_at, progress_of, progress_over, output_form, failures_by, written_by, wholes_of}
+use Rattle.cap_tools.specs.inside.Packets.{Closes, ClosesBy, unless_failed, sieve}
 use Rattle.cap_tools.proofs.Places.{get-at}
 use Rattle.cap_tools.proofs.Splits.{At, Fit, stands-split, stands-join, stands-length, fits-join, wholes-join, rests-join, finish-here, come-on}
 use Rattle.cap_tools.proofs.Coming.{carries-found, carries-closed, come-first, true-wholes, true-fits, finds}
@@ -473,12 +477,12 @@ read_input-leaves ss before cursors order policy state output decided i a inputs
 -- ---- an input is closed
 
 pub closes-by : (order : PacketOrder) (input : ℕ) (cursor : InputView) (selector selector' : PolicyState) (output output' : JobOutputView) (r : Option JobEnd) (tally : Tally) (report : Report) (answer : Result (Unit {0}) DeviceFault) → is_in_turn order ≡ true
-    → selecting.TakesTally (is_count selector.policy) selector (Some tally) selector' → report ≡ report_at input cursor tally → Reports (report_text output.names report) output.target answer output'.target → output'.names ≡ output.names → r ≡ unless_failed answer
+    → selecting_inside.TakesTally (is_count selector.policy) selector (Some tally) selector' → report ≡ report_at input cursor tally → Reports (report_text output.names report) output.target answer output'.target → output'.names ≡ output.names → r ≡ unless_failed answer
     → ClosesBy (asks_report order selector.policy) input cursor (sieve selector output) r (sieve selector' output')
 closes-by ByTime input cursor selector selector' output output' r tally report answer turn taken is reports names ends = (cc)
 closes-by InTurn input cursor selector selector' output output' r tally report answer here taken is reports names ends = by_count (is_count selector.policy) taken
   where
-    by_count : (b : Bool) → selecting.TakesTally b selector (Some tally) selector' → ClosesBy b input cursor (sieve selector output) r (sieve selector' output')
+    by_count : (b : Bool) → selecting_inside.TakesTally b selector (Some tally) selector' → ClosesBy b input cursor (sieve selector output) r (sieve selector' output')
     by_count false taken = absurd (let e = taken.0 in cc)
     by_count true taken =
         let same : tally ≡ selector.state.tally = (let e = taken.0 in cc) in
@@ -486,10 +490,10 @@ closes-by InTurn input cursor selector selector' output output' r tally report a
         record { answer = answer; reports = subst P (is ∙ ap (report_at input cursor) same) reports; names = names; is = ends; selector_is = taken.1 }
 
 -- what was counted is taken of an input that is reported alone
-pub counted : (order : PacketOrder) (policy : Policy) (selector selector' : PolicyState) (tally : Tally) → is_in_turn order ≡ true → selecting.TakesTally (is_count policy) selector (Some tally) selector' → asks_report order policy ≡ false → ⊥
+pub counted : (order : PacketOrder) (policy : Policy) (selector selector' : PolicyState) (tally : Tally) → is_in_turn order ≡ true → selecting_inside.TakesTally (is_count policy) selector (Some tally) selector' → asks_report order policy ≡ false → ⊥
 counted ByTime policy selector selector' tally turn taken none = (cc)
 counted InTurn policy selector selector' tally here taken none =
-    let C : Bool → Type 0 = λ b. selecting.TakesTally b selector (Some tally) selector' in
+    let C : Bool → Type 0 = λ b. selecting_inside.TakesTally b selector (Some tally) selector' in
     let e = (subst C none taken).0 in cc
 
 -- where the inputs are merged, or packets aren't counted, nothing is reported
@@ -497,11 +501,11 @@ pub unreported : (order : PacketOrder) (input : ℕ) (cursor : InputView) (selec
 unreported InTurn input cursor selector output merged = (cc)
 unreported ByTime input cursor selector output merged = (refl, refl, refl)
 
-pub uncounted : (order : PacketOrder) (input : ℕ) (cursor : InputView) (selector selector' : PolicyState) (output : JobOutputView) → is_in_turn order ≡ true → selecting.TakesTally (is_count selector.policy) selector None selector'
+pub uncounted : (order : PacketOrder) (input : ℕ) (cursor : InputView) (selector selector' : PolicyState) (output : JobOutputView) → is_in_turn order ≡ true → selecting_inside.TakesTally (is_count selector.policy) selector None selector'
     → ClosesBy (asks_report order selector.policy) input cursor (sieve selector output) None (sieve selector' output)
 uncounted ByTime input cursor selector selector' output turn taken = (cc)
 uncounted InTurn input cursor selector selector' output turn taken = by_count (is_count selector.policy) taken
   where
-    by_count : (b : Bool) → selecting.TakesTally b selector None selector' → ClosesBy b input cursor (sieve selector output) None (sieve selector' output)
+    by_count : (b : Bool) → selecting_inside.TakesTally b selector None selector' → ClosesBy b input cursor (sieve selector output) None (sieve selector' output)
     by_count false taken = (refl, taken.1, refl)
     by_count true taken = absurd (let e = taken.0 in cc)

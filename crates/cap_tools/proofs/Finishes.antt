@@ -16,8 +16,10 @@ use Rattle.cap_packets.specs.Reports.{Report}
 use Rattle.cap_io.specs.Sequence.{Event, InputItems, Complete, sequence_of, with_front, PacketOrder}
 use Rattle.cap_packets.specs.Verdict.{Policy, SelectorState}
 use Rattle.cap_packets.specs.Outcome.{Form, AsCapture, JobProgress, closing_text, final_progress, lines_text, end_with, final_text, first_link}
-use Rattle.cap_packets.specs.Output.{JobOutputView, Target, Capture, Text, Lines, HasWrittenTo, EndsOutput, form_at, form_to, written_to, failures_to}
-use Rattle.cap_inputs.specs.Inputs.{InputView, Future, InputPast, AreInputsAfter, IsNext, actual_future, first_declared_link, AllEnded}
+use Rattle.cap_packets.specs.Output.{JobOutputView, Target, Capture, Text, Lines, HasWrittenTo, form_at, form_to, written_to, failures_to}
+use Rattle.cap_packets.specs.inside.Output.{EndsOutput}
+use Rattle.cap_inputs.specs.Inputs.{InputView, Future, InputPast, AreInputsAfter, IsNext, AllEnded}
+use Rattle.cap_inputs.specs.inside.Inputs.{actual_future, first_declared_link}
 use Rattle.cap_packets.specs.Reports.{reports_text}
 use Rattle.cap_tools.specs.Packets.{JobState, PacketsDecided, CompletesOutput, StopsWriting, progress_at, progress_of, progress_over, wholes_of}
 use Rattle.cap_tools.proofs.Splits.{At}

@@ -3,7 +3,7 @@ use Rattle.std.proofs.Common.{◌≡◌, ℕ, ◌+◌, ◌≤◌, Option, None, 
 use Rattle.cap_octet.specs.Packet.{Captured}
 use Rattle.cap_packets.specs.Selector.{SelectorView, most_spent, spent_by_verdict}
 use Rattle.cap_filter.specs.Programs.{spent_in}
-use Rattle.cap_tools.specs.Packets.{Spends}
+use Rattle.cap_tools.specs.inside.Packets.{Spends}
 
 pub record Held (o : Option Captured) (old : SelectorView) (number : ℕ) (new : SelectorView) : Type 0 where
   pub packet : Captured

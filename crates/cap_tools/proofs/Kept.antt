@@ -1,8 +1,10 @@
 -- What a step keeps of the counts.
 use Rattle.std.proofs.Common.{ℕ, ◌+◌, ◌≤◌, Option, None, Some, arith, Bool}
-use Rattle.cap_inputs.specs.Inputs.{InputsView, most_steps}
-use Rattle.cap_tools.specs.Jobs.{IsCounted}
-use Rattle.cap_tools.specs.Bounds.{HasFewTurns, IsPaid, most_turns, steps_owed_in_all}
+use Rattle.cap_inputs.specs.Inputs.{InputsView}
+use Rattle.cap_inputs.specs.inside.Inputs.{most_steps}
+use Rattle.cap_tools.specs.inside.Jobs.{IsCounted}
+use Rattle.cap_tools.specs.Bounds.{most_turns}
+use Rattle.cap_tools.specs.inside.Bounds.{HasFewTurns, IsPaid, steps_owed_in_all}
 use Rattle.cap_octet.specs.Views.{OutputView}
 use Rattle.cap_tools.specs.Start.{Preparing}
 use Rattle.cap_tools.specs.Jobs.{JobView}

@@ -8,7 +8,8 @@ use Rattle.cap_io.specs.Sequence.{PacketOrder, InTurn, ByTime}
 use Rattle.cap_inputs.specs.declared.inputs.Next.TheVariants as next
 use Rattle.cap_inputs.specs.Inputs.{InputView, InputsView, IsInput, IsNext, IsNextIn, IsOpen, MarksDecided, ReadSteps, input_after, input_after_decided, input_steps_left, is_packet_found, owed_by, steps_left, steps_left_in, steps_owed, with_cursor}
 use Rattle.cap_inputs.proofs.Cursors.{set-here}
-use Rattle.cap_tools.specs.Bounds.{IsPaid, most_turns, steps_owed_in_all, owed_in, reads_of}
+use Rattle.cap_tools.specs.Bounds.{most_turns, reads_of}
+use Rattle.cap_tools.specs.inside.Bounds.{IsPaid, steps_owed_in_all, owed_in}
 use Rattle.cap_tools.proofs.Fetches.{among-same}
 
 -- ---- one input for another

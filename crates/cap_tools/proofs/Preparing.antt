@@ -8,7 +8,7 @@ use Rattle.cap_filter.specs.FilterRules.{Rule, by_reading, by_answer}
 use Rattle.cap_filter.specs.Filters.{AreNew}
 use Rattle.cap_tools.specs.declared.start.Preparation.{Preparation}
 use Rattle.cap_tools.specs.Start.{Preparing, preparing_of}
-use Rattle.cap_tools.specs.Commands.{IsReadyIf}
+use Rattle.cap_tools.specs.inside.Commands.{IsReadyIf}
 use Rattle.cap_tools.specs.Jobs.{JobView}
 use Rattle.cap_filter.specs.Programs.{spent_in}
 

@@ -11,7 +11,7 @@ use Rattle.cap_filter.specs.FilterRules.{Rule, by_reading, by_answer}
 use Rattle.cap_filter.specs.Filters.{AreNew, place_by, spent_on}
 use Rattle.cap_packets.specs.Verdict.{Policy, Edit, Filter, KeepAll, Count, is_too_many}
 use Rattle.cap_packets.specs.Selector.{AreFor, HavePrograms, SelectorView, spent_by, spent_by_verdict}
-use Rattle.cap_tools.specs.Packets.{Spends}
+use Rattle.cap_tools.specs.inside.Packets.{Spends}
 
 -- a run leaves a program's instructions
 made-ran : (e : Expression) (links : List Link) (programs : List Content) (i : ℕ) (p : Captured) → AreMade e links programs → AreMade e links (ran_at i p programs)

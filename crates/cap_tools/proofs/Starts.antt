@@ -13,8 +13,10 @@ use Rattle.cap_packets.specs.Verdict.{Policy}
 use Rattle.cap_octet.specs.Views.{FreshInput}
 use Rattle.cap_inputs.specs.Fresh.{fresh_view, nothing_done, fresh_inputs}
 use Rattle.cap_packets.specs.Selector.{state_with}
-use Rattle.cap_inputs.specs.Inputs.{Future, AreInputsAfter, KnowGreatest, AreFutures, AreSettled, ended_count, inputs_with, inputs_left, input_items, steps_left_in, steps_left, most_steps}
-use Rattle.cap_tools.specs.Bounds.{reads_of, steps_owed_in_all, owed_in, most_turns}
+use Rattle.cap_inputs.specs.Inputs.{Future, AreInputsAfter, KnowGreatest, AreFutures, AreSettled, ended_count, inputs_with, inputs_left, input_items, steps_left_in, steps_left}
+use Rattle.cap_inputs.specs.inside.Inputs.{most_steps}
+use Rattle.cap_tools.specs.Bounds.{reads_of, most_turns}
+use Rattle.cap_tools.specs.inside.Bounds.{steps_owed_in_all, owed_in}
 use Rattle.cap_tools.specs.Packets.{PacketsDecided}
 use Rattle.cap_tools.proofs.Coming.{come-first}
 use Rattle.cap_tools.proofs.Fetches.{mk}

@@ -10,7 +10,7 @@ use Rattle.cap_packets.specs.declared.output.Writing.{Writing}
 use Rattle.cap_packets.specs.declared.output.Writing.TheVariants as writing
 use Rattle.cap_packets.specs.Output.{HasFewOutputInterfaces, Target, Capture, Text, Lines, target_at}
 use Rattle.cap_inputs.specs.Inputs.{InputView, InputsView, IsInput, ReadSteps, MarksDecided, input_after, input_after_decided}
-use Rattle.cap_packets.specs.Selector.{HasFewMarks}
+use Rattle.cap_packets.specs.inside.Selector.{HasFewMarks}
 use Rattle.cap_octet.specs.Views.{FreshInput}
 use Rattle.cap_inputs.specs.Fresh.{fresh_view}
 use Rattle.cap_tools.specs.Packets.{JobState}

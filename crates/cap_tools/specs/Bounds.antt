@@ -1,23 +1,20 @@
 -- The bounds of a step, whatever the devices: what it reads, how many steps were made, and what the
 -- job holds.
-use Rattle.std.specs.Prelude.{◌≡◌, ℕ, ◌+◌, ◌*◌, ◌≤◌, ◌&&◌, Bool, IsTrue, true, false, List, [], ◌∷◌, length, map, Option, None, Some, Result, Ok, Err}
+use Rattle.std.specs.Prelude.{◌≡◌, ℕ, ◌+◌, ◌*◌, ◌≤◌, ◌&&◌, Bool, IsTrue, true, false, List, [], ◌∷◌, length, map, Some, Result, Ok, Err}
 use Rattle.std.specs.List.{All, slice_get}
 use Rattle.cap_octet.specs.declared.fault.Fault.{Fault}
 use Rattle.cap_io.specs.Capture.{Declared, Nothing, PcapFile, PcapngFile}
 use Rattle.cap_io.specs.Reading.{most_in_unit}
 use Rattle.cap_io.specs.Source.{SectionFits, end_offset}
 use Rattle.cap_io.specs.Text.{most_output_interfaces}
-use Rattle.cap_tools.specs.declared.step.JobEnd.{JobEnd}
 use Rattle.cap_packets.specs.Output.{Target, Capture, Text, Lines, HasFewOutputInterfaces}
 use Rattle.cap_inputs.specs.declared.inputs.Next.TheVariants as next
-use Rattle.cap_inputs.specs.Inputs.{InputView, InputsView, IsNext, ReadsInput, ReadSteps, MarksDecided, is_clean_end, owed_by}
+use Rattle.cap_inputs.specs.Inputs.{InputView, InputsView, IsNext, ReadsInput, ReadSteps, MarksDecided, is_clean_end}
 use Rattle.cap_octet.specs.Packet.{Captured}
 use Rattle.cap_filter.specs.Programs.{spent_in}
 use Rattle.cap_packets.specs.Selector.{most_spent, places, spent_by_verdict, window_of}
 use Rattle.cap_tools.specs.Packets.{JobState, asks_report}
 use Rattle.cap_tools.specs.Jobs.{JobView}
-
--- ---- what a step reads
 
 -- The input that is next was read on, to its next packet and no further. No packet is decided, and
 -- nothing is written unless the input was read to its end and is to be reported.
@@ -80,40 +77,14 @@ pub data StepReads (tells goes : Bool) (old new : JobView) : Type 0 where
   leaves_one : (input : ℕ) → goes ≡ false → LeavesOne old input new → StepReads tells goes old new
   reads_nothing : goes ≡ false → ReadsNothing old new → StepReads tells goes old new
 
-abbrev pub step_goes_on : Option JobEnd → Bool
-step_goes_on None = true
-step_goes_on (Some end) = false
-
--- ---- how many steps were made
-
 -- the bytes that were read of the inputs: those that are skipped, and those of the current units
 abbrev pub reads_of : List InputView → ℕ
 reads_of [] = 0
 reads_of (h ∷ hs) = end_offset h.source + reads_of hs
 
--- the steps that follow without a byte more
-abbrev pub owed_in : List InputView → ℕ
-owed_in [] = 0
-owed_in (h ∷ hs) = owed_by h + owed_in hs
-
-abbrev pub steps_owed_in_all : InputsView → ℕ
-steps_owed_in_all f = owed_in f.cursors
-
 -- two steps for each byte, one for each input, and one that reads a filter
 abbrev pub most_turns : InputsView → ℕ
 most_turns f = 2 * reads_of f.cursors + length f.cursors + 1
-
--- a step that goes on is one of those that were owed, or it read bytes that pay for it and for what
--- is owed now
-abbrev pub IsPaid : InputsView → InputsView → Type 0
-IsPaid old new = steps_owed_in_all new + 1 + most_turns old ≤ steps_owed_in_all old + most_turns new
-
--- the steps that were made, with those that are owed, are no more than what was read pays for
-abbrev pub HasFewTurns : Option ℕ → ℕ → InputsView → Type 0
-HasFewTurns None turns inputs = turns + steps_owed_in_all inputs ≤ most_turns inputs
-HasFewTurns (Some status) turns inputs = Unit {0}
-
--- ---- what a job holds
 
 -- the bytes of interfaces with these names, with 19 for the rest of each
 abbrev pub names_weight : List (List ℕ) → ℕ

@@ -1,5 +1,5 @@
 -- The steps of a command's job, from the first one on.
-use Rattle.std.specs.Prelude.{◌≡◌, ◌⊎◌, ℕ, ◌+◌, ◌<◌, ◌≤◌, Bool, true, List, Option, None, Some, IsTrue}
+use Rattle.std.specs.Prelude.{◌≡◌, ◌⊎◌, ℕ, ◌+◌, ◌<◌, ◌≤◌, Bool, List, Option, None, Some, IsTrue}
 use Rattle.cap_octet.specs.declared.link.Link.{Link}
 use Rattle.flt_bpf.specs.declared.insn.Insn.{Insn}
 use Rattle.flt_bpf.specs.Content.{Content}
@@ -18,18 +18,7 @@ use Rattle.cap_packets.specs.Selector.{HavePrograms}
 use Rattle.cap_inputs.specs.Inputs.{InputPast, steps_left}
 use Rattle.cap_tools.specs.Bounds.{IsLight, StepReads, most_turns}
 use Rattle.cap_tools.specs.Jobs.{JobView, Decided, IsStatus, done_by}
-use Rattle.cap_tools.specs.FirstStep.{IsFresh, WritesListing, RefusesStart, filtering, is_text}
-
--- a job that still prepares made no step; what is compiled is written as text
-abbrev pub HasMadeNoStep : Preparing → JobView → Type 0
-HasMadeNoStep (ReadsFilter asked) j = IsFresh j
-HasMadeNoStep (Compiles words link) j = IsFresh j × (is_text j.state.output.target ≡ true)
-
-abbrev pub IsReadyIf : Option Preparing → JobView → Type 0
-IsReadyIf None j = Unit {0}
-IsReadyIf (Some preparing) j = HasMadeNoStep preparing j
-
--- ---- the first step
+use Rattle.cap_tools.specs.FirstStep.{WritesListing, RefusesStart, filtering}
 
 -- the filter is read
 pub record IsFiltered (asked : FilterAsked) (old new : JobView) : Type 0 where
@@ -78,8 +67,6 @@ PreparesBy (Some (ReadsFilter asked)) output_tells tells old r new =
 PreparesBy (Some (Compiles words link)) output_tells tells old r new =
     IsTrue output_tells → CompileGives words link tells old r new
 
--- ---- a step
-
 -- so much is to be done at most
 abbrev pub preparing_left : Option Preparing → ℕ
 preparing_left None = 0
@@ -87,19 +74,6 @@ preparing_left (Some preparing) = 1
 
 abbrev pub job_left : JobView → ℕ
 job_left j = preparing_left j.preparing + steps_left j.state.inputs
-
--- What the first step of a job keeps that reads a filter or compiles: no input is touched.
-pub record KeepsFirst (old : JobView) (r : Turn) (new : JobView) : Type 0 where
-  pub prepared : new.preparing ≡ None
-  pub done : new.done ≡ done_by r
-  pub status : IsStatus r
-  pub turns : new.turns ≡ old.turns + 1
-  pub upper_bound : new.turns ≤ most_turns old.state.inputs + 1
-  pub light : IsLight new.state
-  pub sound : HavePrograms new.state.policy new.programs
-  pub inputs : new.state.inputs ≡ old.state.inputs
-  pub names : new.state.output.names ≡ old.state.output.names
-  pub quiet : r ≡ turn.More → new.err ≡ old.err
 
 -- What every step of a job keeps, whatever the devices: it prepares no more, its end is known, a
 -- step is counted where it was under way, and what it holds is bounded.
@@ -127,8 +101,6 @@ pub record PreparesOnly (old new : JobView) : Type 0 where
 abbrev pub StepReadsBy : Option Preparing → (tells goes : Bool) → JobView → JobView → Type 0
 StepReadsBy None tells goes old new = StepReads tells goes old new
 StepReadsBy (Some preparing) tells goes old new = PreparesOnly old new
-
--- ---- all steps
 
 -- what is decided of the inputs, whatever the filter will be and its programs
 abbrev pub DecidedBy : Option Preparing → List InputPast → List ℕ → JobView → Type 0

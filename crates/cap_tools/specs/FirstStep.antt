@@ -1,5 +1,5 @@
 -- The first step of a job that reads a filter or compiles an expression.
-use Rattle.std.specs.Prelude.{◌≡◌, ℕ, ◌+◌, ◌<◌, Bool, true, false, List, [], length, Option, None, Some}
+use Rattle.std.specs.Prelude.{◌≡◌, ℕ, ◌+◌, Bool, List, length, Option, None, Some}
 use Rattle.flt_bpf.specs.declared.insn.Insn.{Insn}
 use Rattle.flt_bpf.specs.Content.{Content}
 use Rattle.cap_filter.specs.declared.refusal.Refusal.{Refusal}
@@ -10,29 +10,11 @@ use Rattle.cap_filter.specs.FilterRules.{Rule}
 use Rattle.cap_octet.specs.Views.{OutputView, output_view}
 use Rattle.cap_packets.specs.Messages.{IsTold}
 use Rattle.cap_tools.specs.Listing.{Runs}
-use Rattle.cap_tools.specs.declared.job.Turn.{Turn}
-use Rattle.cap_tools.specs.declared.job.Turn.TheVariants as turn
-use Rattle.cap_packets.specs.Output.{Target, Capture, Text, Lines}
 use Rattle.cap_packets.specs.Verdict.{Policy, Filter}
 use Rattle.cap_packets.specs.Selector.{state_with}
-use Rattle.cap_inputs.specs.Inputs.{steps_left, most_steps}
 use Rattle.cap_packets.specs.Reports.{name_at, nothing_counted}
-use Rattle.cap_tools.specs.Bounds.{most_turns, steps_owed_in_all}
 use Rattle.cap_tools.specs.Packets.{JobState, written_by, failures_by}
 use Rattle.cap_tools.specs.Jobs.{JobView}
-
--- a job that made no step
-pub record IsFresh (j : JobView) : Type 0 where
-  pub turns : j.turns ≡ 0
-  pub done : j.done ≡ None
-  pub programs : j.programs ≡ []
-  pub left : steps_left j.state.inputs < most_steps
-  pub upper_bound : steps_owed_in_all j.state.inputs < most_turns j.state.inputs
-
-abbrev pub is_text : Target → Bool
-is_text (Capture sink) = false
-is_text (Text written failures room) = true
-is_text (Lines options written failures room) = false
 
 -- packets are judged by this from here on
 abbrev pub asking : Policy → JobState → JobState
@@ -92,7 +74,3 @@ pub record WritesListing (insns : List Insn) (tells : Bool) (old : JobView) (sta
   pub runs : Runs
       (ListingLeaves insns (output_name old) (output_of old)
       (output_of new) status) tells old.err new.err
-
-abbrev pub EndsList : List Insn → Bool → JobView → Turn → JobView → Type 0
-EndsList insns tells old turn.More new = ⊥
-EndsList insns tells old (turn.Done status) new = WritesListing insns tells old status new

@@ -1,5 +1,5 @@
 -- What a contract sees of a whole job, with its messages, and how it ends.
-use Rattle.std.specs.Prelude.{◌≡◌, ℕ, ◌+◌, ◌≤◌, Bool, true, false, List, [], length, Option, None, Some}
+use Rattle.std.specs.Prelude.{◌≡◌, ℕ, ◌≤◌, Bool, true, false, List, [], length, Option, None, Some}
 use Rattle.cap_packets.specs.Messages.{fault_message, write_failed_message}
 use Rattle.cap_octet.specs.Views.{OutputView}
 use Rattle.cap_packets.specs.Messages.{IsTold}
@@ -11,13 +11,11 @@ use Rattle.cap_packets.specs.Output.{JobOutputView, target_at}
 use Rattle.cap_tools.specs.Start.{Assignment, Preparing}
 use Rattle.cap_packets.specs.Selector.{HavePrograms, SelectorView, state_with}
 use Rattle.cap_packets.specs.Reports.{name_at, nothing_counted}
-use Rattle.cap_inputs.specs.Inputs.{InputView, InputsView, InputPast, most_steps, offset_at}
+use Rattle.cap_inputs.specs.Inputs.{InputView, InputsView, InputPast, offset_at}
 use Rattle.cap_inputs.specs.Fresh.{fresh_inputs}
 use Rattle.cap_command.specs.Call.{Call}
 use Rattle.flt_bpf.specs.Content.{Content}
 use Rattle.cap_tools.specs.Packets.{JobState, PacketsDecided, GoesOn, StepGives}
-
--- ---- the view
 
 pub record JobView : Type 0 where
   -- what is done before the first packet; nothing once it is done
@@ -71,13 +69,6 @@ pub record Decided (ss : List InputPast) (before : List ℕ) (j : JobView) : Typ
   pub packets : PacketsDecided ss before j.state
   pub programs : HavePrograms j.state.policy j.programs
 
--- the steps that were made and those that are left, which a job that ended has none of
-abbrev pub IsCounted : Option ℕ → ℕ → ℕ → Type 0
-IsCounted None turns left = turns + left ≤ most_steps
-IsCounted (Some status) turns left = (turns ≤ most_steps + 1) × (status ≤ 2)
-
--- ---- how it ends
-
 -- what is reported of it
 abbrev pub end_message : List (List ℕ) → List InputView → JobEnd → List ℕ
 end_message names cursors end.Complete = []
@@ -89,8 +80,6 @@ abbrev pub end_status : JobEnd → ℕ
 end_status end.Complete = 0
 end_status (end.FaultIn input fault) = 1
 end_status end.OutputFailed = 1
-
--- ---- a step
 
 -- A step that ends a job ends it in one way. Its message and its status are those of the way; a
 -- message that can't be written is lost.

@@ -7,4 +7,4 @@ pub mod Run
 pub mod Start
 pub mod Packets
 pub mod Messages
-pub mod Step
+pub mod inside

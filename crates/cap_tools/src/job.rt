@@ -6,7 +6,8 @@ ghost use Rattle.cap_packets.specs.Messages.{IsTold};
 ghost use Rattle.cap_octet.specs.Views.{device_view, fresh_input, fresh_output, output_view};
 ghost use Rattle.cap_tools.specs.Bounds.{IsLight, ReadsNothing, StepReads, most_turns};
 ghost use Rattle.cap_command.specs.Call.{call_of, run_result};
-ghost use Rattle.cap_inputs.specs.Inputs.{most_steps, steps_left};
+ghost use Rattle.cap_inputs.specs.Inputs.{steps_left};
+ghost use Rattle.cap_inputs.specs.inside.Inputs.{most_steps};
 ghost use Rattle.cap_inputs.specs.Inputs as input_spec;
 ghost use Rattle.cap_tools.specs.Jobs.{end_status, end_message};
 ghost use Rattle.cap_tools.specs.Run.{CommandRuns};
@@ -58,13 +59,17 @@ impl<I: Input, O: Output, E: Output, A: Allocator> Model for Job<I, O, E, A> {
     ghost use Rattle.std.specs.Prelude.{◌+◌, ◌≤◌};
     ghost use Rattle.std.specs.Coded.{codes};
     ghost use Rattle.std.specs.Option.{option_map};
-    ghost use Rattle.cap_filter.specs.Programs.{coded_expression};
-    ghost use Rattle.cap_tools.specs.Bounds.{HasFewTurns, IsBounded};
-    ghost use Rattle.cap_tools.specs.Commands.{IsReadyIf};
-    ghost use Rattle.cap_inputs.specs.Inputs.{most_steps, steps_left};
-    ghost use Rattle.cap_tools.specs.Jobs.{JobView, IsCounted, state_at};
+    ghost use Rattle.cap_filter.specs.inside.Programs.{coded_expression};
+    ghost use Rattle.cap_tools.specs.Bounds.{IsBounded};
+    ghost use Rattle.cap_tools.specs.inside.Bounds.{HasFewTurns};
+    ghost use Rattle.cap_tools.specs.inside.Commands.{IsReadyIf};
+    ghost use Rattle.cap_inputs.specs.Inputs.{steps_left};
+    ghost use Rattle.cap_inputs.specs.inside.Inputs.{most_steps};
+    ghost use Rattle.cap_tools.specs.Jobs.{JobView, state_at};
+    ghost use Rattle.cap_tools.specs.inside.Jobs.{IsCounted};
     ghost use Rattle.cap_packets.specs.Output.{output_at};
-    ghost use Rattle.cap_packets.specs.Selector.{HasFewMarks, HavePrograms};
+    ghost use Rattle.cap_packets.specs.Selector.{HavePrograms};
+    ghost use Rattle.cap_packets.specs.inside.Selector.{HasFewMarks};
     ghost use Rattle.cap_tools.specs.Start.{preparing_of};
 
     ghost Value = { JobView };
@@ -109,17 +114,19 @@ impl<I: Input, O: Output, E: Output, A: Allocator + Copy + Drop> Job<I, O, E, A>
     ghost use Rattle.cap_filter.specs.Filters.{AreNew, programs_of, rule_of};
     ghost use Rattle.cap_filter.specs.Refusals.{refusal_status};
     ghost use Rattle.cap_tools.specs.Commands.{CompileGives, DecidedBy, FilterGives};
-    ghost use Rattle.cap_tools.specs.Commands.{StepKeeps, KeepsFirst, PreparesBy, PreparesOnly};
+    ghost use Rattle.cap_tools.specs.Commands.{StepKeeps, PreparesBy, PreparesOnly};
+    ghost use Rattle.cap_tools.specs.inside.Commands.{KeepsFirst};
     ghost use Rattle.cap_tools.specs.Commands.{StepReadsBy};
-    ghost use Rattle.cap_tools.specs.FirstStep.{EndsList, IsFresh, RefusesStart, filtering};
-    ghost use Rattle.cap_tools.specs.FirstStep.{is_text};
+    ghost use Rattle.cap_tools.specs.FirstStep.{RefusesStart, filtering};
+    ghost use Rattle.cap_tools.specs.inside.FirstStep.{EndsList, IsFresh};
+    ghost use Rattle.cap_tools.specs.inside.FirstStep.{is_text};
     ghost use Rattle.cap_tools.specs.Jobs.{IsStatus, JobGives, done_by, first_job};
     ghost use Rattle.cap_tools.specs.Jobs.{turn_goes_on};
     ghost use Rattle.cap_inputs.specs.Fresh.{nothing_done};
     ghost use Rattle.cap_tools.specs.Packets.{failures_by, written_by};
     ghost use Rattle.cap_packets.specs.Selector.{HavePrograms};
     ghost use Rattle.cap_tools.specs.Start.{asked_by};
-    ghost use Rattle.cap_tools.specs.Step.{IsStep, ending};
+    ghost use Rattle.cap_tools.specs.inside.Step.{IsStep, ending};
 
     /// The job of a proper command. `names` are those of the inputs, then of the output. Where
     /// there is no memory nothing was read or written.

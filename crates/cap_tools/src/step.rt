@@ -2,9 +2,10 @@
 ghost use Rattle.std.specs.Prelude.{◌≡◌, ◌<◌, ◌≤◌, IsTrue, false, length, true};
 ghost use Rattle.cap_octet.specs.Packet.{captured};
 ghost use Rattle.cap_packets.specs.Output.{HasFewOutputInterfaces, output_at};
-ghost use Rattle.cap_packets.specs.Reports.{FitsTally};
-ghost use Rattle.cap_packets.specs.Selector.{GrowsByOne, HasFewMarks, policy_state};
-ghost use Rattle.cap_tools.specs.Packets.{Closes, DecidesPacket, Offers, Spends, asks_report, sieve, end_of_failed_write};
+ghost use Rattle.cap_packets.specs.inside.Reports.{FitsTally};
+ghost use Rattle.cap_packets.specs.inside.Selector.{GrowsByOne, HasFewMarks, policy_state};
+ghost use Rattle.cap_tools.specs.Packets.{asks_report};
+ghost use Rattle.cap_tools.specs.inside.Packets.{Closes, DecidesPacket, Offers, Spends, sieve, end_of_failed_write};
 
 use crate::messages::Messages;
 use cap_inputs::{InputCursor, Inputs};

@@ -8,7 +8,7 @@ use Rattle.std.specs.Int.{w32, from_le_bytes}
 use Rattle.std.specs.Prelude.{take}
 use Rattle.cap_window.specs.declared.links.Links.{Links}
 use Rattle.cap_window.specs.declared.mark.Mark.{Mark}
-use Rattle.cap_window.specs.Index.{IsHung, IsIndex, IsPutOnTop, IsSoundIndex, IsMarkTree, Empty, Topped, but, every, marks_with_bit, has_hash, hash_of, link_by_bit, links_at, mark_at}
+use Rattle.cap_window.specs.inside.Index.{IsHung, IsIndex, IsPutOnTop, IsSoundIndex, IsMarkTree, Empty, Topped, but, every, marks_with_bit, has_hash, hash_of, link_by_bit, links_at, mark_at}
 use Rattle.cap_window.specs.Marks.{last}
 use Rattle.cap_window.proofs.Trees.{raised, reframed, rewanted}
 

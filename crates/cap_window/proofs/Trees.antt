@@ -3,7 +3,7 @@ use Rattle.std.proofs.Common.{◌≡◌, ◌≢◌, ℕ, ◌+◌, ◌-◌, ◌^�
 use Rattle.std.proofs.lemmas.Bool.{cases_order}
 use Rattle.cap_window.specs.Marks.{is_same_mark}
 use Rattle.std.proofs.lemmas.List.{get_or-set_other, get_or-set_same}
-use Rattle.cap_window.specs.Index.{IsOnTop, IsPutOnTop, IsMarkTree, Empty, Topped, HasNoMark, every, marks_with_bit, but, is_one, link_by_bit, links_at, mark_at}
+use Rattle.cap_window.specs.inside.Index.{IsOnTop, IsPutOnTop, IsMarkTree, Empty, Topped, HasNoMark, every, marks_with_bit, but, is_one, link_by_bit, links_at, mark_at}
 use Rattle.cap_window.specs.declared.links.Links.{Links}
 use Rattle.cap_window.specs.declared.mark.Mark.{Mark}
 use Rattle.cap_window.proofs.Marks.{is_same-Decides}

@@ -1,3 +1,3 @@
-pub mod Index
 pub mod Marks
 pub mod View
+pub mod inside

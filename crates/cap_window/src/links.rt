@@ -1,6 +1,6 @@
 //! How the marks of one hash hang together.
 ghost use Rattle.std.specs.Prelude.{◌≡◌, ◌-◌, ◌<◌, ◌^◌, Bool, length};
-ghost use Rattle.cap_window.specs.Index.{IsHung, IsPutOnTop, is_one};
+ghost use Rattle.cap_window.specs.inside.Index.{IsHung, IsPutOnTop, is_one};
 ghost use Rattle.cap_window.specs.declared.mark.Mark.{Mark};
 
 use crate::mark::{Mark, same};
@@ -17,7 +17,7 @@ pub struct Links {
 
 impl Links {
     ghost use Rattle.std.specs.Prelude.{◌≡◌, ◌+◌, ◌^◌, ◌-◌, min, not};
-    ghost use Rattle.cap_window.specs.Index.{link_by_bit};
+    ghost use Rattle.cap_window.specs.inside.Index.{link_by_bit};
 
     /// The link to the marks with this bit.
     #[inline]
@@ -58,7 +58,7 @@ impl Links {
 
 /// A bit of a mark: of its digest, from the last byte on, and then of its length.
 #[inline]
-#[tactic(auto, unfolding(crate::specs::Index::is_one))]
+#[tactic(auto, unfolding(crate::specs::inside::Index::is_one))]
 pub fn is_one(mark: &Mark, depth: u32) -> bool
     ensures { result ≡ is_one mark.now depth }
 {

@@ -1,6 +1,6 @@
 //! The marks of the last packets, with an index that finds an equal one at once.
 ghost use Rattle.std.specs.Prelude.{◌≡◌, ℕ, ◌+◌, ◌-◌, ◌^◌, ◌<◌, ◌≤◌, EachIndex, slice_index};
-ghost use Rattle.cap_window.specs.Index.{hash_of};
+ghost use Rattle.cap_window.specs.inside.Index.{hash_of};
 
 use crate::links::{Links, is_one, place_newest};
 use crate::mark::{Mark, mark_of, same};
@@ -30,7 +30,7 @@ pub struct Window<A: Allocator> {
 }
 
 impl<A: Allocator> Model for Window<A> {
-    ghost use Rattle.cap_window.specs.Index.{IsSoundIndex};
+    ghost use Rattle.cap_window.specs.inside.Index.{IsSoundIndex};
     ghost use Rattle.cap_window.specs.View.{WindowView, window};
 
     ghost Value = { WindowView };

@@ -9,7 +9,8 @@ use Rattle.std.proofs.lemmas.List.Sums.{passes_at_first, split_at_first}
 use Rattle.std.proofs.lemmas.Str.Parse.{IsDigitsTest, IsNumeralModel, not_in_digits, numerals_by_value}
 use Rattle.clap.proofs.CutLemmas.{Lacks, after_first-at, before_first-at, list_any-Lacks, list_any-at}
 use Rattle.cap_command.specs.Command.{is_range}
-use Rattle.capkit.specs.Range.{WritesNumbers, WritesRange, is_decimal, is_hyphen, range_number, one, range_between, range_of, sides_of, two}
+use Rattle.capkit.specs.Range.{is_decimal, is_hyphen, range_number, range_between, range_of, sides_of}
+use Rattle.capkit.specs.inside.Range.{WritesNumbers, WritesRange, one, two}
 use Rattle.capkit.proofs.Numbers.{any_by_place}
 
 -- ---- numbers

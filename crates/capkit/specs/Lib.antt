@@ -1,3 +1,4 @@
 pub mod Line
 pub mod Names
 pub mod Range
+pub mod inside

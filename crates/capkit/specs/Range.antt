@@ -1,26 +1,10 @@
 -- The ranges of packets that words of a command line name.
-use Rattle.std.specs.Prelude.{◌≡◌, ◌==◌, ◌&&◌, ◌++◌, ◌∷◌, ℕ, Bool, true, List, length, nat_lt}
+use Rattle.std.specs.Prelude.{◌==◌, ◌&&◌, ℕ, Bool, List, length, nat_lt}
 use Rattle.std.specs.Prelude.{Option, Some, None, if◌then◌else◌}
 use Rattle.std.specs.Char.{is_ascii_digit}
 use Rattle.std.specs.List.{after_first, before_first, list_all, list_any}
-use Rattle.std.specs.Str.Parse.{IsNumeral, digits_value}
+use Rattle.std.specs.Str.Parse.{digits_value}
 use Rattle.cap_command.specs.Command.{is_range}
-
--- ---- as a relation
-
--- The word writes the numbers: one, or two with a hyphen (45) between them, in decimal digits.
-pub data WritesNumbers : List ℕ → ℕ × ℕ → Type 0 where
-  one : (digits : List ℕ) → IsNumeral 10 digits
-      → WritesNumbers digits (digits_value 10 digits, digits_value 10 digits)
-  two : (first last : List ℕ) → IsNumeral 10 first → IsNumeral 10 last
-      → WritesNumbers (first ++ 45 ∷ last) (digits_value 10 first, digits_value 10 last)
-
--- The word writes the numbers of a range.
-pub record WritesRange (word : List ℕ) (range : ℕ × ℕ) : Type 0 where
-  pub written : WritesNumbers word range
-  pub is_range : is_range range.0 range.1 ≡ true
-
--- ---- as a function
 
 -- one decimal digit or more, and nothing else
 abbrev pub is_decimal : List ℕ → Bool

@@ -2,7 +2,8 @@
 ghost use Rattle.std.specs.Prelude.{◌≡◌, ◌≤◌, ◌^◌, ℕ, IfSome, IfNone, Some};
 ghost use Rattle.std.specs.Char.{is_ascii_digit};
 ghost use Rattle.std.specs.List.{list_all};
-ghost use Rattle.capkit.specs.Range.{WritesRange, range_number, range_of, sides_of};
+ghost use Rattle.capkit.specs.Range.{range_number, range_of, sides_of};
+ghost use Rattle.capkit.specs.inside.Range.{WritesRange};
 
 use cap_command::is_range;
 

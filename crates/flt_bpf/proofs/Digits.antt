@@ -9,7 +9,7 @@ use Rattle.std.proofs.lemmas.Str.Parse.{digit_from_value}
 use Rattle.flt_bpf.specs.Listing.{IsWrittenNumber}
 use Rattle.cap_octet.proofs.Numerals.{both, digits_from_test, digits_pass}
 use Rattle.cap_octet.specs.Digits.{are_digits}
-use Rattle.flt_bpf.specs.Reading.{numeral}
+use Rattle.flt_bpf.specs.inside.Reading.{numeral}
 
 some : (n : ℕ) → not (n == 0) ≡ true → 0 < n
 some zero e = absurd (cc)

@@ -7,7 +7,7 @@ use Rattle.std.specs.List.{slice_split}
 use Rattle.std.proofs.lemmas.List.Splits.{length-slice_split}
 use Rattle.flt_bpf.specs.declared.insn.Insn.{Insn}
 use Rattle.flt_bpf.specs.Listing.{LINE_FEED, lines_from, lines_of}
-use Rattle.flt_bpf.specs.Reading.{line_numbers, insn_of, onto, read_insn, read_insns}
+use Rattle.flt_bpf.specs.inside.Reading.{line_numbers, insn_of, onto, read_insn, read_insns}
 
 -- a line with others after it
 pub line_more : (text piece rest : List ℕ) → slice_split (λ b. b == LINE_FEED) text ≡ piece ∷ slice_split (λ b. b == LINE_FEED) rest → lines_of text ≡ piece ∷ lines_of rest

@@ -5,7 +5,7 @@ use Rattle.std.specs.List.{slice_split}
 use Rattle.std.proofs.lemmas.List.Splits.{length-slice_split}
 use Rattle.flt_bpf.specs.declared.insn.Insn.{Insn}
 use Rattle.flt_bpf.specs.Listing.{BLANK}
-use Rattle.flt_bpf.specs.Reading.{numeral, after, later_numbers, numbers_of, line_numbers, insn_from, insn_of, only_of}
+use Rattle.flt_bpf.specs.inside.Reading.{numeral, after, later_numbers, numbers_of, line_numbers, insn_from, insn_of, only_of}
 
 numbers_more : (w : List ℕ) (ws : List (List ℕ)) → 0 < length ws → numbers_of (w ∷ ws) ≡ after (numeral w) (later_numbers ws)
 numbers_more w [] l = absurd (omega arith)

@@ -4,7 +4,7 @@ use Rattle.std.specs.Prelude.{◌==◌, replicate}
 use Rattle.std.specs.List.{slice_split, join_with_byte}
 use Rattle.std.proofs.lemmas.List.Splits.{slice_split_at, slice_split_none, length-slice_split, slice_split-cons_yes, join_with_byte-slice_split}
 use Rattle.flt_bpf.specs.Listing.{BLANK, IsWrittenNumber, AreNumbers}
-use Rattle.flt_bpf.specs.Reading.{numeral, after, later_numbers, numbers_of, line_numbers}
+use Rattle.flt_bpf.specs.inside.Reading.{numeral, after, later_numbers, numbers_of, line_numbers}
 use Rattle.flt_bpf.proofs.Digits.{numeral_is, numeral_read, number_lacks}
 
 -- blanks and then numbers

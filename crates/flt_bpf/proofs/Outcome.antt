@@ -5,7 +5,7 @@ use Rattle.flt_bpf.specs.declared.insn.Insn.{Insn}
 use Rattle.flt_bpf.specs.declared.fault.ListingFault.{ListingFault}
 use Rattle.flt_bpf.specs.declared.fault.ListingFault.TheVariants.{NotListing, Memory}
 use Rattle.flt_bpf.specs.Listing.{IsListing}
-use Rattle.flt_bpf.specs.Reading.{read, IsFaultOf}
+use Rattle.flt_bpf.specs.inside.Reading.{read, IsFaultOf}
 use Rattle.flt_bpf.specs.Refusal.{IsReasonFor}
 use Rattle.flt_bpf.proofs.Readings.{read_is}
 use Rattle.flt_bpf.proofs.Wrong.{read_refused}

@@ -6,7 +6,7 @@ use Rattle.std.proofs.lemmas.Bool.Decides.{nat_tests}
 use Rattle.flt_bpf.specs.declared.insn.Insn.{Insn}
 use Rattle.flt_bpf.specs.Valid.{MOST_INSTRUCTIONS}
 use Rattle.flt_bpf.specs.Listing.{MOST_BYTES, IsWrittenNumber, IsInsnLine, lines_of, AreListingLines, IsListing}
-use Rattle.flt_bpf.specs.Reading.{line_numbers, insn_of, onto, read_insn, read_insns, read_from, read_lines, read}
+use Rattle.flt_bpf.specs.inside.Reading.{line_numbers, insn_of, onto, read_insn, read_insns, read_from, read_lines, read}
 use Rattle.flt_bpf.proofs.Numbers.{line_numbers_are, line_numbers_read}
 use Rattle.flt_bpf.proofs.InsnLines.{insn_is, insn_read}
 

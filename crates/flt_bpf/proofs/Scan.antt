@@ -7,7 +7,8 @@ use Rattle.std.proofs.lemmas.Bool.Decides.{nat_tests}
 use Rattle.flt_bpf.specs.declared.insn.Insn.{Insn}
 use Rattle.flt_bpf.specs.declared.fault.CheckFault.{CheckFault}
 use Rattle.flt_bpf.specs.Instructions.{operation_of}
-use Rattle.flt_bpf.specs.Check.{fault_of, first_at, first_check_fault, is_return, ends_in_return, or_later, no_return, program_fault}
+use Rattle.flt_bpf.specs.Check.{fault_of, is_return, ends_in_return}
+use Rattle.flt_bpf.specs.inside.Check.{first_at, first_check_fault, or_later, no_return, program_fault}
 use Rattle.flt_bpf.proofs.Checking.{last_returns}
 
 not_too_long : (prog : List Insn) → 0 < length prog → length prog ≤ 32768 → program_fault prog ≡ or_later (first_check_fault prog 0) (no_return (ends_in_return prog))

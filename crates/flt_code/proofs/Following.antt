@@ -5,7 +5,7 @@ use Rattle.flt_bpf.specs.declared.insn.Insn.{Insn}
 use Rattle.flt_code.specs.declared.elementary.Elementary.TheVariants.{Outcome}
 use Rattle.flt_code.specs.declared.elementary.Fact.{Fact}
 use Rattle.flt_code.specs.declared.follow.Knowledge.{Knowledge}
-use Rattle.flt_code.specs.Follow.{fact, facts_of, onward, step_from, follow, MOST_STEPS, agreed_place, followed_place}
+use Rattle.flt_code.specs.inside.Follow.{fact, facts_of, onward, step_from, follow, MOST_STEPS, agreed_place, followed_place}
 
 onward_alone : (own : Fact) (b : Bool) (fs : List Fact) (place : ℕ) (c : List Insn) → onward (own ∷ fact (Outcome b) true ∷ fs) place c ≡ onward (own ∷ fs) place c
 onward_alone own b fs place [] = refl

@@ -5,7 +5,7 @@ use Rattle.cap_octet.specs.declared.link.Link.{Link}
 use Rattle.flt_code.specs.declared.elementary.Elementary.{Elementary}
 use Rattle.flt_code.specs.declared.follow.Knowledge.{Knowledge}
 use Rattle.flt_code.specs.Formula.{all_of}
-use Rattle.flt_code.specs.Code.{Block, emit_elementary, emit_formula, emit_all}
+use Rattle.flt_code.specs.inside.Code.{Block, emit_elementary, emit_formula, emit_all}
 
 pub all_emitted : (link : Link) (known : Knowledge) (ts : List Elementary) (hit miss : ℕ) (c : List Insn) → emit_formula link known (all_of ts) hit miss c ≡ emit_all known ts hit miss c
 all_emitted link known [] hit miss c = refl

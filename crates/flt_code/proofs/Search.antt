@@ -4,7 +4,7 @@ use Rattle.std.specs.Prelude.{◌≢◌, ◌==◌, nat_lt, if◌then◌else◌}
 use Rattle.flt_code.specs.Formula.{without}
 use Rattle.std.proofs.lemmas.Bool.Decides.{nat_tests}
 use Rattle.flt_bpf.specs.declared.insn.Insn.{Insn}
-use Rattle.flt_code.specs.Code.{Block, at_top, emit_branch, emit_chain, emit_halves, emit_search}
+use Rattle.flt_code.specs.inside.Code.{Block, at_top, emit_branch, emit_chain, emit_halves, emit_search}
 use Rattle.flt_bpf.specs.declared.operation.Test.TheVariants as test
 use Rattle.flt_bpf.specs.declared.operation.Operand.TheVariants.{Constant}
 

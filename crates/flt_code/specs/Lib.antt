@@ -1,6 +1,4 @@
 pub mod Elementary
 pub mod Numbers
 pub mod Formula
-pub mod Follow
-pub mod Code
-pub mod Emits
+pub mod inside

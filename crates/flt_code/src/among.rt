@@ -2,9 +2,9 @@
 
 ghost use Rattle.std.specs.Prelude.{◌≡◌, ◌≤◌, ◌<◌, ◌+◌, ◌-◌, ◌*◌, ◌++◌, length, take, drop, get_or};
 ghost use Rattle.flt_code.specs.Formula.{whole_field, without, remaining, any_sides};
-ghost use Rattle.flt_code.specs.Code.{emit_chain, emit_search};
+ghost use Rattle.flt_code.specs.inside.Code.{emit_chain, emit_search};
 ghost use Rattle.flt_code.specs.Formula.{Among};
-ghost use Rattle.flt_code.specs.Emits.{HasRoom, Emits, EmitsFormula};
+ghost use Rattle.flt_code.specs.inside.Emits.{HasRoom, Emits, EmitsFormula};
 
 use crate::code::{Code, Targets};
 use crate::context::Context;
@@ -70,7 +70,7 @@ fn number_at(lower: &[u32], upper: &[u32], at: usize) -> u32
 
 /// The same of numbers that ascend, by halves. They are in two slices, the second after the
 /// first.
-#[tactic(auto, unfolding(crate::specs::Code::emit_search))]
+#[tactic(auto, unfolding(crate::specs::inside::Code::emit_search))]
 fn emit_search<A: Allocator>(
     code: &mut Code<A>,
     levels: usize,

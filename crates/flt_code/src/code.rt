@@ -2,9 +2,9 @@
 
 ghost use Rattle.std.specs.Prelude.{◌≡◌, ◌+◌, ◌-◌, ◌^◌, ◌<◌, ◌≤◌, List};
 ghost use Rattle.std.specs.Prelude.{[], ◌∷◌, length, drop, OnOk};
-ghost use Rattle.flt_code.specs.Follow.{step_from, follow, followed_place, entry_at, target};
-ghost use Rattle.flt_code.specs.Code.{plain, emit_jump, reach, emit_branch};
-ghost use Rattle.flt_code.specs.Emits.{HasRoom};
+ghost use Rattle.flt_code.specs.inside.Follow.{step_from, follow, followed_place, entry_at, target};
+ghost use Rattle.flt_code.specs.inside.Code.{plain, emit_jump, reach, emit_branch};
+ghost use Rattle.flt_code.specs.inside.Emits.{HasRoom};
 
 use crate::elementary::{Elementary, Fact, Offset};
 use crate::follow::{Knowledge, onward, past_index};
@@ -149,7 +149,7 @@ impl<A: Allocator> Code<A> {
     }
 
     /// A test that goes on at one of two places.
-    #[tactic(auto, unfolding(crate::specs::Code::emit_branch))]
+    #[tactic(auto, unfolding(crate::specs::inside::Code::emit_branch))]
     pub fn emit_branch(
         &mut self,
         test: Test,
@@ -209,7 +209,7 @@ impl<A: Allocator> Code<A> {
 
     /// The target of a jump that is taken where a fact holds, followed as far as what is known
     /// leads.
-    #[tactic(auto, unfolding(crate::specs::Follow::followed_place))]
+    #[tactic(auto, unfolding(crate::specs::inside::Follow::followed_place))]
     fn followed_place(&self, known: Knowledge, own: Fact, place: usize) -> usize
         ensures { result ≡ followed_place self.now known own place }
     {
@@ -246,7 +246,7 @@ impl<A: Allocator> Code<A> {
     /// Where a test of the field at `tested` may jump instead of to `place`. Jumps on the way are
     /// skipped, and so are tests that `own` (the outcome of this test) and `known` decide, and a load of
     /// the header length that X holds already.
-    #[tactic(auto, unfolding(crate::specs::Follow::target))]
+    #[tactic(auto, unfolding(crate::specs::inside::Follow::target))]
     pub fn target(&self, known: Knowledge, tested: Offset, own: Fact, place: usize) -> usize
         ensures { result ≡ target self.now known tested own place }
     {

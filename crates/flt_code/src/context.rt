@@ -1,7 +1,7 @@
 //! What code is emitted for.
 
 ghost use Rattle.std.specs.Prelude.{◌≡◌, true, false};
-ghost use Rattle.flt_code.specs.Follow.{nothing, fact, and_fact, and_fork};
+ghost use Rattle.flt_code.specs.inside.Follow.{nothing, fact, and_fact, and_fork};
 
 use crate::code::Targets;
 use crate::elementary::Elementary;

@@ -1,10 +1,10 @@
 //! The code of elementary tests, and of several that are joined.
 
 ghost use Rattle.std.specs.Prelude.{◌≡◌, ◌+◌, ◌*◌, ◌≤◌, length, OnOk};
-ghost use Rattle.flt_code.specs.Code.{emit_field, emit_mask, emit_comparison};
-ghost use Rattle.flt_code.specs.Code.{emit_test, emit_fork};
+ghost use Rattle.flt_code.specs.inside.Code.{emit_field, emit_mask, emit_comparison};
+ghost use Rattle.flt_code.specs.inside.Code.{emit_test, emit_fork};
 ghost use Rattle.flt_code.specs.Formula.{Single, all_of, sides};
-ghost use Rattle.flt_code.specs.Emits.{HasRoom, Emits, EmitsFormula};
+ghost use Rattle.flt_code.specs.inside.Emits.{HasRoom, Emits, EmitsFormula};
 
 use crate::code::{Code, Targets};
 use crate::context::Context;

@@ -2,9 +2,9 @@
 
 ghost use Rattle.std.specs.Prelude.{◌≡◌, ◌-◌, ◌∷◌, [], length, max, reverse, MatchOption};
 ghost use Rattle.std.specs.Prelude.{true, false};
-ghost use Rattle.flt_code.specs.Follow.{same_mask, looks_at, test_says, known_outcome, past_mask};
-ghost use Rattle.flt_code.specs.Follow.{past_load, onward, past_index, nothing, fact, and_fact};
-ghost use Rattle.flt_code.specs.Follow.{and_fork};
+ghost use Rattle.flt_code.specs.inside.Follow.{same_mask, looks_at, test_says, known_outcome, past_mask};
+ghost use Rattle.flt_code.specs.inside.Follow.{past_load, onward, past_index, nothing, fact, and_fact};
+ghost use Rattle.flt_code.specs.inside.Follow.{and_fork};
 
 use crate::elementary::{Alternatives, Elementary, Fact, FieldTest, Offset};
 use flt_bpf::insn::Insn;

@@ -7,9 +7,9 @@ use Rattle.flt_bpf.specs.declared.insn.Insn.{Insn}
 use Rattle.flt_words.specs.declared.token.Protocol.{Protocol}
 use Rattle.cap_octet.specs.declared.link.Link.{Link}
 use Rattle.flt_code.specs.Numbers.{accessor_tests}
-use Rattle.flt_code.specs.Follow.{nothing}
-use Rattle.flt_code.specs.Code.{Block, block, emit_all}
-use Rattle.flt_gen.specs.ProgramCode.{emit_accessors}
+use Rattle.flt_code.specs.inside.Follow.{nothing}
+use Rattle.flt_code.specs.inside.Code.{Block, block, emit_all}
+use Rattle.flt_gen.specs.inside.ProgramCode.{emit_accessors}
 use Rattle.flt_gen.proofs.Tails.{accessors_extend}
 
 accessors_split : (link : Link) (a b : List Protocol) (hit miss : ℕ) (c : List Insn) → emit_accessors link (a ++ b) hit miss c ≡ (let e = emit_accessors link b hit miss c in emit_accessors link a e.entry miss e.code)

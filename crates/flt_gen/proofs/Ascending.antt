@@ -4,7 +4,7 @@ use Rattle.std.specs.Prelude.{nat_lt, ◌==◌, ◌||◌, if◌then◌else◌}
 use Rattle.std.specs.List.{insert}
 use Rattle.std.proofs.lemmas.Bool.Decides.{nat_tests}
 use Rattle.flt_code.specs.Formula.{is_one_of, without, remaining}
-use Rattle.flt_gen.specs.Group.{insert_ascending}
+use Rattle.flt_gen.specs.inside.Group.{insert_ascending}
 
 -- by a test
 pub if_case : {A : Type 0} (P : A → Type 0) (b : Bool) (x y : A) → (b ≡ true → P x) → (b ≡ false → P y) → P (if b then x else y)

@@ -33,7 +33,7 @@ use Rattle.flt_code.specs.Formula.{Formula, Single, Compare, Both, Either, Guard
 use Rattle.flt_gen.specs.Primitives.{any_proto, mac_tests, check_formula, cast_formula, proto_formula, hosts_of_kind, net_formula, net_test, ip6_formula, ether_host, port_formula, port_test, port_places, port_sides, ports_after, ip_transport, ip6_transport, transport, value_formula}
 use Rattle.flt_code.specs.Formula.{whole_field, remaining, any_sides}
 use Rattle.flt_gen.specs.Reading.{formula}
-use Rattle.flt_gen.specs.Counts.{tests, nodes, words}
+use Rattle.flt_gen.specs.inside.Counts.{tests, nodes, words}
 use Rattle.flt_gen.specs.declared.wanted.NetTest.{NetTest}
 use Rattle.flt_gen.specs.declared.wanted.Hosts.TheVariants as hosts
 use Rattle.flt_gen.specs.declared.wanted.PortTest.{PortTest}

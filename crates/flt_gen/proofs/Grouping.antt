@@ -23,10 +23,10 @@ use Rattle.flt_gen.specs.declared.wanted.Hosts.TheVariants as hosts
 use Rattle.flt_gen.specs.declared.wanted.Ports.TheVariants.{One, Several}
 use Rattle.flt_code.specs.Formula.{Formula, Compare, Both, Either, Except, is_one_of, both, either, negation, reads}
 use Rattle.flt_gen.specs.Primitives.{net_test, net_formula, hosts_formula, port_test, port_formula, qualified_formula, value_formula}
-use Rattle.flt_gen.specs.Emitted.{protocols_of, relation_formula, qualified_needed}
+use Rattle.flt_gen.specs.inside.Emitted.{protocols_of, relation_formula, qualified_needed}
 use Rattle.flt_gen.specs.Reading.{formula}
-use Rattle.flt_gen.specs.Counts.{tests, nodes, words}
-use Rattle.flt_gen.specs.Group.{Group, no_group, insert_ascending, with_member, same_type, same_protocol, same_direction, goes_with, member_number, group_and, larger_group, one_formula, several_formula, formula_by, group_formula, or_any, or_group, truth_member, choice, grouped_formula, MOST_TOGETHER}
+use Rattle.flt_gen.specs.inside.Counts.{tests, nodes, words}
+use Rattle.flt_gen.specs.inside.Group.{Group, no_group, insert_ascending, with_member, same_type, same_protocol, same_direction, goes_with, member_number, group_and, larger_group, one_formula, several_formula, formula_by, group_formula, or_any, or_group, truth_member, choice, grouped_formula, MOST_TOGETHER}
 use Rattle.flt_short.proofs.Basics.{both_true}
 use Rattle.flt_gen.proofs.Ascending.{Ascending, Searchable, others_fewer, ascending_inserted, length_inserted, one_of_inserted}
 use Rattle.flt_gen.proofs.Exclusive.{Apt, ip_no_arp, ip_no_rarp, arp_no_rarp}

@@ -28,10 +28,10 @@ use Rattle.cap_octet.specs.Link.{network_offset}
 use Rattle.flt_code.specs.Numbers.{width_of}
 use Rattle.flt_code.specs.Formula.{Formula, Single, Compare, Both, Either, Except, Guard, Fork, Choose, Among}
 use Rattle.flt_tree.specs.Counts.{number_words, number_size}
-use Rattle.flt_gen.specs.Counts.{words, nodes, tests}
-use Rattle.flt_code.specs.Code.{plain, computation, takes, constant, constant_operand, branch_insn, emit_jump, emit_branch, reach, emit_comparison, emit_field, emit_mask, emit_base, emit_transport, emit_accessor, emit_number, Block, at_top, emit_chain, emit_search, LEVELS, emit_elementary, emit_fork, emit_formula}
+use Rattle.flt_gen.specs.inside.Counts.{words, nodes, tests}
+use Rattle.flt_code.specs.inside.Code.{plain, computation, takes, constant, constant_operand, branch_insn, emit_jump, emit_branch, reach, emit_comparison, emit_field, emit_mask, emit_base, emit_transport, emit_accessor, emit_number, Block, at_top, emit_chain, emit_search, LEVELS, emit_elementary, emit_fork, emit_formula}
 use Rattle.flt_code.specs.declared.follow.Knowledge.{Knowledge}
-use Rattle.flt_code.specs.Follow.{and_fork, fact, always, and_fact, target}
+use Rattle.flt_code.specs.inside.Follow.{and_fork, fact, always, and_fact, target}
 use Rattle.flt_code.specs.declared.elementary.Elementary.{Elementary}
 use Rattle.flt_gen.proofs.Onward.{target_inside}
 use Rattle.flt_gen.proofs.Tails.{by_reach, by_right}

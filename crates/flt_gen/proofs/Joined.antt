@@ -15,12 +15,12 @@ use Rattle.flt_gen.specs.declared.wanted.PortTest.{PortTest}
 use Rattle.flt_gen.specs.declared.wanted.Ports.TheVariants.{One, Several}
 use Rattle.flt_code.specs.Numbers.{accessor_tests}
 use Rattle.flt_gen.specs.Primitives.{net_test, net_formula, hosts_formula, port_test, port_formula}
-use Rattle.flt_gen.specs.Group.{Group, one_formula, several_formula, formula_by, group_formula}
+use Rattle.flt_gen.specs.inside.Group.{Group, one_formula, several_formula, formula_by, group_formula}
 use Rattle.flt_code.specs.Formula.{Formula, guarded_formula, checked_formula}
 use Rattle.flt_code.specs.declared.follow.Knowledge.{Knowledge}
-use Rattle.flt_code.specs.Follow.{nothing}
-use Rattle.flt_code.specs.Code.{Block, block, emit_elementary, emit_formula, emit_all}
-use Rattle.flt_gen.specs.ProgramCode.{emit_accessors}
+use Rattle.flt_code.specs.inside.Follow.{nothing}
+use Rattle.flt_code.specs.inside.Code.{Block, block, emit_elementary, emit_formula, emit_all}
+use Rattle.flt_gen.specs.inside.ProgramCode.{emit_accessors}
 
 guarded_emitted : (link : Link) (known : Knowledge) (ts : List Elementary) (f : Formula) (hit miss : ℕ) (c : List Insn) → emit_formula link known (guarded_formula ts f) hit miss c ≡ (let e = emit_formula link known f hit miss c in emit_all known ts e.entry miss e.code)
 guarded_emitted link known [] f hit miss c = refl

@@ -23,9 +23,9 @@ use Rattle.flt_code.specs.declared.elementary.Elementary.{Elementary}
 use Rattle.flt_code.specs.Elementary.{Reading, Yes, No, Rejected, reading_of, with, under_mask, kind_test, elementary_reads}
 use Rattle.cap_octet.specs.Link.{network_offset}
 use Rattle.flt_code.specs.Formula.{both, either, all_of, sides, reads}
-use Rattle.flt_gen.specs.Counts.{tests}
+use Rattle.flt_gen.specs.inside.Counts.{tests}
 use Rattle.flt_gen.specs.Primitives.{partial_mask, address_test, ip6_test, ip6_tests, ip6_formula, value_formula}
-use Rattle.flt_gen.specs.Emitted.{is_empty, is_idle, capture_test, last_test, needed_tests, needed_sides, ip6_needed, value_needed}
+use Rattle.flt_gen.specs.inside.Emitted.{is_empty, is_idle, capture_test, last_test, needed_tests, needed_sides, ip6_needed, value_needed}
 use Rattle.flt_gen.proofs.Ascending.{if_case}
 use Rattle.flt_gen.proofs.Counted.{Bare, bare_guard, bare_sides, bare_value, value_tests_fit}
 

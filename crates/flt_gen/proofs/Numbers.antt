@@ -28,7 +28,7 @@ use Rattle.flt_code.specs.Elementary.{with}
 use Rattle.cap_octet.specs.Link.{network_offset}
 use Rattle.flt_code.specs.Numbers.{width_of, base, result_of, number}
 use Rattle.flt_tree.specs.Counts.{number_words}
-use Rattle.flt_code.specs.Code.{plain, computation, takes, constant, constant_operand, branch_insn, emit_base, emit_transport, emit_accessor, emit_operands, emit_number}
+use Rattle.flt_code.specs.inside.Code.{plain, computation, takes, constant, constant_operand, branch_insn, emit_base, emit_transport, emit_accessor, emit_operands, emit_number}
 use Rattle.flt_gen.proofs.Tails.{by_right}
 use Rattle.flt_bpf.specs.Answer.{answer_of, answer_after}
 use Rattle.flt_bpf.specs.declared.operation.Operation.TheVariants.{LoadAbsolute, LoadIndirect, Load, LoadHeaderLength, Store, Compute, Negate, Jump, CopyToIndex}

@@ -10,8 +10,8 @@ use Rattle.flt_code.specs.declared.elementary.Elementary.{Elementary}
 use Rattle.flt_code.specs.Elementary.{Reading, Yes, No, Rejected, elementary_reads}
 use Rattle.flt_code.specs.Numbers.{accessors, accessor_tests}
 use Rattle.flt_code.specs.Formula.{Formula, Compare, both, reads, guarded_formula, checked_formula}
-use Rattle.flt_gen.specs.Counts.{tests}
-use Rattle.flt_gen.specs.Emitted.{equals, without_protocol, protocols_of, relation_formula}
+use Rattle.flt_gen.specs.inside.Counts.{tests}
+use Rattle.flt_gen.specs.inside.Emitted.{equals, without_protocol, protocols_of, relation_formula}
 use Rattle.flt_gen.specs.Reading.{formula}
 use Rattle.flt_gen.proofs.Ascending.{if_case}
 use Rattle.flt_gen.proofs.Counted.{accessor_tests_are}

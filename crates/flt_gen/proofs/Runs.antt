@@ -15,7 +15,7 @@ use Rattle.flt_code.specs.declared.elementary.Elementary.{Elementary}
 use Rattle.cap_octet.specs.Link.{network_offset}
 use Rattle.flt_code.specs.Numbers.{width_of}
 use Rattle.flt_code.specs.declared.follow.Knowledge.{Knowledge}
-use Rattle.flt_code.specs.Follow.{and_fork, fact, always, and_fact, target}
+use Rattle.flt_code.specs.inside.Follow.{and_fork, fact, always, and_fact, target}
 use Rattle.flt_code.specs.declared.elementary.Fact.{Fact}
 use Rattle.flt_gen.proofs.Exclusive.{Apt, excluded_no}
 use Rattle.flt_gen.proofs.Onward.{is_load, Leads, leads_on, Settles, Branches, MaskedBranches, Settled, FactHolds, KnowledgeHolds, Ready, LeadsReady, ready_anyhow, ready_on, target_leads}
@@ -38,8 +38,8 @@ use Rattle.flt_code.specs.Elementary.{Reading, Yes, No, Rejected, reading_of, wi
 use Rattle.flt_code.specs.Numbers.{number}
 use Rattle.flt_code.specs.Formula.{Formula, Single, Compare, Both, Either, Except, Guard, Fork, Choose, Among, is_one_of, among_reads, relation_reads, both, either, negation as exchanged, reads}
 use Rattle.flt_tree.specs.Counts.{number_words}
-use Rattle.flt_gen.specs.Counts.{words}
-use Rattle.flt_code.specs.Code.{plain, computation, constant, constant_operand, emit_base, emit_transport, emit_accessor, emit_elementary, emit_jump, emit_branch, reach, emit_comparison, emit_field, emit_mask, emit_test, emit_operands, emit_number, emit_relation, Block, at_top, emit_chain, emit_search, LEVELS, emit_among, emit_formula}
+use Rattle.flt_gen.specs.inside.Counts.{words}
+use Rattle.flt_code.specs.inside.Code.{plain, computation, constant, constant_operand, emit_base, emit_transport, emit_accessor, emit_elementary, emit_jump, emit_branch, reach, emit_comparison, emit_field, emit_mask, emit_test, emit_operands, emit_number, emit_relation, Block, at_top, emit_chain, emit_search, LEVELS, emit_among, emit_formula}
 use Rattle.flt_bpf.specs.Answer.{answer_of, answer_after}
 use Rattle.flt_gen.proofs.Tails.{Extends, extends_none, extends_put, extends_on, branch_extends, field_extends, mask_extends, by_reach, by_right, test_extends, relation_extends, search_extends}
 use Rattle.flt_short.proofs.Basics.{by_test}

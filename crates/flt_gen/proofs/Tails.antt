@@ -24,10 +24,10 @@ use Rattle.flt_code.specs.Numbers.{width_of, accessor_tests}
 use Rattle.flt_code.specs.Formula.{Formula, Single, Compare, Both, Either, Except, Guard, Fork, Choose, Among}
 use Rattle.flt_code.specs.declared.code.Reach.{Reach}
 use Rattle.flt_code.specs.declared.code.Reach.TheVariants.{Near, YesFar, NoFar, BothFar}
-use Rattle.flt_code.specs.Code.{plain, emit_branch, emit_branch_by, reach, emit_comparison, emit_field, emit_mask, emit_test, emit_accessor, constant, constant_operand, emit_right, emit_number, emit_relation, Block, emit_chain, emit_search, LEVELS, emit_elementary, emit_fork, emit_formula, emit_all, emit_base, emit_transport}
-use Rattle.flt_gen.specs.ProgramCode.{emit_accessors}
+use Rattle.flt_code.specs.inside.Code.{plain, emit_branch, emit_branch_by, reach, emit_comparison, emit_field, emit_mask, emit_test, emit_accessor, constant, constant_operand, emit_right, emit_number, emit_relation, Block, emit_chain, emit_search, LEVELS, emit_elementary, emit_fork, emit_formula, emit_all, emit_base, emit_transport}
+use Rattle.flt_gen.specs.inside.ProgramCode.{emit_accessors}
 use Rattle.flt_code.specs.declared.follow.Knowledge.{Knowledge}
-use Rattle.flt_code.specs.Follow.{and_fork, fact, always, nothing, and_fact, target}
+use Rattle.flt_code.specs.inside.Follow.{and_fork, fact, always, nothing, and_fact, target}
 use Rattle.flt_bpf.specs.declared.operation.Operation.TheVariants.{Store, Negate, Jump}
 use Rattle.flt_bpf.specs.declared.operation.Register.TheVariants.{Accumulator}
 

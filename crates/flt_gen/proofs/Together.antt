@@ -24,7 +24,7 @@ use Rattle.flt_code.specs.Elementary.{Reading, Yes, No, Rejected, reading_of, wi
 use Rattle.flt_code.specs.Formula.{Formula, is_one_of, both, either, sides, reads}
 use Rattle.flt_gen.specs.Primitives.{address_places, net_test, net_formula, hosts_formula, port_places, port_sides, transport, following, transport_ports, ip_transport, ip6_transport, port_test, port_formula}
 use Rattle.flt_code.specs.Formula.{remaining, any_sides}
-use Rattle.flt_gen.specs.Group.{insert_ascending, one_formula, several_formula}
+use Rattle.flt_gen.specs.inside.Group.{insert_ascending, one_formula, several_formula}
 use Rattle.flt_gen.proofs.Ascending.{one_of_inserted, one_of_others}
 use Rattle.flt_gen.proofs.Exclusive.{ip_no_ip6, ip_no_arp, ip_no_rarp, arp_no_rarp}
 

@@ -5,10 +5,10 @@ use Rattle.std.proofs.Math.Seq.{take-suc}
 use Rattle.std.proofs.lemmas.List.{reverse-append}
 use Rattle.flt_tree.specs.declared.node.Node.{Node}
 use Rattle.flt_tree.specs.Tree.{Expression}
-use Rattle.flt_tree.specs.Nodes.{expr_onto}
+use Rattle.flt_tree.specs.inside.Nodes.{expr_onto}
 use Rattle.cap_octet.specs.declared.link.Link.{Link}
-use Rattle.flt_gen.specs.ProgramCode.{expression_code, program_code}
-use Rattle.flt_gen.specs.Walk.{Walk, emit_node, emit_both_nodes, emit_nodes, start_walk, insns_of}
+use Rattle.flt_gen.specs.inside.ProgramCode.{expression_code, program_code}
+use Rattle.flt_gen.specs.inside.Walk.{Walk, emit_node, emit_both_nodes, emit_nodes, start_walk, insns_of}
 use Rattle.flt_gen.proofs.Walking.{expression_walked}
 use Rattle.flt_gen.proofs.Room.{IsLow, node_low, both_grown, walked_longer, both_walked, one_walked, last_walked}
 use Rattle.flt_gen.proofs.Whole.{Fits}

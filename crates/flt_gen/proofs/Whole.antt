@@ -18,24 +18,25 @@ use Rattle.flt_code.specs.declared.elementary.Elementary.TheVariants.{Outcome}
 use Rattle.flt_code.specs.Elementary.{Reading, Yes, No, Rejected}
 use Rattle.flt_code.specs.Formula.{Formula, Single, reads}
 use Rattle.flt_gen.specs.Reading.{holds}
-use Rattle.flt_gen.specs.Counts.{words, tests, nodes, short_bound_of}
-use Rattle.flt_code.specs.Follow.{nothing}
-use Rattle.flt_code.specs.Code.{plain, emit_formula, Block}
-use Rattle.flt_gen.specs.ProgramCode.{returns_code, expression_code, from_entry, program_code}
+use Rattle.flt_gen.specs.Counts.{short_bound_of}
+use Rattle.flt_gen.specs.inside.Counts.{words, tests, nodes}
+use Rattle.flt_code.specs.inside.Follow.{nothing}
+use Rattle.flt_code.specs.inside.Code.{plain, emit_formula, Block}
+use Rattle.flt_gen.specs.inside.ProgramCode.{returns_code, expression_code, from_entry, program_code}
 use Rattle.flt_gen.specs.Correct.{Decides, IsProgramOf}
 use Rattle.flt_bpf.specs.Layout.{JUMP, JumpsAreNeeded, IsShort}
 use Rattle.flt_bpf.proofs.Suffix.{valid_if_faultless, faultless_drop, ends_drop, answer_drop, machine_answers}
 use Rattle.flt_gen.proofs.Onward.{Leads, Settled}
 use Rattle.flt_gen.proofs.Exclusive.{Apt}
 use Rattle.flt_gen.proofs.Runs.{pick, emitted_works}
-use Rattle.flt_short.specs.Reload.{without_reloads}
+use Rattle.flt_short.specs.inside.Reload.{without_reloads}
 use Rattle.flt_short.proofs.Reloads.{reloads_answer}
 use Rattle.flt_short.proofs.Passing.{length_flow, faultless_flow, ends_flow, no_jump_flow, reloads_needed}
 use Rattle.flt_gen.proofs.Far.{emitted_needed}
 use Rattle.flt_gen.proofs.Short.{emitted_slim, all_put}
 use Rattle.flt_gen.proofs.Grows.{Sits, emitted_sits}
 use Rattle.flt_gen.proofs.Counted.{nodes_fit, words_fit}
-use Rattle.flt_gen.specs.Group.{no_group, grouped_formula}
+use Rattle.flt_gen.specs.inside.Group.{no_group, grouped_formula}
 use Rattle.flt_gen.proofs.Grouping.{kept_none, grouped_stands}
 use Rattle.flt_bpf.specs.declared.operation.Operation.TheVariants.{ReturnConstant}
 

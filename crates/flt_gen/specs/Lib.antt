@@ -1,10 +1,6 @@
 pub mod Primitives
 pub mod Reading
-pub mod Folding
-pub mod Emitted
-pub mod Group
-pub mod ProgramCode
 pub mod Counts
-pub mod Walk
 pub mod Correct
 pub mod Laws
+pub mod inside

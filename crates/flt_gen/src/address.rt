@@ -4,12 +4,12 @@ ghost use Rattle.std.specs.Prelude.{◌≡◌, ◌+◌, ◌*◌, ◌≤◌, leng
 ghost use Rattle.cap_octet.specs.Link.{longest_header};
 ghost use Rattle.flt_tree.specs.Nets.{first_bits};
 ghost use Rattle.flt_code.specs.Elementary.{kind_test};
-ghost use Rattle.flt_code.specs.Emits.{HasRoom, Emits, EmitsFormula, EmitsAfter};
+ghost use Rattle.flt_code.specs.inside.Emits.{HasRoom, Emits, EmitsFormula, EmitsAfter};
 ghost use Rattle.flt_gen.specs.Primitives.{address_test, address_places, net_formula};
 ghost use Rattle.flt_gen.specs.Primitives.{hosts_sides, any_hosts, hosts_formula};
 ghost use Rattle.flt_gen.specs.Primitives.{ip6_test, ip6_tests};
-ghost use Rattle.flt_gen.specs.Emitted.{is_idle, last_test, needed_tests, needed_sides, ip6_needed};
-ghost use Rattle.flt_code.specs.Code.{emit_all};
+ghost use Rattle.flt_gen.specs.inside.Emitted.{is_idle, last_test, needed_tests, needed_sides, ip6_needed};
+ghost use Rattle.flt_code.specs.inside.Code.{emit_all};
 
 use crate::wanted::{Hosts, NetTest, partial_mask};
 use cap_octet::Link;

@@ -1,8 +1,8 @@
 //! Arithmetic of numbers alone becomes one number before code is emitted for it.
 
 ghost use Rattle.std.specs.Prelude.{◌≡◌, [], fold, reverse, OnOk, IfOk};
-ghost use Rattle.flt_gen.specs.Folding.{node_constant, applied_constant, with_negation};
-ghost use Rattle.flt_gen.specs.Folding.{with_operator, with_folded};
+ghost use Rattle.flt_gen.specs.inside.Folding.{node_constant, applied_constant, with_negation};
+ghost use Rattle.flt_gen.specs.inside.Folding.{with_operator, with_folded};
 
 use crate::number::alu_operation;
 use crate::waiting::Stack;

@@ -2,8 +2,8 @@
 
 ghost use Rattle.std.specs.Prelude.{◌≡◌, ◌≤◌, if◌then◌else◌, Some, None, length, IfOk};
 ghost use Rattle.std.specs.List.{insert};
-ghost use Rattle.flt_gen.specs.Group.{no_group, insert_ascending, same_type, same_protocol};
-ghost use Rattle.flt_gen.specs.Group.{same_direction, goes_with, member_number, larger_group};
+ghost use Rattle.flt_gen.specs.inside.Group.{no_group, insert_ascending, same_type, same_protocol};
+ghost use Rattle.flt_gen.specs.inside.Group.{same_direction, goes_with, member_number, larger_group};
 
 use flt_tree::{CompleteQualifiers, Direction, Value};
 use flt_words::{Join, Protocol, Side, ValueType};
@@ -25,7 +25,7 @@ pub struct Group<A: Allocator> {
 }
 
 impl<A: Allocator> Model for Group<A> {
-    ghost use Rattle.flt_gen.specs.Group.{Group};
+    ghost use Rattle.flt_gen.specs.inside.Group.{Group};
 
     ghost Value = { Group };
 

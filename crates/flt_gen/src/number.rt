@@ -1,13 +1,13 @@
 //! The code of arithmetic and of the tests that accessors ask for.
 
 ghost use Rattle.std.specs.Prelude.{◌≡◌, ◌^◌, ◌<◌, length, OnOk, IfOk, reverse};
-ghost use Rattle.flt_code.specs.Code.{block, emit_base, emit_transport, emit_accessor};
-ghost use Rattle.flt_code.specs.Code.{alu_operation, computation, takes, emit_operands};
-ghost use Rattle.flt_code.specs.Code.{emit_all};
-ghost use Rattle.flt_gen.specs.ProgramCode.{emit_accessors};
-ghost use Rattle.flt_code.specs.Follow.{nothing};
+ghost use Rattle.flt_code.specs.inside.Code.{block, emit_base, emit_transport, emit_accessor};
+ghost use Rattle.flt_code.specs.inside.Code.{alu_operation, computation, takes, emit_operands};
+ghost use Rattle.flt_code.specs.inside.Code.{emit_all};
+ghost use Rattle.flt_gen.specs.inside.ProgramCode.{emit_accessors};
+ghost use Rattle.flt_code.specs.inside.Follow.{nothing};
 ghost use Rattle.flt_code.specs.Numbers.{accessor_tests, width_of};
-ghost use Rattle.flt_code.specs.Emits.{HasRoom, Emits};
+ghost use Rattle.flt_code.specs.inside.Emits.{HasRoom, Emits};
 
 use cap_octet::Link;
 use cap_octet::assigned::{IPPROTO_ICMP, IPPROTO_TCP, IPPROTO_UDP};

@@ -3,7 +3,7 @@
 //! (`emit_port_sides`).
 
 ghost use Rattle.std.specs.Prelude.{◌≡◌, ◌+◌, ◌*◌, length};
-ghost use Rattle.flt_code.specs.Emits.{HasRoom, EmitsFormula, EmitsAfter};
+ghost use Rattle.flt_code.specs.inside.Emits.{HasRoom, EmitsFormula, EmitsAfter};
 ghost use Rattle.flt_gen.specs.Primitives.{port_is, port_between, port_places, port_sides};
 ghost use Rattle.flt_gen.specs.Primitives.{ports_after, transport_ports, ip_transport};
 ghost use Rattle.flt_gen.specs.Primitives.{ip6_transport, port_formula};

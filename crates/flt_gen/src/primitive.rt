@@ -3,7 +3,7 @@
 ghost use Rattle.std.specs.Prelude.{◌≡◌, ◌≤◌};
 ghost use Rattle.flt_code.specs.Elementary.{kind_test};
 ghost use Rattle.flt_code.specs.Formula.{Single};
-ghost use Rattle.flt_code.specs.Emits.{HasRoom, EmitsFormula, EmitsAfter};
+ghost use Rattle.flt_code.specs.inside.Emits.{HasRoom, EmitsFormula, EmitsAfter};
 ghost use Rattle.flt_gen.specs.Primitives.{ether_proto, check_formula, proto_formula};
 ghost use Rattle.flt_gen.specs.Primitives.{ether_host, mac_tests, is_group_address, cast_formula};
 

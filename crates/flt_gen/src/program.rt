@@ -4,7 +4,7 @@ ghost use Rattle.std.specs.Prelude.{◌≡◌, ◌≤◌, length, IfOk, reverse}
 ghost use Rattle.flt_gen.specs.Correct.{IsProgramOf};
 ghost use Rattle.flt_gen.specs.Counts.{short_bound_of};
 ghost use Rattle.flt_bpf.specs.Layout.{JumpsAreNeeded, IsShort};
-ghost use Rattle.flt_gen.specs.Walk.{emit_nodes, start_walk, insns_of};
+ghost use Rattle.flt_gen.specs.inside.Walk.{emit_nodes, start_walk, insns_of};
 
 use crate::folding::folded_nodes;
 use crate::walk::Walk;

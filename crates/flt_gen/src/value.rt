@@ -1,11 +1,11 @@
 //! The code of values with their qualifiers.
 
 ghost use Rattle.std.specs.Prelude.{◌+◌, ◌*◌, length};
-ghost use Rattle.flt_code.specs.Emits.{HasRoom, EmitsFormula};
+ghost use Rattle.flt_code.specs.inside.Emits.{HasRoom, EmitsFormula};
 ghost use Rattle.flt_gen.specs.Primitives.{host_formula};
 ghost use Rattle.flt_gen.specs.Primitives.{sized_formula};
-ghost use Rattle.flt_gen.specs.Emitted.{net_needed, qualified_needed};
-ghost use Rattle.flt_gen.specs.Group.{group_formula};
+ghost use Rattle.flt_gen.specs.inside.Emitted.{net_needed, qualified_needed};
+ghost use Rattle.flt_gen.specs.inside.Group.{group_formula};
 
 use crate::address::{emit_hosts, emit_ip6, emit_net};
 use crate::group::Group;

@@ -1,7 +1,7 @@
 //! What waits during the walk over an expression's nodes.
 
 ghost use Rattle.std.specs.Prelude.{◌≡◌, List, [], ◌∷◌, reverse, OnOk, MatchOption};
-ghost use Rattle.flt_gen.specs.Emitted.{equals, without_protocol, with_accessor};
+ghost use Rattle.flt_gen.specs.inside.Emitted.{equals, without_protocol, with_accessor};
 
 use flt_code::Targets;
 use flt_words::{Join, Protocol};

@@ -13,15 +13,15 @@
 
 ghost use Rattle.std.specs.Prelude.{◌≡◌, ◌+◌, ◌^◌, ◌<◌, ◌≤◌, true, length, OnOk, IfOk, reverse};
 ghost use Rattle.std.specs.Prelude.{if◌then◌else◌};
-ghost use Rattle.flt_gen.specs.Group.{larger_group};
-ghost use Rattle.flt_code.specs.Code.{block};
-ghost use Rattle.flt_code.specs.Emits.{HasRoom};
-ghost use Rattle.flt_gen.specs.Walk.{start_walk, finish_truth, finish_relation, finish_number};
-ghost use Rattle.flt_gen.specs.Walk.{is_number_node, is_truth_node, begin_operands, begin_right};
-ghost use Rattle.flt_gen.specs.Walk.{emit_loaded, flush_group};
-ghost use Rattle.flt_gen.specs.Walk.{finish_group, emit_value, emit_join, emit_truth_node};
-ghost use Rattle.flt_gen.specs.Walk.{emit_node, insns_of, emit_applied, emit_compared};
-ghost use Rattle.flt_gen.specs.Walk.{emit_both_nodes, emit_nodes};
+ghost use Rattle.flt_gen.specs.inside.Group.{larger_group};
+ghost use Rattle.flt_code.specs.inside.Code.{block};
+ghost use Rattle.flt_code.specs.inside.Emits.{HasRoom};
+ghost use Rattle.flt_gen.specs.inside.Walk.{start_walk, finish_truth, finish_relation, finish_number};
+ghost use Rattle.flt_gen.specs.inside.Walk.{is_number_node, is_truth_node, begin_operands, begin_right};
+ghost use Rattle.flt_gen.specs.inside.Walk.{emit_loaded, flush_group};
+ghost use Rattle.flt_gen.specs.inside.Walk.{finish_group, emit_value, emit_join, emit_truth_node};
+ghost use Rattle.flt_gen.specs.inside.Walk.{emit_node, insns_of, emit_applied, emit_compared};
+ghost use Rattle.flt_gen.specs.inside.Walk.{emit_both_nodes, emit_nodes};
 
 use crate::group::Group;
 use crate::number::{computation, emit_accessor, emit_accessors, emit_operands, takes, width_of};
@@ -58,7 +58,7 @@ pub struct Walk<A: Allocator> {
 }
 
 impl<A: Allocator> Model for Walk<A> {
-    ghost use Rattle.flt_gen.specs.Walk.{Walk};
+    ghost use Rattle.flt_gen.specs.inside.Walk.{Walk};
 
     ghost Value = { Walk };
 

@@ -8,7 +8,7 @@ use Rattle.flt_tree.specs.declared.node.Node.TheVariants as node
 use Rattle.flt_lang.specs.declared.frame.Frame.{Frame}
 use Rattle.flt_lang.specs.declared.frame.Operand.TheVariants as operand
 use Rattle.flt_lang.specs.Values.{ReadsValue}
-use Rattle.flt_lang.specs.Parser.{◌>>=◌, next_precedence, begin, run, with_frames, bare_of}
+use Rattle.flt_lang.specs.inside.Parser.{◌>>=◌, next_precedence, begin, run, with_frames, bare_of}
 use Rattle.flt_lang.proofs.ValuesBack.{value_back}
 use Rattle.flt_lang.proofs.Valued.{value_suffix, value_some, run_begins}
 

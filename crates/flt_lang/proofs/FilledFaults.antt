@@ -7,10 +7,13 @@ use Rattle.flt_tree.specs.declared.qualifiers.Qualifiers.{Qualifiers}
 use Rattle.flt_tree.specs.declared.value.Value.{Value}
 use Rattle.flt_tree.specs.declared.node.Node.{Node}
 use Rattle.flt_tree.specs.Tree.{TruthTree, check, cast, sized, bare, valued, qualified, compared, denied, joined, Expression, empty, truth}
-use Rattle.flt_tree.specs.Nodes.{tree_of, IsTree}
+use Rattle.flt_tree.specs.Nodes.{tree_of}
+use Rattle.flt_tree.specs.inside.Nodes.{IsTree}
 use Rattle.flt_tree.specs.Fits.{fit_of, is_misfit_fit, is_proto, is_either}
-use Rattle.flt_tree.specs.Filled.{type_or_host, full, latest, with_inherited, complete, only_host, expr_inherited, fill_expression, inherited_nodes}
-use Rattle.flt_tree.specs.Resolved.{is_misfit, is_out_of_range, has_past_bits, is_unfilled, any_primitive, some_primitive, first_fault, fill_fault, IsResolved, nodes_fault}
+use Rattle.flt_tree.specs.Filled.{type_or_host, full, latest, with_inherited, complete, only_host, expr_inherited, fill_expression}
+use Rattle.flt_tree.specs.inside.Filled.{inherited_nodes}
+use Rattle.flt_tree.specs.Resolved.{is_misfit, is_out_of_range, has_past_bits, is_unfilled, any_primitive, some_primitive, first_fault, fill_fault, IsResolved}
+use Rattle.flt_tree.specs.inside.Resolved.{nodes_fault}
 use Rattle.flt_lang.proofs.Filling.{inherited_whole}
 use Rattle.flt_lang.proofs.Primitives.{fault_is}
 

@@ -4,7 +4,7 @@ use Rattle.std.proofs.lemmas.List.{take_rest}
 use Rattle.flt_words.specs.declared.token.Token.{Token}
 use Rattle.flt_tree.specs.declared.value.Value.{Value}
 use Rattle.flt_lang.specs.Grammar.{kinds_of}
-use Rattle.flt_lang.specs.Values.{value_of}
+use Rattle.flt_lang.specs.inside.Values.{value_of}
 
 -- the first token and those after it are all
 pub first_and_rest : (ts : List Token) (t : Token) → 0 < length ts → (get_or ts 0 t).kind ∷ kinds_of (take (length ts - 1) (drop 1 ts)) ≡ kinds_of ts

@@ -3,9 +3,10 @@ use Rattle.std.proofs.Common.{◌≡◌, List, reverse, sym, ap, ◌∙◌, subs
 use Rattle.flt_words.specs.declared.token.TokenKind.{TokenKind}
 use Rattle.flt_tree.specs.declared.node.Node.{Node}
 use Rattle.flt_tree.specs.Tree.{Expression}
-use Rattle.flt_tree.specs.Nodes.{expr_nodes, tree_of, tree_back, IsTree}
+use Rattle.flt_tree.specs.Nodes.{expr_nodes, tree_of}
+use Rattle.flt_tree.specs.inside.Nodes.{tree_back, IsTree}
 use Rattle.flt_lang.specs.Grammar.{IsReadAs}
-use Rattle.flt_lang.specs.Parser.{all_run}
+use Rattle.flt_lang.specs.inside.Parser.{all_run}
 use Rattle.flt_lang.proofs.Complete.{complete}
 use Rattle.flt_lang.proofs.Sound.{sound}
 use Rattle.flt_tree.proofs.NodesBack.{expr_turned}

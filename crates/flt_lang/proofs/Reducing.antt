@@ -5,7 +5,7 @@ use Rattle.std.proofs.lemmas.Bool.Decides.{nat_tests}
 use Rattle.flt_tree.specs.declared.node.Node.{Node}
 use Rattle.flt_lang.specs.declared.frame.Frame.{Frame}
 use Rattle.flt_lang.specs.declared.frame.Operand.{Operand}
-use Rattle.flt_lang.specs.Parser.{precedence, fill, reduce, IsLoose}
+use Rattle.flt_lang.specs.inside.Parser.{precedence, fill, reduce, IsLoose}
 
 pub le_true : (m n : ℕ) → m ≤ n → nat_le m n ≡ true
 le_true m n h = le-leb m n h

@@ -13,8 +13,8 @@ use Rattle.flt_lang.specs.declared.frame.Operand.TheVariants as operand
 use Rattle.flt_tree.specs.Tree.{literal, load, Expression, empty, truth}
 use Rattle.flt_lang.specs.Values.{no_mask, prefix, number}
 use Rattle.flt_lang.specs.Grammar.{level, Number, of_literal, enclosed, of_load, of_sized_load, single, chain, Truth, of_bare, enclosed_truth, term, IsReadAs, no_tokens, all_tokens}
-use Rattle.flt_lang.specs.Parser.{◌>>=◌, operand_precedence, token_precedence, next_precedence, as_number, as_truth, reduce, Begun, after_token, begin, whole, finish, run, all_run, enclosed_operand, next_of, after_operand}
-use Rattle.flt_tree.specs.Nodes.{truth_onto, expr_onto}
+use Rattle.flt_lang.specs.inside.Parser.{◌>>=◌, operand_precedence, token_precedence, next_precedence, as_number, as_truth, reduce, Begun, after_token, begin, whole, finish, run, all_run, enclosed_operand, next_of, after_operand}
+use Rattle.flt_tree.specs.inside.Nodes.{truth_onto, expr_onto}
 use Rattle.flt_lang.proofs.Stacked.{some_first, some_then, widened, either_number, either_truth, Between, Following, number_between, truth_between, chain_of, reduce_sound, loosened}
 use Rattle.flt_lang.proofs.Begins.{left, SoFar, After, begun, begin_sound}
 

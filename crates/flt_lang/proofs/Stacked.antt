@@ -15,8 +15,8 @@ use Rattle.flt_lang.specs.declared.frame.Operand.TheVariants as operand
 use Rattle.flt_tree.specs.Tree.{NumberTree, literal, negated, applied, TruthTree, bare, compared, denied, joined}
 use Rattle.flt_lang.specs.Values.{no_mask, number}
 use Rattle.flt_lang.specs.Grammar.{level, is_accessor, Number, of_literal, minus, single, chain, Truth, of_bare, relation, denial, term, terms}
-use Rattle.flt_lang.specs.Parser.{◌>>=◌, precedence, operand_precedence, prefix_mask, as_number, as_truth, Read, fill, Reduced, reduce}
-use Rattle.flt_tree.specs.Nodes.{number_onto, truth_onto}
+use Rattle.flt_lang.specs.inside.Parser.{◌>>=◌, precedence, operand_precedence, prefix_mask, as_number, as_truth, Read, fill, Reduced, reduce}
+use Rattle.flt_tree.specs.inside.Nodes.{number_onto, truth_onto}
 use Rattle.flt_lang.proofs.ValuesBack.{level_small}
 
 -- a chain of steps that succeeds has a first step that does

@@ -6,7 +6,7 @@ use Rattle.flt_tree.specs.declared.node.Node.{Node}
 use Rattle.flt_lang.specs.declared.frame.Frame.{Frame}
 use Rattle.flt_lang.specs.declared.frame.Operand.{Operand}
 use Rattle.flt_lang.specs.Grammar.{kinds_of}
-use Rattle.flt_lang.specs.Parser.{State, run, after_operand, begin_at}
+use Rattle.flt_lang.specs.inside.Parser.{State, run, after_operand, begin_at}
 use Rattle.flt_lang.proofs.Fronts.{first_and_rest}
 use Rattle.flt_lang.proofs.Valued.{run_begins, run_skip}
 

@@ -15,7 +15,7 @@ use Rattle.flt_words.proofs.BracketCounts.{closings, openings, token_has}
 use Rattle.flt_lang.specs.Grammar.{kinds_of}
 use Rattle.flt_lang.specs.declared.spelling.Following.{Following}
 use Rattle.flt_lang.specs.Texts.{gap, joins_next, joins_previous, next_after, spelling, tokens_text}
-use Rattle.flt_lang.specs.Writable.{IsSpellable}
+use Rattle.flt_lang.specs.inside.Writable.{IsSpellable}
 use Rattle.flt_lang.proofs.WordPieces.{word_token}
 use Rattle.flt_lang.proofs.SignTokens.{End, Ends, goes_on, no_more, word_ends, comparison_token, operator_token, open_token, close_token, bracket_token, close_bracket_token, divide_token, colon_token}
 use Rattle.flt_lang.proofs.SignTokens as signs

@@ -18,8 +18,9 @@ use Rattle.flt_tree.specs.declared.node.Node.TheVariants as node
 use Rattle.flt_lang.specs.declared.frame.Frame.{Frame}
 use Rattle.flt_lang.specs.declared.frame.Operand.{Operand}
 use Rattle.flt_lang.specs.declared.frame.Operand.TheVariants as operand
-use Rattle.flt_lang.specs.Values.{ReadsProtocol, no_protocol, protocol, ReadsDirection, no_direction, one_side, source_first, destination_first, ReadsType, no_type, of_type, ReadsQualifiers, qualifiers, is_written, ReadsMask, no_mask, prefix, dotted_mask, ReadsValue, number, dotted, ip6, ip6_prefix, mac, range, starts_value, protocol_of, direction_of, type_of, qualifiers_of, mask_of, value_of}
-use Rattle.flt_lang.specs.Parser.{◌>>=◌, next_precedence, State, begin, run, valued_of, valued_or, primitive, with_frames}
+use Rattle.flt_lang.specs.Values.{ReadsProtocol, no_protocol, protocol, ReadsDirection, no_direction, one_side, source_first, destination_first, ReadsType, no_type, of_type, ReadsQualifiers, qualifiers, is_written, ReadsMask, no_mask, prefix, dotted_mask, ReadsValue, number, dotted, ip6, ip6_prefix, mac, range}
+use Rattle.flt_lang.specs.inside.Values.{starts_value, protocol_of, direction_of, type_of, qualifiers_of, mask_of, value_of}
+use Rattle.flt_lang.specs.inside.Parser.{◌>>=◌, next_precedence, State, begin, run, valued_of, valued_or, primitive, with_frames}
 use Rattle.flt_lang.proofs.ValuesBack.{type_back, direction_back, qualifiers_back, ends_protocol, value_back}
 
 -- rest is what is left of ts

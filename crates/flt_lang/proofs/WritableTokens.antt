@@ -26,7 +26,8 @@ use Rattle.flt_words.proofs.AddressValues.{ends_fit, number_between, number_zero
 use Rattle.flt_words.proofs.Groups.{small_hexadecimal}
 use Rattle.flt_words.proofs.Tables.{both, found_passes}
 use Rattle.flt_lang.specs.Grammar.{kinds_of}
-use Rattle.flt_lang.specs.Writable.{IsDottedAddress, IsSpellable, has_name}
+use Rattle.flt_lang.specs.Writable.{IsDottedAddress, has_name}
+use Rattle.flt_lang.specs.inside.Writable.{IsSpellable}
 
 -- a token of a table
 table_test : TokenKind → Bool

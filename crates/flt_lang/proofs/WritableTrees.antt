@@ -14,7 +14,8 @@ use Rattle.flt_tree.specs.Tree.{NumberTree, TruthTree, check, cast, sized, bare,
 use Rattle.flt_tree.specs.Filled.{latest, with_inherited, complete, only_host, fill_expression}
 use Rattle.flt_lang.specs.Values.{ReadsProtocol, no_protocol, protocol, ReadsDirection, no_direction, one_side, source_first, destination_first, ReadsType, no_type, of_type, ReadsQualifiers, qualifiers, ReadsMask, no_mask, prefix, dotted_mask, ReadsValue, number, dotted, ip6, ip6_prefix, mac, range}
 use Rattle.flt_lang.specs.Grammar.{Number, of_literal, of_len, of_name, enclosed, of_load, of_sized_load, minus, single, chain, Truth, of_check, of_cast, of_protocol_cast, of_sized, of_valued, of_bare, relation, denial, enclosed_truth, term, terms, IsReadAs, no_tokens, all_tokens, kinds_of}
-use Rattle.flt_lang.specs.Writable.{IsSpellable, IsWritable, IsWritableMask, IsWritableNumber, IsWritableTruth, IsWritableValue}
+use Rattle.flt_lang.specs.Writable.{IsWritable, IsWritableMask, IsWritableNumber, IsWritableTruth, IsWritableValue}
+use Rattle.flt_lang.specs.inside.Writable.{IsSpellable}
 use Rattle.flt_lang.proofs.WritableTokens.{all_spellable}
 
 abbrev All : List TokenKind → Type 0

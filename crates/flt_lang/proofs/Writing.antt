@@ -9,7 +9,7 @@ use Rattle.flt_tree.specs.Tree.{NumberTree, literal, len, named, load, negated, 
 use Rattle.flt_tree.specs.Nodes.{number_nodes, truth_nodes, expr_nodes}
 use Rattle.flt_lang.specs.declared.backward.Pending.{Pending}
 use Rattle.flt_lang.specs.Explained.{number_tokens, truth_tokens, explained_tokens, open_operand}
-use Rattle.flt_lang.specs.Backward.{WriterState, settle, parenthesis_before, is_more, write_nodes, write_node}
+use Rattle.flt_lang.specs.inside.Backward.{WriterState, settle, parenthesis_before, is_more, write_nodes, write_node}
 
 pub number_written : (a : NumberTree) (rest : List Node) → write_nodes (number_nodes a rest) ≡ settle (write_nodes rest).pending (number_tokens a (write_nodes rest).tokens)
 number_written (literal n) rest = refl

@@ -1,8 +1,6 @@
 -- The trees that a text can give, and what it is that a text is read back as a tree.
 use Rattle.std.specs.Prelude.{◌≡◌, ℕ, ◌<◌, ◌≤◌, ◌-◌, ◌%◌, ◌^◌, ◌==◌, Bool, true, ◌||◌, List, Option, Some, None, Ok}
 use Rattle.flt_words.specs.declared.token.Token.{Token}
-use Rattle.flt_words.specs.declared.token.TokenKind.{TokenKind}
-use Rattle.flt_words.specs.declared.token.TokenKind.TheVariants as token
 use Rattle.flt_words.specs.Tokens.{Tokens}
 use Rattle.flt_tree.specs.declared.value.Dotted.{Dotted}
 use Rattle.flt_tree.specs.declared.value.NetMask.{NetMask}
@@ -25,16 +23,6 @@ pub record IsDottedAddress (address parts : ℕ) : Type 0 where
   pub at_most_four : parts ≤ 4
   pub small : address < 2 ^ 32
   pub missing : address % 256 ^ (4 - parts) ≡ 0
-
--- a token that some word or sign means
-abbrev pub IsSpellable : TokenKind → Type 0
-IsSpellable (token.Number n) = n < 2 ^ 32
-IsSpellable (token.Name n) = has_name n ≡ true
-IsSpellable (token.Dotted a p) = IsDottedAddress a p
-IsSpellable (token.Range a b) = (a < 2 ^ 32) × (b < 2 ^ 32)
-IsSpellable (token.Mac a) = a < 2 ^ 48
-IsSpellable (token.Ip6 a) = a < 2 ^ 128
-IsSpellable _ = Unit {0}
 
 abbrev pub IsWritableDotted : Dotted → Type 0
 IsWritableDotted d = IsDottedAddress d.address d.parts

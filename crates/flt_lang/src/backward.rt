@@ -6,7 +6,7 @@ ghost use Rattle.flt_tree.specs.declared.node.Node.TheVariants as node;
 ghost use Rattle.flt_lang.specs.Explained.{close_operand, open_operand, mask_tokens, prefix_tokens};
 ghost use Rattle.flt_lang.specs.Explained.{value_tokens, protocol_tokens, direction_tokens};
 ghost use Rattle.flt_lang.specs.Explained.{written_tokens, qualifier_tokens};
-ghost use Rattle.flt_lang.specs.Backward.{settle, around, write_node};
+ghost use Rattle.flt_lang.specs.inside.Backward.{settle, around, write_node};
 
 use flt_tree::{CompleteQualifiers, Direction, NetMask, Node, Qualifiers, Value};
 use flt_words::{Cast, Operator, Protocol, Side, TokenKind, ValueType};
@@ -32,7 +32,7 @@ pub(crate) struct Writer<A: Allocator> {
 /// What waits is seen latest first, the tokens in the order of the text.
 impl<A: Allocator> Model for Writer<A> {
     ghost use Rattle.std.specs.Prelude.{reverse};
-    ghost use Rattle.flt_lang.specs.Backward.{WriterState};
+    ghost use Rattle.flt_lang.specs.inside.Backward.{WriterState};
 
     ghost Value = { WriterState };
 

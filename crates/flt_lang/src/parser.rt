@@ -3,7 +3,7 @@
 ghost use Rattle.std.specs.Prelude.{◌≡◌, ◌↔◌, ◌⊎◌, Err, IfOk, IfErr};
 ghost use Rattle.flt_tree.specs.Tree.{Expression};
 ghost use Rattle.flt_lang.specs.Grammar.{IsReadAs, kinds_of};
-ghost use Rattle.flt_lang.specs.Parser.{IsReadFault};
+ghost use Rattle.flt_lang.specs.inside.Parser.{IsReadFault};
 ghost use Rattle.flt_lang.specs.Nesting.{IsTooDeep};
 
 use crate::nesting::is_nested_too_deep;

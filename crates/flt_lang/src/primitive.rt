@@ -6,10 +6,10 @@ ghost use Rattle.std.specs.Prelude.{Some, None, length, slice_get, drop, ◌<◌
 ghost use Rattle.flt_words.specs.declared.token.TokenKind.{TokenKind};
 ghost use Rattle.flt_tree.specs.declared.qualifiers.Qualifiers.{Qualifiers};
 ghost use Rattle.flt_lang.specs.Grammar.{kinds_of};
-ghost use Rattle.flt_lang.specs.Values.{qualifiers_of, protocol_of, direction_of, type_of};
-ghost use Rattle.flt_lang.specs.Values.{is_opposite, both_of};
-ghost use Rattle.flt_lang.specs.Values.{mask_of, prefix_of, value_of};
-ghost use Rattle.flt_lang.specs.Parser.{valued_of};
+ghost use Rattle.flt_lang.specs.inside.Values.{qualifiers_of, protocol_of, direction_of, type_of};
+ghost use Rattle.flt_lang.specs.inside.Values.{is_opposite, both_of};
+ghost use Rattle.flt_lang.specs.inside.Values.{mask_of, prefix_of, value_of};
+ghost use Rattle.flt_lang.specs.inside.Parser.{valued_of};
 
 use flt_tree::{Direction, Dotted, NetMask, Qualifiers, Value};
 use flt_words::{Join, Operator, Protocol, Side, Token, TokenKind, ValueType};

@@ -2,7 +2,7 @@
 
 ghost use Rattle.std.specs.Prelude.{◌≡◌, ◌⊎◌, ◌<◌, length};
 ghost use Rattle.flt_lang.specs.Grammar.{is_check, is_accessor, has_casts, kinds_of};
-ghost use Rattle.flt_lang.specs.Parser.{opening_of};
+ghost use Rattle.flt_lang.specs.inside.Parser.{opening_of};
 
 use crate::primitive::kind_at;
 use flt_words::{Cast, Protocol, Token, TokenKind};

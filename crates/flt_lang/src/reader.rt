@@ -4,14 +4,15 @@
 ghost use Rattle.std.specs.Prelude.{◌≡◌, ◌≤◌, ◌<◌, ◌∷◌, [], IfErr, IfNone, IfOk, IfSome};
 ghost use Rattle.std.specs.Prelude.{MatchOption, OnOk, length, reverse, List, Some, None, Err};
 ghost use Rattle.std.specs.Prelude.{drop};
-ghost use Rattle.flt_lang.specs.Parser.{IsLoose, precedence, operand_precedence, begin_at};
-ghost use Rattle.flt_lang.specs.Parser.{protocol_begins, opening_of, number_primitive, sized_of};
-ghost use Rattle.flt_lang.specs.Parser.{primitive, bare_of, one_node, with_frames, IsReadFault};
-ghost use Rattle.flt_lang.specs.Parser.{as_number, as_truth, as_sort, prefix_mask, fill, reduce};
-ghost use Rattle.flt_lang.specs.Parser.{after_operator, after_load, accessor_size, after_close};
-ghost use Rattle.flt_lang.specs.Parser.{after_token_at, prefix_len, after_operand, run, finish};
-ghost use Rattle.flt_lang.specs.Parser.{all_run};
-ghost use Rattle.flt_tree.specs.Nodes.{IsTree, tree_of};
+ghost use Rattle.flt_lang.specs.inside.Parser.{IsLoose, precedence, operand_precedence, begin_at};
+ghost use Rattle.flt_lang.specs.inside.Parser.{protocol_begins, opening_of, number_primitive, sized_of};
+ghost use Rattle.flt_lang.specs.inside.Parser.{primitive, bare_of, one_node, with_frames, IsReadFault};
+ghost use Rattle.flt_lang.specs.inside.Parser.{as_number, as_truth, as_sort, prefix_mask, fill, reduce};
+ghost use Rattle.flt_lang.specs.inside.Parser.{after_operator, after_load, accessor_size, after_close};
+ghost use Rattle.flt_lang.specs.inside.Parser.{after_token_at, prefix_len, after_operand, run, finish};
+ghost use Rattle.flt_lang.specs.inside.Parser.{all_run};
+ghost use Rattle.flt_tree.specs.Nodes.{tree_of};
+ghost use Rattle.flt_tree.specs.inside.Nodes.{IsTree};
 ghost use Rattle.flt_words.specs.declared.token.TokenKind.{TokenKind};
 ghost use Rattle.flt_tree.specs.declared.node.Node.{Node};
 ghost use Rattle.flt_lang.specs.Grammar.{kinds_of};
@@ -36,7 +37,7 @@ pub struct Reader<A: Allocator> {
 /// Both lists are seen latest first.
 impl<A: Allocator> Model for Reader<A> {
     ghost use Rattle.std.specs.Prelude.{reverse};
-    ghost use Rattle.flt_lang.specs.Parser.{ReaderState};
+    ghost use Rattle.flt_lang.specs.inside.Parser.{ReaderState};
 
     ghost Value = { ReaderState };
 

@@ -12,7 +12,7 @@ use Rattle.flt_bpf.specs.Layout.{is_branch, JUMP, MOST_OFFSET, HasNoJump, IsShor
 use Rattle.flt_bpf.proofs.Codes.{back_of_code}
 use Rattle.flt_lay.specs.declared.layout.Reach.{Reach}
 use Rattle.flt_lay.specs.declared.layout.Reach.TheVariants.{Near, YesFar, NoFar, BothFar}
-use Rattle.flt_lay.specs.Layout.{PlacedCode, place_at, with_offsets, with_test, with_test_by, with_insn, placed_code, laid_out}
+use Rattle.flt_lay.specs.inside.Layout.{PlacedCode, place_at, with_offsets, with_test, with_test_by, with_insn, placed_code, laid_out}
 
 -- code with at least one and at most a given number of instructions more
 record Grows (c d : List Insn) (most : ℕ) : Type 0 where

@@ -10,7 +10,7 @@ use Rattle.flt_bpf.specs.Layout.{is_branch, JUMP, MOST_OFFSET, IsNeeded, JumpsAr
 use Rattle.flt_bpf.proofs.Codes.{back_of_code}
 use Rattle.flt_bpf.proofs.Jumps.{jump_later, needed_put}
 use Rattle.flt_lay.specs.declared.layout.Reach.TheVariants.{Near, YesFar, NoFar, BothFar}
-use Rattle.flt_lay.specs.Layout.{PlacedCode, with_offsets, with_jump, with_test, with_test_by, with_insn, placed_code, laid_out}
+use Rattle.flt_lay.specs.inside.Layout.{PlacedCode, with_offsets, with_jump, with_test, with_test_by, with_insn, placed_code, laid_out}
 
 -- a test and a jump for one of its ways
 needed_one : (c : List Insn) (i : Insn) (jt jf to : ℕ) → i.code ≢ JUMP → is_branch (operation_of i.code) ≡ true → (jt ≡ 0) ⊎ (jf ≡ 0) → MOST_OFFSET < length c - to → JumpsAreNeeded c → JumpsAreNeeded (with_offsets i jt jf ∷ with_jump to c)

@@ -6,7 +6,7 @@ use Rattle.flt_bpf.specs.declared.operation.Operation.TheVariants.{Jump, JumpIf}
 use Rattle.flt_bpf.specs.Instructions.{operation_of}
 use Rattle.flt_lay.specs.declared.layout.Reach.{Reach}
 use Rattle.flt_lay.specs.declared.layout.Reach.TheVariants.{Near, YesFar, NoFar, BothFar}
-use Rattle.flt_lay.specs.Layout.{PlacedCode, place_at, with_test, with_test_by, with_insn, placed_code, laid_out}
+use Rattle.flt_lay.specs.inside.Layout.{PlacedCode, place_at, with_test, with_test_by, with_insn, placed_code, laid_out}
 
 -- code with more in front
 pub record IsEndOf (c d : List Insn) : Type 0 where

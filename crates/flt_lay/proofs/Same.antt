@@ -15,7 +15,7 @@ use Rattle.flt_bpf.specs.Machine.{Goes, Lost, step, does_if_known, into, word_in
 use Rattle.flt_bpf.specs.Answer.{answer_of, answer_after}
 use Rattle.flt_lay.specs.declared.layout.Reach.{Reach}
 use Rattle.flt_lay.specs.declared.layout.Reach.TheVariants.{Near, YesFar, NoFar, BothFar}
-use Rattle.flt_lay.specs.Layout.{PlacedCode, place_at, with_offsets, with_jump, with_test, with_test_by, with_insn, placed_code, laid_out}
+use Rattle.flt_lay.specs.inside.Layout.{PlacedCode, place_at, with_offsets, with_jump, with_test, with_test_by, with_insn, placed_code, laid_out}
 use Rattle.flt_lay.proofs.Places.{IsEndOf, rest_end, target_is, target_inside}
 
 front_passed : (front c : List Insn) (p : List ℕ) (n : ℕ) (s : State) → answer_of (front ++ c) p n (length front) s ≡ answer_of c p n 0 s

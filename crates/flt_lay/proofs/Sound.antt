@@ -14,7 +14,7 @@ use Rattle.flt_bpf.specs.Instructions.{operation_of}
 use Rattle.flt_bpf.specs.Check.{unless, fault_of, fault_if_known, is_return, ends_in_return, IsFaultless, IsValidUnlessLong}
 use Rattle.flt_lay.specs.declared.layout.Reach.{Reach}
 use Rattle.flt_lay.specs.declared.layout.Reach.TheVariants.{Near, YesFar, NoFar, BothFar}
-use Rattle.flt_lay.specs.Layout.{PlacedCode, place_at, with_offsets, with_jump, test_reach, with_test, with_test_by, with_insn, placed_code, laid_out}
+use Rattle.flt_lay.specs.inside.Layout.{PlacedCode, place_at, with_offsets, with_jump, test_reach, with_test, with_test_by, with_insn, placed_code, laid_out}
 use Rattle.flt_lay.proofs.Places.{emitted_end, target_is, target_inside}
 use Rattle.flt_lay.proofs.Counted.{at_least}
 

@@ -8,8 +8,8 @@ ghost use Rattle.flt_bpf.specs.Instructions.{operation_of};
 ghost use Rattle.flt_bpf.specs.Layout.{is_branch, HasNoJump, JumpsAreNeeded, IsShort};
 ghost use Rattle.flt_bpf.specs.Machine.{start};
 ghost use Rattle.flt_bpf.specs.Valid.{MOST_INSTRUCTIONS, IsValid};
-ghost use Rattle.flt_lay.specs.Layout.{place_at, with_offsets, with_jump, test_reach, with_test};
-ghost use Rattle.flt_lay.specs.Layout.{with_entry, put, placed_code};
+ghost use Rattle.flt_lay.specs.inside.Layout.{place_at, with_offsets, with_jump, test_reach, with_test};
+ghost use Rattle.flt_lay.specs.inside.Layout.{with_entry, put, placed_code};
 
 use flt_bpf::insn::Insn;
 use flt_bpf::operation::{Operation, decode};
@@ -47,7 +47,7 @@ struct Layout<A: Allocator> {
 
 impl<A: Allocator> Model for Layout<A> {
     ghost use Rattle.std.specs.Prelude.{reverse};
-    ghost use Rattle.flt_lay.specs.Layout.{PlacedCode};
+    ghost use Rattle.flt_lay.specs.inside.Layout.{PlacedCode};
 
     ghost Value = { PlacedCode };
 
@@ -155,7 +155,7 @@ impl<A: Allocator> Layout<A> {
     }
 
     /// A test that goes on at one of two places.
-    #[tactic(auto, unfolding(crate::specs::Layout::with_test))]
+    #[tactic(auto, unfolding(crate::specs::inside::Layout::with_test))]
     fn emit_test(&mut self, insn: Wide, to: Targets) -> Result<(), AllocError>
         requires { length self.old.code + 3 < 2 ^ 32 }
         ensures { OnOk result

@@ -19,9 +19,9 @@ use Rattle.flt_opt.specs.declared.facts.Learnt.{Learnt}
 use Rattle.flt_opt.specs.declared.note.Fact.{Fact}
 use Rattle.flt_opt.specs.declared.note.Piece.{Piece}
 use Rattle.flt_opt.specs.declared.note.Registers.{Registers}
-use Rattle.flt_opt.specs.Terms.{Hold, after, leads_on}
-use Rattle.flt_opt.specs.Facts.{Known, IsDecided, outcome}
-use Rattle.flt_opt.specs.Alike.{Drifted, Drifts, DriftsTo, DriftsFrom, IsRejection, Rejects}
+use Rattle.flt_opt.specs.inside.Terms.{Hold, after, leads_on}
+use Rattle.flt_opt.specs.inside.Facts.{Known, IsDecided, outcome}
+use Rattle.flt_opt.specs.inside.Alike.{Drifted, Drifts, DriftsTo, DriftsFrom, IsRejection, Rejects}
 use Rattle.flt_opt.proofs.Steps.{effect, knows_step}
 use Rattle.flt_opt.proofs.Values.{shown}
 use Rattle.flt_opt.proofs.Walking.{at_goes}

@@ -9,8 +9,8 @@ use Rattle.flt_bpf.specs.Machine.{test_holds}
 use Rattle.flt_opt.specs.declared.facts.Learnt.{Learnt}
 use Rattle.flt_opt.specs.declared.note.Piece.{Piece}
 use Rattle.flt_opt.specs.declared.note.Term.{Term}
-use Rattle.flt_opt.specs.Terms.{value, masked}
-use Rattle.flt_opt.specs.Facts.{in_piece, within, in_either, before, only, starting, past, learnt_of, outcome, LearntHolds, AllLearnt, NeverIs, IsWithin}
+use Rattle.flt_opt.specs.inside.Terms.{value, masked}
+use Rattle.flt_opt.specs.inside.Facts.{in_piece, within, in_either, before, only, starting, past, learnt_of, outcome, LearntHolds, AllLearnt, NeverIs, IsWithin}
 
 pub or_left : (a b : Bool) → a ≡ true → (a || b) ≡ true
 or_left true b e = refl

@@ -25,9 +25,9 @@ use Rattle.flt_opt.specs.declared.note.Term.{Term}
 use Rattle.flt_opt.specs.declared.validator.Condition.{Condition}
 use Rattle.flt_opt.specs.declared.validator.Programs.{Programs}
 use Rattle.flt_opt.specs.declared.validator.Way.{Way}
-use Rattle.flt_opt.specs.Terms.{value, is_known, Hold, Agree, Reads, leads_on, returns, after_both, after_old, after_new, after_loads, asked, is_load}
-use Rattle.flt_opt.specs.Facts.{part}
-use Rattle.flt_opt.specs.Alike.{IsSure, LeadsTo, Tests, IsSound, IsBits, OperandsAgree}
+use Rattle.flt_opt.specs.inside.Terms.{value, is_known, Hold, Agree, Reads, leads_on, returns, after_both, after_old, after_new, after_loads, asked, is_load}
+use Rattle.flt_opt.specs.inside.Facts.{part}
+use Rattle.flt_opt.specs.inside.Alike.{IsSure, LeadsTo, Tests, IsSound, IsBits, OperandsAgree}
 use Rattle.flt_opt.proofs.Steps.{op_both, op_sure, agree_old, agree_new, knows_step, load_is}
 
 -- an instruction at a place, and what comes after it

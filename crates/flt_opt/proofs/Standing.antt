@@ -17,11 +17,11 @@ use Rattle.flt_opt.specs.declared.note.Note.{Note}
 use Rattle.flt_opt.specs.declared.validator.Condition.{Condition}
 use Rattle.flt_opt.specs.declared.validator.Programs.{Programs}
 use Rattle.flt_opt.specs.declared.validator.Way.{Way}
-use Rattle.flt_opt.specs.Terms.{Agree, Holds}
-use Rattle.flt_opt.specs.Facts.{IsDecided, AllLearnt, LearntHolds, FactsFollow, outcome, part}
-use Rattle.flt_opt.specs.Alike.{Reaches, IsGood, LeadsTo, Branches, Tests, IsSound, AreSound, Begins}
+use Rattle.flt_opt.specs.inside.Terms.{Agree, Holds}
+use Rattle.flt_opt.specs.inside.Facts.{IsDecided, AllLearnt, LearntHolds, FactsFollow, outcome, part}
+use Rattle.flt_opt.specs.inside.Alike.{Reaches, IsGood, LeadsTo, Branches, Tests, IsSound, AreSound, Begins}
 use Rattle.flt_opt.specs.Replaces.{Replaces}
-use Rattle.flt_opt.specs.Alike.{IsRejection, Rejects}
+use Rattle.flt_opt.specs.inside.Alike.{IsRejection, Rejects}
 use Rattle.flt_opt.proofs.Drifting.{rejection_is}
 use Rattle.flt_opt.proofs.Steps.{knows_step}
 use Rattle.flt_opt.proofs.Values.{shown}

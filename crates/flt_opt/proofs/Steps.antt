@@ -23,7 +23,7 @@ use Rattle.flt_opt.specs.declared.note.Term.{Term}
 use Rattle.flt_opt.specs.declared.note.Term.TheVariants.{Anything, Number, Length, Field, HeaderLength}
 use Rattle.flt_opt.specs.declared.note.Registers.{Registers}
 use Rattle.flt_opt.specs.declared.note.Both.{Both}
-use Rattle.flt_opt.specs.Terms.{value, is_known, is_load, header_at, past, bare, under, There, Holds, Hold, Agree, indirect, mask_of, masked, sum, computed, accumulator_after, index_after, after, reads_index, sets_accumulator, sets_index, after_both, after_old, after_new, asked, is_sure, Reads, leads_on}
+use Rattle.flt_opt.specs.inside.Terms.{value, is_known, is_load, header_at, past, bare, under, There, Holds, Hold, Agree, indirect, mask_of, masked, sum, computed, accumulator_after, index_after, after, reads_index, sets_accumulator, sets_index, after_both, after_old, after_new, asked, is_sure, Reads, leads_on}
 
 pub both_true : (a b : Bool) → (a && b) ≡ true → (a ≡ true) × (b ≡ true)
 both_true true b e = (refl, e)

@@ -11,8 +11,8 @@ use Rattle.flt_opt.specs.declared.note.Piece.{Piece}
 use Rattle.flt_opt.specs.declared.note.Term.{Term}
 use Rattle.flt_opt.specs.declared.note.Term.TheVariants.{Anything, Number, Length, Field, HeaderLength}
 use Rattle.std.specs.Option.{option_map}
-use Rattle.flt_opt.specs.Terms.{header_at, bare, under, value, is_known, Holds, There, masked, source, is_constant}
-use Rattle.flt_opt.specs.Facts.{in_piece, within, outcome, LearntHolds, FactHolds, AllHold, Known, part, HasNumbers, NeverSo, NeverAmong, CannotBe, IsDecided, IsWithin, AreWithin, FactFollows, FactsFollow}
+use Rattle.flt_opt.specs.inside.Terms.{header_at, bare, under, value, is_known, Holds, There, masked, source, is_constant}
+use Rattle.flt_opt.specs.inside.Facts.{in_piece, within, outcome, LearntHolds, FactHolds, AllHold, Known, part, HasNumbers, NeverSo, NeverAmong, CannotBe, IsDecided, IsWithin, AreWithin, FactFollows, FactsFollow}
 use Rattle.flt_opt.proofs.Steps.{masked_value}
 use Rattle.flt_opt.proofs.Numbers.{or_left, or_right, one_of, in_outcome, in_bits}
 

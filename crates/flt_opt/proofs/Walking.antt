@@ -14,10 +14,10 @@ use Rattle.flt_opt.specs.declared.facts.Learnt.{Learnt}
 use Rattle.flt_opt.specs.declared.note.Both.{Both}
 use Rattle.flt_opt.specs.declared.note.Fact.{Fact}
 use Rattle.flt_opt.specs.declared.note.Piece.{Piece}
-use Rattle.flt_opt.specs.Terms.{Agree, Holds, after_old, is_jump, test_of}
-use Rattle.flt_opt.specs.Facts.{AllLearnt, IsDecided}
+use Rattle.flt_opt.specs.inside.Terms.{Agree, Holds, after_old, is_jump, test_of}
+use Rattle.flt_opt.specs.inside.Facts.{AllLearnt, IsDecided}
 use Rattle.flt_opt.specs.declared.walk.Stage.{Stage}
-use Rattle.flt_opt.specs.Alike.{IsSure, Passes, Comes, HereAt, HasMet, IsOn, Advances, Reaches}
+use Rattle.flt_opt.specs.inside.Alike.{IsSure, Passes, Comes, HereAt, HasMet, IsOn, Advances, Reaches}
 use Rattle.flt_opt.proofs.Steps.{op_sure, agree_old, knows_step}
 
 -- where an instruction goes on

@@ -1,11 +1,11 @@
 //! Which numbers a term may be, by what is known of a packet.
 
 ghost use Rattle.std.specs.Prelude.{◌≡◌, ℕ, ◌<◌, true, false, List, length, Some, IfSome, IsTrue};
-ghost use Rattle.flt_opt.specs.Facts.{in_piece, in_either};
-ghost use Rattle.flt_opt.specs.Facts.{before, only, starting, past, outcome, IsWithin, NeverIs};
-ghost use Rattle.flt_opt.specs.Facts.{IsIn, part, HasNumbers, NeverSo, NeverAmong, CannotBe};
-ghost use Rattle.flt_opt.specs.Facts.{IsDecided, AllLearnt, LearntHolds};
-ghost use Rattle.flt_opt.specs.Terms.{value};
+ghost use Rattle.flt_opt.specs.inside.Facts.{in_piece, in_either};
+ghost use Rattle.flt_opt.specs.inside.Facts.{before, only, starting, past, outcome, IsWithin, NeverIs};
+ghost use Rattle.flt_opt.specs.inside.Facts.{IsIn, part, HasNumbers, NeverSo, NeverAmong, CannotBe};
+ghost use Rattle.flt_opt.specs.inside.Facts.{IsDecided, AllLearnt, LearntHolds};
+ghost use Rattle.flt_opt.specs.inside.Terms.{value};
 ghost use Rattle.flt_opt.specs.declared.note.Piece.{Piece};
 
 use crate::note::{Fact, Piece, Span, Term};

@@ -2,9 +2,9 @@
 
 ghost use Rattle.std.specs.Prelude.{◌≡◌, ℕ, true, List, IsTrue};
 ghost use Rattle.flt_bpf.specs.declared.machine.State.{State};
-ghost use Rattle.flt_opt.specs.Facts.{AllHold, IsThere, AreWithin, NumbersFollow};
-ghost use Rattle.flt_opt.specs.Facts.{FactFollows, FactsFollow};
-ghost use Rattle.flt_opt.specs.Terms.{There, Hold, Holds, Agree, source, is_constant};
+ghost use Rattle.flt_opt.specs.inside.Facts.{AllHold, IsThere, AreWithin, NumbersFollow};
+ghost use Rattle.flt_opt.specs.inside.Facts.{FactFollows, FactsFollow};
+ghost use Rattle.flt_opt.specs.inside.Terms.{There, Hold, Holds, Agree, source, is_constant};
 ghost use Rattle.flt_opt.specs.declared.note.Piece.{Piece};
 
 use crate::facts::{Knowledge, Learnt, covered, numbers_at_most, numbers_of, part};

@@ -1,11 +1,11 @@
 //! What the registers hold after an instruction.
 
 ghost use Rattle.std.specs.Prelude.{◌≡◌, IsTrue};
-ghost use Rattle.flt_opt.specs.Terms.{indirect, mask_of, masked, sum, computed, accumulator_after};
-ghost use Rattle.flt_opt.specs.Terms.{index_after, after, after_both, after_old, after_new, asked};
-ghost use Rattle.flt_opt.specs.Terms.{reads_accumulator, reads_index, sets_accumulator, sets_index};
-ghost use Rattle.flt_opt.specs.Terms.{is_known, is_sure, is_jump, leads_on, returns, test_of};
-ghost use Rattle.flt_opt.specs.Terms.{after_loads, is_load};
+ghost use Rattle.flt_opt.specs.inside.Terms.{indirect, mask_of, masked, sum, computed, accumulator_after};
+ghost use Rattle.flt_opt.specs.inside.Terms.{index_after, after, after_both, after_old, after_new, asked};
+ghost use Rattle.flt_opt.specs.inside.Terms.{reads_accumulator, reads_index, sets_accumulator, sets_index};
+ghost use Rattle.flt_opt.specs.inside.Terms.{is_known, is_sure, is_jump, leads_on, returns, test_of};
+ghost use Rattle.flt_opt.specs.inside.Terms.{after_loads, is_load};
 
 use crate::note::{Both, Load, Registers, Term};
 use flt_bpf::operation::{AluOperation, Operand, Operation, Register, Source, Test, Width};

@@ -6,12 +6,12 @@ ghost use Rattle.std.specs.Prelude.{if◌then◌else◌};
 ghost use Rattle.flt_bpf.specs.declared.operation.Operation.TheVariants.{Jump, JumpIf};
 ghost use Rattle.flt_bpf.specs.Instructions.{code_of, operation_of};
 ghost use Rattle.flt_bpf.specs.declared.machine.State.{State};
-ghost use Rattle.flt_opt.specs.Alike.{LeadsTo, Branches, Tests, OperandsAgree, IsSound};
-ghost use Rattle.flt_opt.specs.Alike.{AreSound, Begins, IsBits};
+ghost use Rattle.flt_opt.specs.inside.Alike.{LeadsTo, Branches, Tests, OperandsAgree, IsSound};
+ghost use Rattle.flt_opt.specs.inside.Alike.{AreSound, Begins, IsBits};
 ghost use Rattle.flt_opt.specs.Replaces.{Replaces};
-ghost use Rattle.flt_opt.specs.Terms.{Agree};
+ghost use Rattle.flt_opt.specs.inside.Terms.{Agree};
 ghost use Rattle.flt_bpf.specs.Machine.{start};
-ghost use Rattle.flt_opt.specs.Facts.{part, IsDecided};
+ghost use Rattle.flt_opt.specs.inside.Facts.{part, IsDecided};
 
 use crate::facts::{Knowledge, Learnt, decided, facts_in, kept_outcomes, outcome};
 use crate::follows::{facts_follow, fits, same_accumulator, same_index};

@@ -4,11 +4,11 @@ ghost use Rattle.std.specs.Prelude.{◌≡◌, ℕ, List, ◌+◌, ◌^◌, ◌<
 ghost use Rattle.std.specs.Prelude.{IsTrue, slice_get};
 ghost use Rattle.std.specs.Prelude.{if◌then◌else◌};
 ghost use Rattle.flt_bpf.specs.Machine.{test_holds};
-ghost use Rattle.flt_opt.specs.Facts.{AllLearnt};
-ghost use Rattle.flt_opt.specs.Terms.{Agree, Holds};
+ghost use Rattle.flt_opt.specs.inside.Facts.{AllLearnt};
+ghost use Rattle.flt_opt.specs.inside.Terms.{Agree, Holds};
 ghost use Rattle.flt_bpf.specs.declared.machine.State.{State};
-ghost use Rattle.flt_opt.specs.Alike.{IsSure, Passes, Reaches, Advances, Drifts, IsRejection};
-ghost use Rattle.flt_opt.specs.Alike.{Rejects};
+ghost use Rattle.flt_opt.specs.inside.Alike.{IsSure, Passes, Reaches, Advances, Drifts, IsRejection};
+ghost use Rattle.flt_opt.specs.inside.Alike.{Rejects};
 
 use crate::facts::{Knowledge, Learnt, OUTCOMES, decided, outcome, with_newest};
 use crate::follows::{common, is_there};

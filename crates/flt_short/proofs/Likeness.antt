@@ -20,7 +20,8 @@ use Rattle.flt_bpf.specs.Machine.{Next, Goes, Ends, Lost, step, does, does_if_kn
 use Rattle.flt_short.specs.declared.alike.Landing.{Landing}
 use Rattle.flt_bpf.specs.Valid.{IsValid}
 use Rattle.flt_bpf.specs.Layout.{JUMP}
-use Rattle.flt_short.specs.Alike.{MASK, EQUAL, Shortens, reads_accumulator, reads_index, implies, landing_fits_at, landing_fits, goes_on, same_step, one_test, ANY_BIT, direct_code, is_number, direct_load, is_indirect, adds_header, loads_alike, header_load, code_from, stands_at, stands, are_alike, begins}
+use Rattle.flt_short.specs.Alike.{Shortens}
+use Rattle.flt_short.specs.inside.Alike.{MASK, EQUAL, reads_accumulator, reads_index, implies, landing_fits_at, landing_fits, goes_on, same_step, one_test, ANY_BIT, direct_code, is_number, direct_load, is_indirect, adds_header, loads_alike, header_load, code_from, stands_at, stands, are_alike, begins}
 use Rattle.flt_bpf.specs.Answer.{answer_of, answer_after}
 use Rattle.flt_bpf.proofs.Suffix.{answer_drop, machine_answers}
 use Rattle.flt_short.proofs.Basics.{both_true}

@@ -11,7 +11,7 @@ use Rattle.flt_bpf.specs.Check.{fault_of, fault_if_known, unless, ends_in_return
 use Rattle.flt_short.specs.declared.reload.Held.{Held}
 use Rattle.flt_short.specs.declared.reload.Held.TheVariants.{Unreached, Field, Unknown}
 use Rattle.flt_bpf.specs.Layout.{JUMP, is_branch, IsNeeded, JumpsAreNeeded}
-use Rattle.flt_short.specs.Reload.{held_on_both, loads, past_load_at, offset_past_load, insn_past_loads, with_arrival, with_arrivals_by, with_arrivals, flow, without_reloads}
+use Rattle.flt_short.specs.inside.Reload.{held_on_both, loads, past_load_at, offset_past_load, insn_past_loads, with_arrival, with_arrivals_by, with_arrivals, flow, without_reloads}
 use Rattle.flt_short.proofs.Basics.{both_true}
 use Rattle.flt_short.proofs.Basics.{by_test}
 use Rattle.flt_short.proofs.Reloads.{turned_code}

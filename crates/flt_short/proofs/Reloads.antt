@@ -15,7 +15,7 @@ use Rattle.flt_bpf.specs.Instructions.{operation_of}
 use Rattle.flt_bpf.specs.Machine.{Next, Goes, Ends, Lost, step, does, does_if_known, into, word_into, with_register, test_holds, operand_value, field, compute, held}
 use Rattle.flt_short.specs.declared.reload.Held.{Held}
 use Rattle.flt_short.specs.declared.reload.Held.TheVariants.{Unreached, Field, Unknown}
-use Rattle.flt_short.specs.Reload.{held_on_both, loads, past_load_at, offset_past_load, insn_past_loads, with_arrival, with_arrivals_by, with_arrivals, flow, without_reloads}
+use Rattle.flt_short.specs.inside.Reload.{held_on_both, loads, past_load_at, offset_past_load, insn_past_loads, with_arrival, with_arrivals_by, with_arrivals, flow, without_reloads}
 use Rattle.flt_bpf.specs.Answer.{answer_of, answer_after}
 use Rattle.flt_short.proofs.Basics.{both_true}
 use Rattle.flt_short.proofs.Basics.{by_test}

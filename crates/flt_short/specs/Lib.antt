@@ -1,2 +1,2 @@
-pub mod Reload
 pub mod Alike
+pub mod inside

@@ -2,12 +2,13 @@
 
 ghost use Rattle.std.specs.Prelude.{◌≡◌, ◌≢◌, ◌↔◌, ◌-◌, ◌==◌, ◌&&◌, nat_lt, length, IsTrue, All};
 ghost use Rattle.flt_bpf.specs.Instructions.{operation_of};
-ghost use Rattle.flt_short.specs.Alike.{Shortens, reads_accumulator, reads_index};
-ghost use Rattle.flt_short.specs.Alike.{sets_accumulator, sets_index, implies, landing_fits};
-ghost use Rattle.flt_short.specs.Alike.{goes_on};
-ghost use Rattle.flt_short.specs.Alike.{same_step, one_test, direct_code, is_number, direct_load};
-ghost use Rattle.flt_short.specs.Alike.{is_indirect, adds_header, loads_alike, header_load};
-ghost use Rattle.flt_short.specs.Alike.{stands, are_alike, begins, MASK, EQUAL, ANY_BIT};
+ghost use Rattle.flt_short.specs.Alike.{Shortens};
+ghost use Rattle.flt_short.specs.inside.Alike.{reads_accumulator, reads_index};
+ghost use Rattle.flt_short.specs.inside.Alike.{sets_accumulator, sets_index, implies, landing_fits};
+ghost use Rattle.flt_short.specs.inside.Alike.{goes_on};
+ghost use Rattle.flt_short.specs.inside.Alike.{same_step, one_test, direct_code, is_number, direct_load};
+ghost use Rattle.flt_short.specs.inside.Alike.{is_indirect, adds_header, loads_alike, header_load};
+ghost use Rattle.flt_short.specs.inside.Alike.{stands, are_alike, begins, MASK, EQUAL, ANY_BIT};
 ghost use Rattle.flt_bpf.specs.Layout.{JUMP};
 
 use flt_bpf::insn::Insn;
@@ -153,7 +154,7 @@ fn goes_on(operation: Operation, new: Insn, landing: Landing, old: Insn, followi
 }
 
 /// The instruction of the new program is that of the old one.
-#[tactic(auto, unfolding(crate::specs::Alike::same_step))]
+#[tactic(auto, unfolding(crate::specs::inside::Alike::same_step))]
 fn same_step(new: Insn, landing: Landing, old: Insn, following: &[Landing]) -> bool
     ensures { result ≡ same_step (operation_of old.code) new landing old following.now }
 {
@@ -181,7 +182,7 @@ fn tests_bits(new: Insn, mask: Insn, test: Insn) -> bool
 }
 
 /// It is one test of bits for a mask and a test of what is left for 0.
-#[tactic(auto, unfolding(crate::specs::Alike::one_test))]
+#[tactic(auto, unfolding(crate::specs::inside::Alike::one_test))]
 fn one_test(new: Insn, landing: Landing, old: Insn, after: &[Insn], following: &[Landing]) -> bool
     ensures { result ≡ one_test new landing old after.now following.now }
 {
@@ -218,7 +219,7 @@ fn is_direct(indirect: u16, code: u16) -> bool
 }
 
 /// It is one load for a number that goes to X by A, and a load at X.
-#[tactic(auto, unfolding(crate::specs::Alike::direct_load))]
+#[tactic(auto, unfolding(crate::specs::inside::Alike::direct_load))]
 fn direct_load(new: Insn, landing: Landing, old: Insn, after: &[Insn], following: &[Landing]) -> bool
     ensures { result ≡ direct_load new landing old after.now following.now }
 {
@@ -266,7 +267,7 @@ pub fn is_indirect(code: u16) -> bool
 
 /// They are the header length and a load after it, for a number, the header length, their sum that
 /// goes to X by A, and a load at X.
-#[tactic(auto, unfolding(crate::specs::Alike::header_load))]
+#[tactic(auto, unfolding(crate::specs::inside::Alike::header_load))]
 fn header_load(
     new: &[Insn],
     landing: Landing,

@@ -2,9 +2,9 @@
 
 ghost use Rattle.std.specs.Prelude.{◌≡◌, ◌^◌, ◌<◌, ◌≤◌, length, IfOk};
 ghost use Rattle.flt_bpf.specs.Instructions.{operation_of};
-ghost use Rattle.flt_short.specs.Reload.{held_on_both, loads, offset_past_load, insn_past_loads};
-ghost use Rattle.flt_short.specs.Reload.{with_arrival, with_arrivals, flow};
-ghost use Rattle.flt_short.specs.Reload.{without_reloads};
+ghost use Rattle.flt_short.specs.inside.Reload.{held_on_both, loads, offset_past_load, insn_past_loads};
+ghost use Rattle.flt_short.specs.inside.Reload.{with_arrival, with_arrivals, flow};
+ghost use Rattle.flt_short.specs.inside.Reload.{without_reloads};
 
 use flt_bpf::insn::Insn;
 use flt_bpf::operation::{Operation, decode};

@@ -2,19 +2,12 @@
 use Rattle.std.specs.Prelude.{◌≡◌, ℕ, ◌<◌, ◌≤◌, List, length, slice_get, IsSomeAnd}
 use Rattle.flt_bpf.specs.declared.insn.Insn.{Insn}
 use Rattle.flt_bpf.specs.declared.machine.State.{State}
-use Rattle.flt_bpf.specs.Machine.{Next, Goes, Ends, Stands, Answered, machine}
+use Rattle.flt_bpf.specs.Machine.{Stands, Answered, machine}
 use Rattle.flt_trace.specs.declared.steps.Step.{Step}
-use Rattle.flt_trace.specs.declared.steps.Course.{Course}
-use Rattle.flt_trace.specs.declared.steps.Course.TheVariants.{Further, End}
 
 -- the machine's state that a step shows
 abbrev pub step_state : Step → State
 step_state s = record { accumulator = s.accumulator; index = s.index; memory = s.memory }
-
--- what an instruction leads to, in the machine's words
-abbrev pub course_next : Course → Step → Next
-course_next (Further further) s = Goes further (step_state s)
-course_next (End answer) s = Ends answer
 
 -- the run of a program on a packet of original length n is there after t instructions
 abbrev pub IsAfter : List Insn → List ℕ → ℕ → ℕ → Step → Type 0

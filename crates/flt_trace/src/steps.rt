@@ -4,7 +4,8 @@ ghost use Rattle.flt_bpf.specs.Check.{fault_of};
 ghost use Rattle.flt_bpf.specs.Machine.{field, held, into, into_word, operand_value, step};
 ghost use Rattle.flt_bpf.specs.Machine.{test_holds};
 ghost use Rattle.flt_bpf.specs.Valid.{IsValid};
-ghost use Rattle.flt_trace.specs.Trace.{Traces, course_next, step_state};
+ghost use Rattle.flt_trace.specs.Trace.{Traces, step_state};
+ghost use Rattle.flt_trace.specs.inside.Trace.{course_next};
 
 use flt_bpf::operation::{Operand, Operation, Register, Source, Test, Width, decode};
 use flt_bpf::{Insn, compute};

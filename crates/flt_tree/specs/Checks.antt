@@ -1,11 +1,9 @@
 -- The faults of a resolved tree: a division by 0, too many words, too long a program.
-use Rattle.std.specs.Prelude.{Bool, true, false, ◌&&◌, ◌||◌, ◌==◌, nat_lt, List, [], ◌∷◌, Option, Some, None}
+use Rattle.std.specs.Prelude.{Bool, true, false, ◌&&◌, ◌||◌, ◌==◌, nat_lt, Option, Some, None}
 use Rattle.flt_words.specs.declared.token.Operator.{Operator}
 use Rattle.flt_words.specs.declared.token.Operator.TheVariants.{Divide, Remainder}
 use Rattle.flt_words.specs.declared.fault.ExprFault.{ExprFault}
 use Rattle.flt_words.specs.declared.fault.ExprFault.TheVariants as fault
-use Rattle.flt_tree.specs.declared.node.Node.{Node}
-use Rattle.flt_tree.specs.declared.node.Node.TheVariants as node
 use Rattle.flt_tree.specs.Tree.{NumberTree, literal, len, named, load, negated, applied, TruthTree, compared, Expression}
 use Rattle.flt_tree.specs.Resolved.{some_primitive}
 use Rattle.flt_tree.specs.Counts.{words_of, bound_of}
@@ -45,18 +43,3 @@ abbrev pub check_fault : Expression → Option ExprFault
 check_fault e =
     first_excess (some_primitive divides_by_zero e) (nat_lt 16 (words_of e))
     (nat_lt 32768 (bound_of e))
-
--- over the nodes: a division right after the number 0, where before says that such a number stands
--- in front
-abbrev pub is_zero_node : Node → Bool
-is_zero_node (node.Literal n) = n == 0
-is_zero_node _ = false
-
-abbrev pub is_division_node : Node → Bool
-is_division_node (node.Apply o) = is_division o
-is_division_node _ = false
-
-abbrev pub zero_divided : Bool → List Node → Bool
-zero_divided before [] = false
-zero_divided before (n ∷ rest) =
-    (is_division_node n && before) || zero_divided (is_zero_node n) rest

@@ -1,5 +1,5 @@
 -- What a bare value inherits, and what is filled in where it is left out.
-use Rattle.std.specs.Prelude.{List, [], ◌∷◌, Some, None, unwrap_or}
+use Rattle.std.specs.Prelude.{Some, None, unwrap_or}
 use Rattle.flt_words.specs.declared.token.Join.TheVariants as join
 use Rattle.flt_words.specs.declared.token.ValueType.{ValueType}
 use Rattle.flt_words.specs.declared.token.ValueType.TheVariants.{Host}
@@ -54,19 +54,6 @@ expr_inherited (truth a) = truth (with_inherited only_host a)
 abbrev pub fill_expression : Expression → Expression
 fill_expression empty = empty
 fill_expression (truth a) = truth (complete (with_inherited only_host a))
-
--- the same over the nodes
-abbrev pub next_latest : Qualifiers → Node → Qualifiers
-next_latest q (node.Valued p v) = p
-next_latest q _ = q
-
-abbrev pub inherited_node : Qualifiers → Node → Node
-inherited_node q (node.Bare v) = node.Valued q v
-inherited_node q n = n
-
-abbrev pub inherited_nodes : Qualifiers → List Node → List Node
-inherited_nodes q [] = []
-inherited_nodes q (n ∷ rest) = inherited_node q n ∷ inherited_nodes (next_latest q n) rest
 
 abbrev pub completed_node : Node → Node
 completed_node (node.Valued q v) = node.Qualified (full q) v

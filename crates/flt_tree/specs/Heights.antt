@@ -1,5 +1,5 @@
 -- How many numbers wait while the nodes of a tree are gone through.
-use Rattle.std.specs.Prelude.{ℕ, ◌+◌, ◌-◌, max}
+use Rattle.std.specs.Prelude.{ℕ, ◌+◌, ◌-◌}
 use Rattle.flt_tree.specs.declared.node.Node.{Node}
 use Rattle.flt_tree.specs.declared.node.Node.TheVariants as node
 
@@ -16,7 +16,3 @@ height_after h _ = h
 abbrev pub peak : ℕ → Node → ℕ
 peak h (node.Sized s n) = h + 2
 peak h n = height_after h n
-
--- the number of them, and the greatest number so far
-abbrev pub climb : ℕ × ℕ → Node → ℕ × ℕ
-climb s n = (height_after s.0 n, max s.1 (peak s.0 n))

@@ -7,3 +7,4 @@ pub mod Resolved
 pub mod Counts
 pub mod Heights
 pub mod Checks
+pub mod inside

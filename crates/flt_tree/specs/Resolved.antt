@@ -1,7 +1,6 @@
 -- The faults of a tree whose bare values have their qualifiers: a misfit, a value out of range,
 -- bits past a mask.
-use Rattle.std.specs.Prelude.{◌≡◌, List, Bool, true, false, not, ◌&&◌, ◌||◌, is_some, Option, Some, None}
-use Rattle.std.specs.List.{list_any}
+use Rattle.std.specs.Prelude.{◌≡◌, Bool, true, false, not, ◌&&◌, ◌||◌, is_some, Option, Some, None}
 use Rattle.flt_words.specs.declared.fault.ExprFault.{ExprFault}
 use Rattle.flt_words.specs.declared.fault.ExprFault.TheVariants as fault
 use Rattle.flt_tree.specs.declared.node.Node.{Node}
@@ -98,9 +97,3 @@ abbrev pub has_past_bits_node : Node → Bool
 has_past_bits_node (node.Valued q v) = has_past_bits (valued q v)
 has_past_bits_node (node.Qualified q v) = has_past_bits (qualified q v)
 has_past_bits_node _ = false
-
--- and of nodes
-abbrev pub nodes_fault : List Node → Option ExprFault
-nodes_fault ns =
-    first_fault (list_any is_misfit_node ns) (list_any is_out_of_range_node ns)
-    (list_any has_past_bits_node ns)

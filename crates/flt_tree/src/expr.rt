@@ -20,7 +20,8 @@ impl<A: Allocator> Model for Expr<A> {
     ghost use Rattle.flt_tree.specs.declared.node.Node.{Node};
     ghost use Rattle.flt_tree.specs.contracts.node.Node as stored;
     ghost use Rattle.flt_tree.specs.Tree.{Expression};
-    ghost use Rattle.flt_tree.specs.Nodes.{IsTree, tree_back, tree_of, expr_nodes};
+    ghost use Rattle.flt_tree.specs.Nodes.{tree_of, expr_nodes};
+    ghost use Rattle.flt_tree.specs.inside.Nodes.{IsTree, tree_back};
 
     ghost Value = { Expression };
 

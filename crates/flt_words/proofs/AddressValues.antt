@@ -7,7 +7,8 @@ use Rattle.std.specs.Int.Digits.{AllBelowBase, number_from_digits, number_from_d
 use Rattle.std.specs.List.{AllByRecursion, join_with_byte}
 use Rattle.flt_words.specs.declared.address.Group.{Group}
 use Rattle.flt_words.specs.declared.address.Joined.{Joined}
-use Rattle.flt_words.specs.Addresses.{AreGroups, IsGroup, ReadsGroups, base_of, group_value, group_values, separator_of}
+use Rattle.flt_words.specs.Addresses.{AreGroups, IsGroup, group_value, group_values, separator_of}
+use Rattle.flt_words.specs.inside.Addresses.{ReadsGroups, base_of}
 use Rattle.flt_words.proofs.Groups.{group_below, group_some, groups_are_parts}
 
 some_joined : (form : Group) (first : List ℕ) (groups : List (List ℕ)) → IsGroup form first → 0 < length (join_with_byte (separator_of form) (first ∷ groups))

@@ -3,7 +3,7 @@ use Rattle.std.proofs.Common.{◌≡◌, Bool, true, false, ◌&&◌, refl, ◌�
 use Rattle.flt_words.specs.declared.number.WordFault.{WordFault}
 use Rattle.flt_words.specs.declared.number.WordFault.TheVariants as fault
 use Rattle.flt_words.specs.declared.token.TokenKind.{TokenKind}
-use Rattle.flt_words.specs.Numbers.{Answers, both_known}
+use Rattle.flt_words.specs.inside.Numbers.{Answers, both_known}
 use Rattle.flt_words.specs.Words.{Stands, fits}
 
 pub answers_along : {A : Type 0} (V W : A → Type 0) (test : A → Bool) → ((a : A) → V a → W a) → ((a : A) → W a → V a) → (r : Result A WordFault) → Answers V test r → Answers W test r

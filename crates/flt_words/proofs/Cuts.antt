@@ -6,7 +6,7 @@ use Rattle.std.proofs.lemmas.List.Sums.{passes_at_first, split_at_first}
 use Rattle.std.specs.Char.{digit_value}
 use Rattle.std.specs.List.{position, position_or_len}
 use Rattle.std.specs.Str.Parse.{AllDigits}
-use Rattle.flt_words.specs.Characters.{has}
+use Rattle.flt_words.specs.inside.Characters.{has}
 
 pub neither : (a b : Bool) → a || b ≡ false → (a ≡ false) × (b ≡ false)
 neither true b h = absurd (cc)

@@ -5,9 +5,10 @@ use Rattle.std.proofs.lemmas.Bool.Decides.{nat_tests}
 use Rattle.std.proofs.lemmas.List.{get_or-append-add, get_or_append_left, take-append-drop}
 use Rattle.std.specs.List.{AllByRecursion, join_with_byte}
 use Rattle.flt_words.specs.declared.address.Group.TheVariants as group
-use Rattle.flt_words.specs.Addresses.{AreGroups, AreIp6Ends, IsDoubleColon, IsGroup, IsIp6, IsWholeIp6}
+use Rattle.flt_words.specs.Addresses.{AreGroups, AreIp6Ends, IsGroup, IsIp6, IsWholeIp6}
+use Rattle.flt_words.specs.inside.Addresses.{IsDoubleColon}
 use Rattle.flt_words.specs.Addresses.IsIp6.{shortened, whole}
-use Rattle.flt_words.specs.Characters.{has}
+use Rattle.flt_words.specs.inside.Characters.{has}
 use Rattle.flt_words.proofs.Cuts.{neither}
 use Rattle.flt_words.proofs.Groups.{group_lacks, group_some}
 

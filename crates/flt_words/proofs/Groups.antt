@@ -10,9 +10,11 @@ use Rattle.flt_words.specs.declared.address.Group.{Group}
 use Rattle.flt_words.specs.declared.address.Group.TheVariants as group
 use Rattle.flt_words.specs.declared.number.WordFault.{WordFault}
 use Rattle.flt_words.specs.declared.number.WordFault.TheVariants as fault
-use Rattle.flt_words.specs.Addresses.{AreGroups, IsGroup, base_of, group_value, separator_of}
-use Rattle.flt_words.specs.Numbers.{Answers, WritesNumber, is_word_sized}
-use Rattle.flt_words.specs.Characters.{has}
+use Rattle.flt_words.specs.Addresses.{AreGroups, IsGroup, group_value, separator_of}
+use Rattle.flt_words.specs.inside.Addresses.{base_of}
+use Rattle.flt_words.specs.Numbers.{WritesNumber, is_word_sized}
+use Rattle.flt_words.specs.inside.Numbers.{Answers}
+use Rattle.flt_words.specs.inside.Characters.{has}
 use Rattle.flt_words.proofs.Cuts.{digits_lack, neither, same}
 
 not_small : (n : ℕ) → n < 2 ^ 32 → is_word_sized n ≡ false → ⊥

@@ -5,7 +5,7 @@ use Rattle.std.specs.Char.{digit_value}
 use Rattle.std.specs.List.{position}
 use Rattle.flt_words.specs.Numbers.{IsRange, WritesDecimal}
 use Rattle.flt_words.specs.Numbers.IsRange.{joined}
-use Rattle.flt_words.specs.Characters.{has}
+use Rattle.flt_words.specs.inside.Characters.{has}
 use Rattle.flt_words.proofs.Cuts.{cut_at, digits_lack, joined_at}
 
 pub decimal_lacks : {digits : List ℕ} {n : ℕ} (c : ℕ) → 10 ≤ digit_value c → WritesDecimal digits n → has c digits ≡ false

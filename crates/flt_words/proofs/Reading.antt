@@ -8,7 +8,8 @@ use Rattle.std.specs.Int.Digits.{number_from_digits}
 use Rattle.std.specs.List.{AllByRecursion, join_with_byte, slice_split}
 use Rattle.flt_words.specs.declared.address.Group.{Group}
 use Rattle.flt_words.specs.declared.address.Group.TheVariants as group
-use Rattle.flt_words.specs.Addresses.{AreGroups, IsGroup, base_of, group_value, group_values, separator_of}
+use Rattle.flt_words.specs.Addresses.{AreGroups, IsGroup, group_value, group_values, separator_of}
+use Rattle.flt_words.specs.inside.Addresses.{base_of}
 use Rattle.flt_words.proofs.Groups.{group_below, groups_are_parts}
 
 abbrev pub parts_of : Group → List ℕ → List (List ℕ)

@@ -4,7 +4,7 @@ use Rattle.std.proofs.lemmas.Slice.Eq.{bytes_eq-Decides}
 use Rattle.std.specs.List.{list_all}
 use Rattle.std.specs.Str.{bytes_eq}
 use Rattle.flt_words.specs.declared.token.TokenKind.{TokenKind}
-use Rattle.flt_words.specs.Characters.{has}
+use Rattle.flt_words.specs.inside.Characters.{has}
 use Rattle.flt_words.specs.Spellings.{Spellings, keyword_of, keywords, look_up}
 use Rattle.flt_words.specs.Words.{fits}
 

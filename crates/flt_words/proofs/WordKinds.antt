@@ -7,7 +7,7 @@ use Rattle.flt_words.specs.declared.address.Group.TheVariants as group
 use Rattle.flt_words.specs.declared.token.TokenKind.{TokenKind}
 use Rattle.flt_words.specs.Addresses.{AreGroups, IsDotted, IsGroup, IsIp6, IsMac, separator_of}
 use Rattle.flt_words.specs.Addresses.IsIp6.{shortened, whole}
-use Rattle.flt_words.specs.Characters.{has}
+use Rattle.flt_words.specs.inside.Characters.{has}
 use Rattle.flt_words.specs.Numbers.{IsNumber, IsRange}
 use Rattle.flt_words.specs.Numbers.IsNumber.{decimal, octal, hexadecimal, capital_hexadecimal}
 use Rattle.flt_words.specs.Numbers.IsRange.{joined}

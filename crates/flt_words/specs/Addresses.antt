@@ -1,11 +1,10 @@
 -- Addresses in words: groups of digits that a separator joins.
-use Rattle.std.specs.Prelude.{◌≡◌, ◌≤◌, ◌+◌, ◌-◌, ℕ, List, ◌++◌, map, length, replicate, codes, slice_index, Option, Some, None, MatchOption}
+use Rattle.std.specs.Prelude.{◌≡◌, ◌≤◌, ◌+◌, ◌-◌, ℕ, List, ◌++◌, map, length, replicate, codes}
 use Rattle.std.specs.Int.Digits.{number_from_digits}
 use Rattle.std.specs.List.{AllByRecursion, join_with_byte}
 use Rattle.std.specs.Str.Parse.{IsNumeral, digits_value}
 use Rattle.flt_words.specs.declared.address.Group.{Group}
 use Rattle.flt_words.specs.declared.address.Group.TheVariants as group
-use Rattle.flt_words.specs.declared.address.Joined.{Joined}
 use Rattle.flt_words.specs.Numbers.{WritesDecimal}
 
 -- what joins groups of a form: a point, or a colon
@@ -13,12 +12,6 @@ abbrev pub separator_of : Group → ℕ
 separator_of group.Octet = 46
 separator_of group.Byte = 58
 separator_of group.Quad = 58
-
--- a group's number is below its base
-abbrev pub base_of : Group → ℕ
-base_of group.Octet = 256
-base_of group.Byte = 256
-base_of group.Quad = 65536
 
 -- digits of the form: decimal up to 255, one or two hexadecimal, one to four hexadecimal
 abbrev pub IsGroup : Group → List ℕ → Type 0
@@ -81,22 +74,3 @@ pub data IsIp6 : List ℕ → ℕ → Type 0 where
   whole : {word : List ℕ} {address : ℕ} → IsWholeIp6 word address → IsIp6 word address
   shortened : {front back : List ℕ} {address : ℕ} → AreIp6Ends front back address
       → IsIp6 (front ++ (codes "::" ++ back)) address
-
--- the answer of looking for an address: one of which this is so, or none where it is so of no
--- address
-abbrev pub FindsAddress : (ℕ → Type 0) → Option ℕ → Type 0
-FindsAddress IsIt answer = MatchOption answer ((address : ℕ) → IsIt address → ⊥) IsIt
-
--- two colons stand here
-abbrev pub IsDoubleColon : List ℕ → ℕ → Type 0
-IsDoubleColon word i = (slice_index word i ≡ 58) × (slice_index word (i + 1) ≡ 58)
-
--- the answer of reading a text as at most eight groups: how many, and the number that they write in
--- their base
-abbrev pub ReadsGroups : Group → List ℕ → Option Joined → Type 0
-ReadsGroups form text None =
-    (groups : List (List ℕ)) → AreGroups form text groups → length groups ≤ 8 → ⊥
-ReadsGroups form text (Some joined) =
-    (groups : List (List ℕ)) × AreGroups form text groups × (length groups ≤ 8)
-    × (joined.count ≡ length groups)
-    × (joined.value ≡ number_from_digits (base_of form) (group_values form groups))

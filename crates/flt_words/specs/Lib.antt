@@ -6,3 +6,4 @@ pub mod Addresses
 pub mod Words
 pub mod Tokens
 pub mod Messages
+pub mod inside

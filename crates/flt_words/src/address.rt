@@ -3,9 +3,11 @@
 ghost use Rattle.std.specs.Prelude.{◌≡◌, ◌≤◌, ◌<◌, ◌+◌, ◌*◌, ◌^◌, ℕ, MatchOption, length};
 ghost use Rattle.std.specs.Str.Parse.{IsNumeral, digits_value};
 ghost use Rattle.flt_words.specs.declared.address.Group.TheVariants.{Octet};
-ghost use Rattle.flt_words.specs.Addresses.{AreIp6Ends, FindsAddress, IsDotted, IsDoubleColon};
+ghost use Rattle.flt_words.specs.Addresses.{AreIp6Ends, IsDotted};
+ghost use Rattle.flt_words.specs.inside.Addresses.{FindsAddress, IsDoubleColon};
 ghost use Rattle.flt_words.specs.Addresses.{IsGroup};
-ghost use Rattle.flt_words.specs.Addresses.{IsIp6, IsMac, IsWholeIp6, ReadsGroups, base_of};
+ghost use Rattle.flt_words.specs.Addresses.{IsIp6, IsMac, IsWholeIp6};
+ghost use Rattle.flt_words.specs.inside.Addresses.{ReadsGroups, base_of};
 ghost use Rattle.flt_words.specs.Addresses.{group_value, separator_of};
 
 use crate::number::{decimal, numeral};

@@ -1,8 +1,10 @@
 //! Numbers in words, and the range of two.
 
 ghost use Rattle.std.specs.Prelude.{◌≡◌, ◌≤◌, ◌&&◌, ◌==◌, position};
-ghost use Rattle.flt_words.specs.Numbers.{Answers, IsNumber, IsRange, WritesNumber};
-ghost use Rattle.flt_words.specs.Numbers.{WritesDecimal, both_known, is_word_sized};
+ghost use Rattle.flt_words.specs.Numbers.{IsNumber, IsRange, WritesNumber};
+ghost use Rattle.flt_words.specs.inside.Numbers.{Answers};
+ghost use Rattle.flt_words.specs.Numbers.{WritesDecimal, is_word_sized};
+ghost use Rattle.flt_words.specs.inside.Numbers.{both_known};
 
 use cap_octet::digits::{are_digits, digits_number};
 

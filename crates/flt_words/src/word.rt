@@ -1,8 +1,8 @@
 //! What a word means.
 
 ghost use Rattle.std.specs.Prelude.{◌≡◌, None, false, true};
-ghost use Rattle.flt_words.specs.Characters.{has};
-ghost use Rattle.flt_words.specs.Numbers.{Answers};
+ghost use Rattle.flt_words.specs.inside.Characters.{has};
+ghost use Rattle.flt_words.specs.inside.Numbers.{Answers};
 ghost use Rattle.flt_words.specs.Spellings.{keyword_of};
 ghost use Rattle.flt_words.specs.Words.{Stands, WordMeans, fits};
 

@@ -2,7 +2,8 @@ use Rattle.std.proofs.Common.{◌≡◌, ◌∙◌, ap, map}
 use Rattle.std.proofs.lemmas.Result.{IfOk-weaker}
 use Rattle.clap.specs.Simple.{app_of_fields}
 use Rattle.clap.specs.Words.{App, app_of, new_app}
-use Rattle.cap_arguments.specs.Arguments.{rule_by, with_rules}
+use Rattle.cap_arguments.specs.Arguments.{with_rules}
+use Rattle.cap_arguments.specs.inside.Arguments.{rule_by}
 use Rattle.cap_arguments.proofs.arguments.command_by.Goals as goal
 
 pub returns-clause-shape : goal.returns-clause-shape

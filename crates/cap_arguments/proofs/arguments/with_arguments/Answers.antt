@@ -1,6 +1,6 @@
 use Rattle.std.proofs.Common.{◌∙◌}
 use Rattle.clap.specs.Words.{with_rule}
-use Rattle.cap_arguments.specs.Arguments.{rule_by}
+use Rattle.cap_arguments.specs.inside.Arguments.{rule_by}
 use Rattle.cap_arguments.proofs.Folds.{no_more, one_more}
 use Rattle.cap_arguments.proofs.LocalOptions.{stays}
 use Rattle.cap_arguments.proofs.arguments.with_arguments.Goals as goal

@@ -1,7 +1,8 @@
 use Rattle.std.proofs.Common.{◌≡◌, drop, map}
 use Rattle.clap.specs.Words.{app_of}
 use Rattle.clap.specs.declared.builder.command.Command.TheViews.{out-Command as fields_of}
-use Rattle.cap_arguments.specs.Arguments.{rule_by, with_rules}
+use Rattle.cap_arguments.specs.Arguments.{with_rules}
+use Rattle.cap_arguments.specs.inside.Arguments.{rule_by}
 use Rattle.cap_arguments.proofs.arguments.with_arguments.Given as goal
 
 -- with the arguments that are left, the command is what all of them make of it

@@ -1,6 +1,7 @@
 use Rattle.std.proofs.Common.{◌∙◌, ap, map}
 use Rattle.clap.specs.Words.{App, with_subcommand}
-use Rattle.cap_arguments.specs.Arguments.{shape_by, with_shapes}
+use Rattle.cap_arguments.specs.Arguments.{with_shapes}
+use Rattle.cap_arguments.specs.inside.Arguments.{shape_by}
 use Rattle.cap_arguments.proofs.Folds.{no_more, one_more}
 use Rattle.cap_arguments.proofs.arguments.with_commands.Goals as goal
 

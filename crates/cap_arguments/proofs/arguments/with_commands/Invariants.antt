@@ -1,6 +1,7 @@
 use Rattle.std.proofs.Common.{◌≡◌, drop, map}
 use Rattle.clap.specs.Words.{app_of}
-use Rattle.cap_arguments.specs.Arguments.{bare_line, shape_by, with_shapes}
+use Rattle.cap_arguments.specs.Arguments.{bare_line, with_shapes}
+use Rattle.cap_arguments.specs.inside.Arguments.{shape_by}
 use Rattle.cap_arguments.proofs.arguments.with_commands.Given as goal
 
 -- with the subcommands that are left, the command is what all of them make of the bare line

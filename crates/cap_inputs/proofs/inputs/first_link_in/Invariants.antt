@@ -1,5 +1,5 @@
 use Rattle.std.proofs.Common.{◌≡◌, ◌≤◌, length, drop}
-use Rattle.cap_inputs.specs.Inputs.{first_declared_link}
+use Rattle.cap_inputs.specs.inside.Inputs.{first_declared_link}
 use Rattle.cap_inputs.proofs.inputs.first_link_in.Given as goal
 
 abbrev pub invariant-loop-i : goal.invariant-loop-i

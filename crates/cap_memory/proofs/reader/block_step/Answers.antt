@@ -1,7 +1,7 @@
 -- The block is the unit that the text begins with.
 use Rattle.std.proofs.Common.{Option, ℕ, length, sym, subst}
 use Rattle.cap_memory.specs.Layout.{first_interfaces}
-use Rattle.cap_memory.specs.Units.{BeginsWithUnit}
+use Rattle.cap_memory.specs.inside.Units.{BeginsWithUnit}
 use Rattle.cap_io.specs.declared.file_state.FileState.TheVariants as form
 use Rattle.cap_memory.proofs.Fronts.{block_unit, no_unit}
 use Rattle.cap_memory.proofs.reader.block_step.Goals as goal

@@ -1,7 +1,7 @@
 -- What is left is what reading the unit leaves.
 use Rattle.std.proofs.Common.{length, refl, subst}
 use Rattle.cap_memory.specs.Layout.{first_interfaces}
-use Rattle.cap_memory.specs.Units.{IsNoUnit}
+use Rattle.cap_memory.specs.inside.Units.{IsNoUnit}
 use Rattle.cap_memory.proofs.Leaves.{ended, found_packet, full, passed, refused}
 use Rattle.cap_memory.proofs.reader.next_unit.Goals as goal
 

@@ -2,7 +2,8 @@ use Rattle.std.proofs.Common.{Option, None, not, Ok, subst, sym}
 use Rattle.cap_octet.specs.Packet.{Captured, captured}
 use Rattle.cap_window.specs.View.{WindowView}
 use Rattle.cap_packets.specs.Verdict.{unique}
-use Rattle.cap_packets.specs.Selector.{IsWindowFor, ReturnsVerdict, marks_in, state_of}
+use Rattle.cap_packets.specs.Selector.{marks_in, state_of}
+use Rattle.cap_packets.specs.inside.Selector.{IsWindowFor, ReturnsVerdict}
 use Rattle.cap_packets.proofs.EditRules.{unique-keeps}
 use Rattle.cap_packets.proofs.edit.is_unique.Goals as goal
 

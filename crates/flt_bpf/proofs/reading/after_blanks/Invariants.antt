@@ -2,7 +2,7 @@
 use Rattle.std.proofs.Common.{◌≡◌, drop}
 use Rattle.std.specs.Prelude.{◌==◌}
 use Rattle.std.specs.List.{slice_split}
-use Rattle.flt_bpf.specs.Reading.{later_numbers}
+use Rattle.flt_bpf.specs.inside.Reading.{later_numbers}
 use Rattle.flt_bpf.proofs.reading.after_blanks.Given as goal
 
 abbrev pub invariant-loop-at : goal.invariant-loop-at

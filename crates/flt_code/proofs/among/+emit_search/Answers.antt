@@ -2,7 +2,7 @@
 use Rattle.std.proofs.Common.{◌+◌, ◌-◌, ◌/◌, ◌<◌, ◌≤◌, ◌++◌, ◌∙◌, refl, ap, sym, length, take, drop, arith, length-drop, length-take}
 use Rattle.std.specs.Prelude.{ℕ, List}
 use Rattle.std.proofs.lemmas.List.{take_rest}
-use Rattle.flt_code.specs.Code.{block, Block, at_top, emit_halves, emit_search}
+use Rattle.flt_code.specs.inside.Code.{block, Block, at_top, emit_halves, emit_search}
 use Rattle.flt_code.proofs.Search.{by_halves, search_both}
 use Rattle.flt_code.proofs.among.+emit_search.Goals as goal
 

@@ -9,8 +9,8 @@ use Rattle.flt_tree.specs.Counts.{words_of, bound_of}
 use Rattle.flt_gen.specs.Correct.{IsProgramOf}
 use Rattle.flt_gen.specs.Counts.{short_bound_of}
 use Rattle.flt_bpf.specs.Layout.{JumpsAreNeeded, IsShort}
-use Rattle.flt_gen.specs.Folding.{with_folded, folded_expression}
-use Rattle.flt_short.specs.Reload.{without_reloads}
+use Rattle.flt_gen.specs.inside.Folding.{with_folded, folded_expression}
+use Rattle.flt_short.specs.inside.Reload.{without_reloads}
 use Rattle.flt_gen.proofs.Folded.{words_no_more, bound_no_more, short_no_more, filled_folded, nodes_folded, folded_decides, folded_short}
 use Rattle.flt_gen.proofs.Whole.{code_fits, program_few, program_valid, program_decides, program_layout, program_short, replaced_decides, replaced_short, better_decides, better_short}
 use Rattle.flt_gen.proofs.Turned.{Turned, room_is, inside_is, program_is}

@@ -1,6 +1,6 @@
 -- The walk ends inside its code.
 use Rattle.std.proofs.Common.{ap, length, arith}
-use Rattle.flt_gen.specs.Walk.{Walk}
+use Rattle.flt_gen.specs.inside.Walk.{Walk}
 use Rattle.flt_gen.proofs.program.program_insns.Goals as goal
 
 pub into_insns-requires : goal.into_insns-requires

@@ -8,7 +8,7 @@ use Rattle.flt_gen.specs.declared.wanted.NetTest.{NetTest}
 use Rattle.flt_gen.specs.declared.wanted.PortTest.{PortTest}
 use Rattle.flt_gen.specs.declared.wanted.Ports.TheVariants.{One, Several}
 use Rattle.flt_gen.specs.Primitives.{net_test, net_formula, hosts_formula, port_test, port_formula}
-use Rattle.flt_gen.specs.Group.{group_formula}
+use Rattle.flt_gen.specs.inside.Group.{group_formula}
 use Rattle.flt_gen.proofs.Joined.{one_host, several_hosts, one_port, several_ports, equal_formula_code}
 use Rattle.flt_gen.proofs.value.emit_group.Goals as goal
 use Rattle.flt_gen.proofs.value.emit_group.Goals.{then-numbers-lt1, else-numbers-lt1+else-numbers-lt2}

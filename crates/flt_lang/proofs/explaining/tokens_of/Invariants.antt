@@ -1,6 +1,6 @@
 -- The nodes from a place on are written.
 use Rattle.std.proofs.Common.{◌≡◌, ◌≤◌, length, drop}
-use Rattle.flt_lang.specs.Backward.{write_nodes}
+use Rattle.flt_lang.specs.inside.Backward.{write_nodes}
 use Rattle.flt_lang.proofs.explaining.tokens_of.Given as goal
 
 abbrev pub invariant-loop-at : goal.invariant-loop-at

@@ -7,7 +7,7 @@ use Rattle.flt_bpf.specs.Instructions.{operation_of}
 use Rattle.flt_bpf.specs.Layout.{is_branch, JumpsAreNeeded, IsShort}
 use Rattle.flt_bpf.specs.Machine.{start}
 use Rattle.flt_bpf.proofs.Suffix.{valid_if_short}
-use Rattle.flt_lay.specs.Layout.{PlacedCode, placed_code, laid_out}
+use Rattle.flt_lay.specs.inside.Layout.{PlacedCode, placed_code, laid_out}
 use Rattle.flt_lay.proofs.Same.{same_answers}
 use Rattle.flt_lay.proofs.Needed.{laid_needed}
 use Rattle.flt_lay.proofs.Counted.{at_least, at_most, short_stays}

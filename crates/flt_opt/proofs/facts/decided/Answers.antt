@@ -1,6 +1,6 @@
 use Rattle.std.proofs.Common.{sym, ap, ◌∙◌, subst}
-use Rattle.flt_opt.specs.Terms.{is_known}
-use Rattle.flt_opt.specs.Facts.{CannotBe}
+use Rattle.flt_opt.specs.inside.Terms.{is_known}
+use Rattle.flt_opt.specs.inside.Facts.{CannotBe}
 use Rattle.flt_opt.proofs.Values.{decided_true, decided_false}
 use Rattle.flt_opt.proofs.facts.decided.Goals as goal
 

@@ -1,5 +1,5 @@
 use Rattle.std.proofs.Common.{take}
-use Rattle.flt_opt.specs.Facts.{NeverAmong}
+use Rattle.flt_opt.specs.inside.Facts.{NeverAmong}
 use Rattle.flt_opt.proofs.facts.may_be_among.Given as goal
 
 abbrev pub invariant-loop-piece : goal.invariant-loop-piece

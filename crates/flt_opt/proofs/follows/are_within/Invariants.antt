@@ -1,5 +1,5 @@
 use Rattle.std.proofs.Common.{take}
-use Rattle.flt_opt.specs.Facts.{AreWithin}
+use Rattle.flt_opt.specs.inside.Facts.{AreWithin}
 use Rattle.flt_opt.proofs.follows.are_within.Given as goal
 
 abbrev pub invariant-loop-piece : goal.invariant-loop-piece

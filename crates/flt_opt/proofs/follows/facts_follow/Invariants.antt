@@ -1,5 +1,5 @@
 use Rattle.std.proofs.Common.{take}
-use Rattle.flt_opt.specs.Facts.{FactsFollow}
+use Rattle.flt_opt.specs.inside.Facts.{FactsFollow}
 use Rattle.flt_opt.proofs.follows.facts_follow.Given as goal
 
 abbrev pub invariant-loop-fact : goal.invariant-loop-fact

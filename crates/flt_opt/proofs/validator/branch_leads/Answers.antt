@@ -1,6 +1,6 @@
 use Rattle.std.proofs.Common.{[], ◌∷◌, refl, ap, subst}
 use Rattle.std.specs.Prelude.{not}
-use Rattle.flt_opt.specs.Facts.{IsDecided}
+use Rattle.flt_opt.specs.inside.Facts.{IsDecided}
 use Rattle.flt_opt.proofs.Standing.{shown_constant, branch_good, never_good}
 use Rattle.flt_opt.proofs.validator.branch_leads.Goals as goal
 

@@ -1,7 +1,7 @@
 use Rattle.std.proofs.Common.{[], sym, ap, ◌∙◌, subst}
 use Rattle.flt_bpf.specs.Instructions.{operation_of}
-use Rattle.flt_opt.specs.Terms.{after_new}
-use Rattle.flt_opt.specs.Alike.{IsSure, LeadsTo}
+use Rattle.flt_opt.specs.inside.Terms.{after_new}
+use Rattle.flt_opt.specs.inside.Alike.{IsSure, LeadsTo}
 use Rattle.flt_opt.proofs.Rules.{way_on, facts_here, own_tests, own_leads}
 use Rattle.flt_opt.proofs.validator.does_own.Goals as goal
 

@@ -1,7 +1,7 @@
 use Rattle.std.proofs.Common.{◌+◌, [], Some, sym, ap, ◌∙◌, subst}
 use Rattle.flt_bpf.specs.Instructions.{operation_of}
-use Rattle.flt_opt.specs.Terms.{after_both}
-use Rattle.flt_opt.specs.Alike.{OperandsAgree, LeadsTo, Tests}
+use Rattle.flt_opt.specs.inside.Terms.{after_both}
+use Rattle.flt_opt.specs.inside.Alike.{OperandsAgree, LeadsTo, Tests}
 use Rattle.flt_opt.proofs.Rules.{way_on, facts_here, same_returns, same_tests, same_leads}
 use Rattle.flt_opt.proofs.validator.does_same.Goals as goal
 

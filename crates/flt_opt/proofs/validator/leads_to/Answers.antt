@@ -1,6 +1,6 @@
 use Rattle.std.proofs.Common.{refl, subst}
 use Rattle.std.proofs.lemmas.Option.{slice_get_read}
-use Rattle.flt_opt.specs.Facts.{FactsFollow}
+use Rattle.flt_opt.specs.inside.Facts.{FactsFollow}
 use Rattle.flt_opt.proofs.Standing.{leads_good}
 use Rattle.flt_opt.proofs.validator.leads_to.Goals as goal
 

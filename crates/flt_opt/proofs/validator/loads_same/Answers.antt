@@ -1,7 +1,7 @@
 use Rattle.std.proofs.Common.{◌+◌, [], sym, ap, ◌∙◌, subst}
 use Rattle.flt_bpf.specs.Instructions.{operation_of}
-use Rattle.flt_opt.specs.Terms.{asked}
-use Rattle.flt_opt.specs.Alike.{LeadsTo}
+use Rattle.flt_opt.specs.inside.Terms.{asked}
+use Rattle.flt_opt.specs.inside.Alike.{LeadsTo}
 use Rattle.flt_opt.proofs.Rules.{way_on, facts_here, loads_lead}
 use Rattle.flt_opt.proofs.validator.loads_same.Goals as goal
 

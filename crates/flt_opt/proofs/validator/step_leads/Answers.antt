@@ -1,5 +1,5 @@
 use Rattle.std.proofs.Common.{[], ◌+◌, subst}
-use Rattle.flt_opt.specs.Alike.{LeadsTo}
+use Rattle.flt_opt.specs.inside.Alike.{LeadsTo}
 use Rattle.flt_opt.proofs.validator.step_leads.Goals as goal
 
 pub returns : goal.returns

@@ -4,8 +4,8 @@ use Rattle.flt_bpf.specs.declared.operation.Operation.TheVariants.{Compute}
 use Rattle.flt_bpf.specs.declared.operation.AluOperation.TheVariants.{And}
 use Rattle.flt_bpf.specs.declared.operation.Operand.TheVariants.{Constant}
 use Rattle.flt_bpf.specs.declared.operation.Test.TheVariants.{AnyBit}
-use Rattle.flt_opt.specs.Terms.{after_old}
-use Rattle.flt_opt.specs.Alike.{Tests}
+use Rattle.flt_opt.specs.inside.Terms.{after_old}
+use Rattle.flt_opt.specs.inside.Alike.{Tests}
 use Rattle.flt_opt.proofs.Rules.{bits_lead}
 use Rattle.flt_opt.proofs.validator.tests_bits.Goals as goal
 

@@ -1,8 +1,8 @@
 use Rattle.std.proofs.Common.{◌+◌, ◌∷◌, true, false, Some, refl, sym, ap, ◌∙◌, subst, arith, rules}
 use Rattle.std.proofs.lemmas.Option.{slice_get_read}
 use Rattle.flt_bpf.specs.Instructions.{operation_of}
-use Rattle.flt_opt.specs.Facts.{outcome}
-use Rattle.flt_opt.specs.Alike.{Rejects}
+use Rattle.flt_opt.specs.inside.Facts.{outcome}
+use Rattle.flt_opt.specs.inside.Alike.{Rejects}
 use Rattle.flt_opt.proofs.Walking.{is_test}
 use Rattle.flt_opt.proofs.Drifting.{drift_more, rejected, rejects_then, both_reject}
 use Rattle.flt_opt.proofs.walk.+rejecting.Goals as goal

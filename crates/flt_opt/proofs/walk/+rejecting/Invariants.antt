@@ -1,6 +1,6 @@
 -- A run has gone so far; each fork leaves one split less.
 use Rattle.std.proofs.Common.{◌+◌, ◌*◌}
-use Rattle.flt_opt.specs.Alike.{DriftsFrom}
+use Rattle.flt_opt.specs.inside.Alike.{DriftsFrom}
 use Rattle.flt_opt.proofs.walk.+rejecting.Given as goal
 
 abbrev pub invariant-rejects-steps : goal.invariant-rejects-steps

@@ -1,6 +1,6 @@
 -- The old run is where the walk is; each way of a test that is walked first has one split less.
 use Rattle.std.proofs.Common.{◌+◌, ◌*◌}
-use Rattle.flt_opt.specs.Alike.{Advances}
+use Rattle.flt_opt.specs.inside.Alike.{Advances}
 use Rattle.flt_opt.proofs.walk.+walking.Given as goal
 
 abbrev pub invariant-walk-steps : goal.invariant-walk-steps

@@ -1,9 +1,9 @@
 use Rattle.std.proofs.Common.{Some, sym, ap, ◌∙◌, subst}
 use Rattle.std.specs.Prelude.{if◌then◌else◌}
 use Rattle.flt_bpf.specs.Instructions.{operation_of}
-use Rattle.flt_opt.specs.Terms.{after}
-use Rattle.flt_opt.specs.Facts.{IsDecided}
-use Rattle.flt_opt.specs.Alike.{Drifts}
+use Rattle.flt_opt.specs.inside.Terms.{after}
+use Rattle.flt_opt.specs.inside.Facts.{IsDecided}
+use Rattle.flt_opt.specs.inside.Alike.{Drifts}
 use Rattle.flt_opt.proofs.Walking.{is_test, is_a_jump}
 use Rattle.flt_opt.proofs.Drifting.{drift_on, drift_jump, drift_test}
 use Rattle.flt_opt.proofs.walk.drift.Goals as goal

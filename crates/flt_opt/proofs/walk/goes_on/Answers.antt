@@ -1,5 +1,5 @@
 use Rattle.std.proofs.Common.{sym, ◌∙◌, subst}
-use Rattle.flt_opt.specs.Terms.{There}
+use Rattle.flt_opt.specs.inside.Terms.{There}
 use Rattle.flt_opt.proofs.walk.goes_on.Goals as goal
 
 pub returns : goal.returns

@@ -1,9 +1,9 @@
 use Rattle.std.proofs.Common.{Some, sym, ap, ◌∙◌, subst}
 use Rattle.std.specs.Prelude.{if◌then◌else◌}
 use Rattle.flt_bpf.specs.Instructions.{operation_of}
-use Rattle.flt_opt.specs.Terms.{after_old}
-use Rattle.flt_opt.specs.Facts.{IsDecided}
-use Rattle.flt_opt.specs.Alike.{IsSure, Passes}
+use Rattle.flt_opt.specs.inside.Terms.{after_old}
+use Rattle.flt_opt.specs.inside.Facts.{IsDecided}
+use Rattle.flt_opt.specs.inside.Alike.{IsSure, Passes}
 use Rattle.flt_opt.proofs.Walking.{is_test, is_a_jump, pass_jump, pass_sure, pass_test}
 use Rattle.flt_opt.proofs.walk.pass.Goals as goal
 use Rattle.flt_opt.proofs.walk.pass.Goals.{then-holds, else-holds}

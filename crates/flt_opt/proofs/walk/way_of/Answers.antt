@@ -1,6 +1,6 @@
 use Rattle.std.proofs.Common.{sym, ap, ◌∙◌, subst}
 use Rattle.flt_bpf.specs.Machine.{test_holds}
-use Rattle.flt_opt.specs.Facts.{LearntHolds}
+use Rattle.flt_opt.specs.inside.Facts.{LearntHolds}
 use Rattle.flt_opt.proofs.Values.{shown}
 use Rattle.flt_opt.proofs.walk.way_of.Goals as goal
 

@@ -1,6 +1,6 @@
 -- What is left to compare decides.
 use Rattle.std.proofs.Common.{◌≡◌, ◌-◌, ◌≤◌, length, drop}
-use Rattle.flt_short.specs.Alike.{are_alike}
+use Rattle.flt_short.specs.inside.Alike.{are_alike}
 use Rattle.flt_short.proofs.alike.are_alike.Given as goal
 
 abbrev pub invariant-insns : goal.invariant-insns

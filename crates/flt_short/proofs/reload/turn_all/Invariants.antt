@@ -1,6 +1,6 @@
 -- What is left to do leads to the same code.
 use Rattle.std.proofs.Common.{◌≡◌, ◌-◌, ◌≤◌, length, drop}
-use Rattle.flt_short.specs.Reload.{flow}
+use Rattle.flt_short.specs.inside.Reload.{flow}
 use Rattle.flt_short.proofs.Reloads.{flow_from}
 use Rattle.flt_short.proofs.reload.turn_all.Given as goal
 

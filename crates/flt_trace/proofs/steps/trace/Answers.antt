@@ -3,7 +3,8 @@ use Rattle.std.proofs.Common.{◌+◌, ◌∙◌, ap, refl, rules}
 use Rattle.std.proofs.lemmas.Option.{slice_get-get_or}
 use Rattle.flt_bpf.proofs.Checking.{parts}
 use Rattle.flt_bpf.proofs.Steps.{goes_inside, sound_at}
-use Rattle.flt_trace.specs.Trace.{course_next, step_state}
+use Rattle.flt_trace.specs.Trace.{step_state}
+use Rattle.flt_trace.specs.inside.Trace.{course_next}
 use Rattle.flt_trace.proofs.Tracing.{standing_first, standing_last, standing_next, written_more, written_none}
 use Rattle.flt_trace.proofs.steps.trace.Goals as goal
 

@@ -1,6 +1,6 @@
 -- Eight groups fit.
 use Rattle.std.proofs.Common.{arith}
-use Rattle.flt_words.specs.Addresses.{base_of}
+use Rattle.flt_words.specs.inside.Addresses.{base_of}
 use Rattle.flt_words.proofs.Reading.{zero_fits, zero_value}
 use Rattle.flt_words.proofs.address.before_zeros.Goals as goal
 

@@ -1,6 +1,6 @@
 -- The number with the zeros so far.
 use Rattle.std.proofs.Common.{◌≡◌, ◌*◌, ◌^◌}
-use Rattle.flt_words.specs.Addresses.{base_of}
+use Rattle.flt_words.specs.inside.Addresses.{base_of}
 use Rattle.flt_words.proofs.address.before_zeros.Given as goal
 
 abbrev pub invariant-loop-done : goal.invariant-loop-done

@@ -1,6 +1,6 @@
 -- No two colons stand below.
 use Rattle.std.proofs.Common.{◌+◌, ◌<◌, ℕ}
-use Rattle.flt_words.specs.Addresses.{IsDoubleColon}
+use Rattle.flt_words.specs.inside.Addresses.{IsDoubleColon}
 use Rattle.flt_words.proofs.address.double_colon.Given as goal
 
 abbrev pub invariant-loop-i : goal.invariant-loop-i

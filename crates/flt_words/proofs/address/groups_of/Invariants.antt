@@ -2,7 +2,8 @@
 use Rattle.std.proofs.Common.{◌≡◌, ◌≤◌, ◌<◌, ◌^◌, length, map}
 use Rattle.std.specs.Int.Digits.{number_from_digits}
 use Rattle.std.specs.List.{AllByRecursion}
-use Rattle.flt_words.specs.Addresses.{IsGroup, base_of, group_values}
+use Rattle.flt_words.specs.Addresses.{IsGroup, group_values}
+use Rattle.flt_words.specs.inside.Addresses.{base_of}
 use Rattle.flt_words.proofs.address.groups_of.Given as goal
 
 abbrev pub invariant-loop-digits : goal.invariant-loop-digits

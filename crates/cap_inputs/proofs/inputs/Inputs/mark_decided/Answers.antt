@@ -2,7 +2,8 @@ use Rattle.std.proofs.Common.{◌<◌, ◌∙◌, length, ap, sym, subst}
 use Rattle.std.specs.List.{slice_set}
 use Rattle.cap_inputs.specs.declared.inputs.Schedule.{Schedule}
 use Rattle.cap_inputs.specs.declared.inputs.Next.TheVariants as next
-use Rattle.cap_inputs.specs.Cursor.{HoldsQueue, IsNextAt, IsScheduled, ordering_of}
+use Rattle.cap_inputs.specs.Cursor.{ordering_of}
+use Rattle.cap_inputs.specs.inside.Cursor.{HoldsQueue, IsNextAt, IsScheduled}
 use Rattle.cap_io.specs.Sequence.{PacketOrder}
 use Rattle.cap_inputs.specs.Inputs.{InputsView, InputView, MarksDecided, IsNext, input_after_decided, with_cursor}
 use Rattle.cap_inputs.proofs.Cursors.{following-order, get-among}

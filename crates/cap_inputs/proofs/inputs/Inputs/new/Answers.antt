@@ -1,6 +1,6 @@
 use Rattle.std.proofs.Common.{◌≡◌, ◌≤◌, IsTrue, List, [], length, ap, ◌∙◌, refl, arith}
 use Rattle.cap_inputs.specs.Inputs.{InputView}
-use Rattle.cap_inputs.specs.Cursor.{first_schedule}
+use Rattle.cap_inputs.specs.inside.Cursor.{first_schedule}
 use Rattle.cap_inputs.specs.Fresh.{fresh_view}
 use Rattle.cap_io.specs.Sequence.{order_of}
 use Rattle.cap_octet.specs.Views.{fresh_input}

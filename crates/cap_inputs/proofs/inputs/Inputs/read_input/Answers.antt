@@ -2,7 +2,8 @@ use Rattle.std.proofs.Common.{◌<◌, ◌&&◌, ℕ, ap, sym, ◌∙◌, subst,
 use Rattle.std.specs.List.{slice_set}
 use Rattle.cap_inputs.specs.declared.inputs.Schedule.{Schedule}
 use Rattle.cap_inputs.specs.declared.inputs.Next.TheVariants as next
-use Rattle.cap_inputs.specs.Cursor.{EntersQueue, HoldsQueue, IsNextAt, IsScheduled, is_merge, ordering_of}
+use Rattle.cap_inputs.specs.Cursor.{ordering_of}
+use Rattle.cap_inputs.specs.inside.Cursor.{EntersQueue, HoldsQueue, IsNextAt, IsScheduled, is_merge}
 use Rattle.cap_io.specs.Sequence.{PacketOrder}
 use Rattle.cap_inputs.specs.Inputs.{InputsView, ReadsInput, ReadSteps, InputView, IsNext, is_packet_found}
 use Rattle.cap_inputs.proofs.Cursors.{get-among, fetches-by, read_input-steps-by, schedule-order}

@@ -2,7 +2,8 @@ use Rattle.std.proofs.Common.{◌≡◌, map, not, refl, sym, ap, ◌∙◌, rul
 use Rattle.std.specs.Option.{option_map}
 use Rattle.std.proofs.lemmas.Option.{slice_get-map}
 use Rattle.cap_octet.specs.Packet.{captured}
-use Rattle.cap_io.specs.Numbering.{HasNumber, interface_in}
+use Rattle.cap_io.specs.Numbering.{interface_in}
+use Rattle.cap_io.specs.inside.Numbering.{HasNumber}
 use Rattle.cap_io.specs.Text.{interface_of}
 use Rattle.cap_io.specs.declared.numbering.InterfaceNumber.{InterfaceNumber}
 use Rattle.cap_io.proofs.Interfaces.{same_interface}

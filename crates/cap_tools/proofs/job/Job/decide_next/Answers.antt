@@ -7,13 +7,15 @@ use Rattle.cap_tools.specs.declared.step.JobEnd.TheVariants as end
 use Rattle.cap_inputs.specs.Inputs.{InputsView, InputView, InputPast, input_after_decided, with_cursor}
 use Rattle.cap_inputs.specs.Inputs as input_spec
 use Rattle.cap_packets.specs.Verdict.{Policy}
-use Rattle.cap_packets.specs.Selector.{SelectorView, policy_state}
-use Rattle.cap_tools.specs.Packets.{JobState, PacketsDecided, EndLeaves, StepGives, end_of_failed_write}
+use Rattle.cap_packets.specs.Selector.{SelectorView}
+use Rattle.cap_packets.specs.inside.Selector.{policy_state}
+use Rattle.cap_tools.specs.Packets.{JobState, PacketsDecided, EndLeaves, StepGives}
+use Rattle.cap_tools.specs.inside.Packets.{end_of_failed_write}
 use Rattle.cap_tools.specs.Start.{Preparing, preparing_of}
 use Rattle.std.specs.Option.{option_map}
 use Rattle.cap_tools.specs.Jobs.{state_at, JobView}
 use Rattle.cap_tools.specs.Bounds.{decides_one, leaves_one}
-use Rattle.cap_tools.specs.Step.{IsStep}
+use Rattle.cap_tools.specs.inside.Step.{IsStep}
 use Rattle.cap_tools.proofs.Answers.{answer-leaves, AnswerLeaves}
 use Rattle.cap_tools.proofs.Fetches.{mk, among-same}
 use Rattle.cap_tools.proofs.Held.{held}

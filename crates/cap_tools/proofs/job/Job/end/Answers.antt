@@ -5,7 +5,7 @@ use Rattle.cap_tools.specs.Messages.{MessagesView}
 use Rattle.cap_tools.specs.Start.{Preparing, preparing_of}
 use Rattle.std.specs.Option.{option_map}
 use Rattle.cap_tools.specs.Jobs.{JobView, end_message}
-use Rattle.cap_tools.specs.Step.{ending}
+use Rattle.cap_tools.specs.inside.Step.{ending}
 use Rattle.cap_tools.proofs.job.Job.end.Goals as goal
 
 pub returns-clause-ended : goal.returns-clause-ended

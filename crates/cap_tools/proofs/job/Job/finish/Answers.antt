@@ -4,7 +4,8 @@ use Rattle.cap_octet.specs.Views.{OutputView}
 use Rattle.cap_inputs.specs.declared.inputs.Next.TheVariants as next
 use Rattle.cap_tools.specs.declared.step.JobEnd.{JobEnd}
 use Rattle.cap_tools.specs.declared.step.JobEnd.TheVariants as end
-use Rattle.cap_packets.specs.Output.{output_at, EndsOutput}
+use Rattle.cap_packets.specs.Output.{output_at}
+use Rattle.cap_packets.specs.inside.Output.{EndsOutput}
 use Rattle.cap_inputs.specs.Inputs.{InputPast}
 use Rattle.cap_inputs.specs.Inputs as input_spec
 use Rattle.cap_tools.specs.Packets.{JobState, PacketsDecided, EndLeaves}
@@ -12,7 +13,7 @@ use Rattle.cap_tools.specs.Start.{Preparing, preparing_of}
 use Rattle.std.specs.Option.{option_map}
 use Rattle.cap_tools.specs.Jobs.{state_at, JobView}
 use Rattle.cap_tools.specs.Bounds.{reads_nothing}
-use Rattle.cap_tools.specs.Step.{IsStep}
+use Rattle.cap_tools.specs.inside.Step.{IsStep}
 use Rattle.cap_tools.proofs.Finishes.{finish-leaves, FinishLeaves}
 use Rattle.cap_tools.proofs.Weights.{is-light}
 use Rattle.cap_tools.proofs.job.Job.finish.Goals as goal

@@ -6,7 +6,7 @@ use Rattle.cap_tools.specs.Start.{Preparing, preparing_of}
 use Rattle.std.specs.Option.{option_map}
 use Rattle.cap_tools.specs.Jobs.{state_at, JobView}
 use Rattle.cap_tools.specs.Bounds.{IsLight}
-use Rattle.cap_tools.specs.FirstStep.{EndsList, is_text}
+use Rattle.cap_tools.specs.inside.FirstStep.{EndsList, is_text}
 use Rattle.cap_tools.proofs.CommandStarts.{listed-err, listed-ok}
 use Rattle.cap_tools.proofs.Weights.{is-light}
 use Rattle.cap_tools.proofs.job.Job.list.Goals as goal

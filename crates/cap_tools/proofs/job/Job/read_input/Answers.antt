@@ -7,13 +7,14 @@ use Rattle.cap_tools.specs.declared.step.JobEnd.TheVariants as end
 use Rattle.cap_inputs.specs.Inputs.{InputsView, is_clean_end}
 use Rattle.cap_inputs.specs.Inputs as input_spec
 use Rattle.cap_packets.specs.Verdict.{Policy}
-use Rattle.cap_packets.specs.Selector.{SelectorView, policy_state}
+use Rattle.cap_packets.specs.Selector.{SelectorView}
+use Rattle.cap_packets.specs.inside.Selector.{policy_state}
 use Rattle.cap_tools.specs.Packets.{JobState, StepLeaves, asks_report}
 use Rattle.cap_tools.specs.Start.{Preparing, preparing_of}
 use Rattle.std.specs.Option.{option_map}
 use Rattle.cap_tools.specs.Jobs.{state_at, JobView}
 use Rattle.cap_tools.specs.Bounds.{reads_on, is_fault}
-use Rattle.cap_tools.specs.Step.{IsStep}
+use Rattle.cap_tools.specs.inside.Step.{IsStep}
 use Rattle.cap_tools.proofs.Preparing.{ready-none}
 use Rattle.cap_tools.proofs.Programs.{have-kept}
 use Rattle.cap_tools.proofs.Fetches.{Follows, FetchLeaves, read_input-leaves}

@@ -7,7 +7,7 @@ use Rattle.cap_tools.specs.Bounds.{reads_nothing}
 use Rattle.cap_tools.specs.Jobs.{JobView, state_at}
 use Rattle.cap_tools.specs.Packets.{JobState}
 use Rattle.cap_tools.specs.Start.{Preparing, preparing_of}
-use Rattle.cap_tools.specs.Step.{IsStep}
+use Rattle.cap_tools.specs.inside.Step.{IsStep}
 use Rattle.cap_tools.proofs.Weights.{is-light}
 use Rattle.cap_tools.proofs.job.Job.read_next.Goals as goal
 

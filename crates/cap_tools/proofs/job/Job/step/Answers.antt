@@ -3,7 +3,8 @@ use Rattle.std.specs.Option.{option_map}
 use Rattle.cap_packets.specs.Output.{output_at}
 use Rattle.cap_tools.specs.Start.{Preparing, ReadsFilter, Compiles, asked_by, preparing_of}
 use Rattle.cap_tools.specs.Jobs.{JobView, state_at, turn_goes_on}
-use Rattle.cap_tools.specs.Commands.{IsReadyIf, PreparesBy, StepKeeps, StepReadsBy, preparing_left}
+use Rattle.cap_tools.specs.Commands.{PreparesBy, StepKeeps, StepReadsBy, preparing_left}
+use Rattle.cap_tools.specs.inside.Commands.{IsReadyIf}
 use Rattle.cap_tools.proofs.CommandStarts.{compile-gives, filter-gives, first-keeps, first-reads}
 use Rattle.cap_tools.proofs.Preparing.{none-before, none-taken}
 use Rattle.cap_tools.proofs.job.Job.step.Goals as goal

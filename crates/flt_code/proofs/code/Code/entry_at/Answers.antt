@@ -2,7 +2,7 @@
 use Rattle.std.proofs.Common.{◌≡◌, ◌-◌, ◌∙◌, ap, sym, drop, length, take}
 use Rattle.std.specs.Prelude.{reverse, min}
 use Rattle.std.proofs.lemmas.List.{length-reverse}
-use Rattle.flt_code.specs.Follow.{past_index}
+use Rattle.flt_code.specs.inside.Follow.{past_index}
 use Rattle.flt_code.proofs.Backwards.{reverse_take_min}
 use Rattle.flt_code.proofs.code.Code.entry_at.Goals as goal
 

@@ -1,6 +1,6 @@
 -- A step that leads nowhere is the last.
 use Rattle.std.proofs.Common.{◌≡◌, ◌+◌, ◌-◌, ◌∙◌, ap, sym, arith}
-use Rattle.flt_code.specs.Follow.{follow, step_from, MOST_STEPS}
+use Rattle.flt_code.specs.inside.Follow.{follow, step_from, MOST_STEPS}
 use Rattle.flt_code.proofs.Following.{follow_stays, follow_none, follow_one}
 use Rattle.flt_code.proofs.code.Code.follow.Goals as goal
 

@@ -1,6 +1,6 @@
 -- The steps that are left lead to the same place.
 use Rattle.std.proofs.Common.{◌≡◌, ◌-◌}
-use Rattle.flt_code.specs.Follow.{follow, MOST_STEPS}
+use Rattle.flt_code.specs.inside.Follow.{follow, MOST_STEPS}
 use Rattle.flt_code.proofs.code.Code.follow.Given as goal
 
 abbrev pub invariant-loop : goal.invariant-loop

@@ -2,7 +2,7 @@
 use Rattle.std.proofs.Common.{◌≡◌, ◌-◌, ◌∙◌, ap, sym, drop, length, take}
 use Rattle.std.specs.Prelude.{reverse, min}
 use Rattle.std.proofs.lemmas.List.{length-reverse}
-use Rattle.flt_code.specs.Follow.{onward}
+use Rattle.flt_code.specs.inside.Follow.{onward}
 use Rattle.flt_code.proofs.Backwards.{reverse_take_min}
 use Rattle.flt_code.proofs.code.Code.step_from.Goals as goal
 

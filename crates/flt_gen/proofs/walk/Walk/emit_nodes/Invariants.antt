@@ -1,7 +1,7 @@
 -- What is left to do leads to the same walk.
 use Rattle.std.proofs.Common.{◌≡◌, ◌≤◌, length, take}
 use Rattle.std.specs.Prelude.{reverse}
-use Rattle.flt_gen.specs.Walk.{emit_nodes, start_walk}
+use Rattle.flt_gen.specs.inside.Walk.{emit_nodes, start_walk}
 use Rattle.flt_gen.proofs.Room.{IsLow}
 use Rattle.flt_gen.proofs.walk.Walk.emit_nodes.Given as goal
 

@@ -1,6 +1,6 @@
 -- What is left to be written is written as all was.
 use Rattle.std.proofs.Common.{◌≡◌, length}
-use Rattle.flt_lang.specs.Backward.{settle}
+use Rattle.flt_lang.specs.inside.Backward.{settle}
 use Rattle.flt_lang.proofs.backward.Writer.settle.Given as goal
 
 abbrev pub invariant-loop-pending : goal.invariant-loop-pending

@@ -1,6 +1,6 @@
 -- There is room for one more instruction.
 use Rattle.std.proofs.Common.{length, drop, ap, arith, length-drop}
-use Rattle.flt_lay.specs.Layout.{PlacedCode}
+use Rattle.flt_lay.specs.inside.Layout.{PlacedCode}
 use Rattle.flt_lay.proofs.Counted.{threefold}
 use Rattle.flt_lay.proofs.layout.Layout.of.Goals as goal
 

@@ -1,6 +1,6 @@
 -- What is laid out is the code from the counter on.
 use Rattle.std.proofs.Common.{◌≡◌, drop}
-use Rattle.flt_lay.specs.Layout.{placed_code}
+use Rattle.flt_lay.specs.inside.Layout.{placed_code}
 use Rattle.flt_lay.proofs.layout.Layout.of.Given as goal
 
 abbrev pub invariant-loop-at : goal.invariant-loop-at

@@ -1,0 +1,8 @@
+-- The limits of inputs of which nothing was read.
+use Rattle.std.specs.Prelude.{◌+◌, length}
+use Rattle.cap_octet.specs.Views.{FreshInput}
+use Rattle.cap_inputs.specs.Inputs.{DeviceLimits}
+
+-- what no step changes of its device
+abbrev pub fresh_limits : FreshInput → DeviceLimits
+fresh_limits o = record { sure = o.sure; in_all = o.given + length o.text }

@@ -1,0 +1,24 @@
+-- What a packet adds to a file, by the sink's own state.
+use Rattle.std.specs.Prelude.{◌≡◌, ℕ, Bool, true, false, ◌+◌, List, [], ◌++◌, Result, IsTrue}
+use Rattle.cap_octet.specs.Device.{AppendsOrStops, failures_of}
+use Rattle.cap_octet.specs.Packet.{Captured}
+use Rattle.cap_pcapng.specs.Encoding as pcapng
+use Rattle.cap_octet.specs.declared.device.DeviceFault.{DeviceFault}
+use Rattle.cap_octet.specs.declared.device.Output.{Ghosts}
+use Rattle.cap_io.specs.declared.numbering.InterfaceNumber.{InterfaceNumber}
+
+-- a packet of pcapng by the number of its interface
+abbrev pub description_text : Bool → Captured → List ℕ
+description_text true p = pcapng.interface_text p.link p.snap p.name
+description_text false p = []
+
+abbrev pub packet_block_text : InterfaceNumber → Captured → List ℕ
+packet_block_text interface p =
+    description_text interface.is_new p ++ pcapng.packet_block interface.number p
+
+-- These bytes are appended to a device; or a prefix of them, not the whole, where it failed.
+pub record Appends {Device : Type 0} (d : Ghosts Device) (old : Device) (bytes : List ℕ)
+    (r : Result (Unit {0}) DeviceFault) (new : Device) : Type 0 where
+  pub appended : IsTrue d.tells → AppendsOrStops r (d.written old) bytes (d.written new)
+  pub failed : d.failures new ≡ d.failures old + failures_of r
+  pub room : d.room new ≡ d.room old

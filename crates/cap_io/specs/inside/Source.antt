@@ -1,0 +1,107 @@
+-- What a source holds between calls, and what one call takes.
+use Rattle.std.specs.Prelude.{◌≡◌, ℕ, ◌+◌, ◌^◌, ◌<◌, ◌≤◌, Bool, true, false, IsTrue, List, [], length, None, Result, Ok, Err, OnOk, OnErr, is_some}
+use Rattle.cap_octet.specs.Device.{HasGiven}
+use Rattle.cap_octet.specs.declared.device.Input.{Ghosts}
+use Rattle.cap_octet.specs.declared.fault.Fault.{Fault}
+use Rattle.cap_io.specs.declared.source.Stage.{Stage}
+use Rattle.cap_io.specs.declared.source.Stage.TheVariants as stage
+use Rattle.cap_io.specs.declared.file_state.NextUnit.{NextUnit}
+use Rattle.cap_io.specs.declared.file_state.NextUnit.TheVariants as next_unit
+use Rattle.cap_pcapng.specs.declared.effect.PacketSpans.{PacketSpans}
+use Rattle.cap_io.specs.declared.next_unit.UnitReader.{UnitReader}
+use Rattle.cap_io.specs.Capture.{Declared}
+use Rattle.cap_io.specs.Reading.{most_in_unit, read_failures, declared_by}
+use Rattle.cap_io.specs.inside.Reading.{HasInterface, FitsBuffer, IsConsistent}
+use Rattle.cap_io.specs.Source.{SourceView, block_at, SkipsUnits, FindsPacket, FindsEnd, IsBroken, end_offset, Reading, Ended}
+
+abbrev pub HoldsIfAny : Stage → PacketSpans → List ℕ → Type 0
+HoldsIfAny stage.Between spans buffer = Unit {0}
+HoldsIfAny stage.InHand spans buffer = FitsBuffer spans buffer
+HoldsIfAny stage.Ended spans buffer = Unit {0}
+HoldsIfAny (stage.Failed fault) spans buffer = Unit {0}
+
+abbrev pub HasInterfaceIfInHand : Stage → PacketSpans → Declared → Type 0
+HasInterfaceIfInHand stage.Between spans declared = Unit {0}
+HasInterfaceIfInHand stage.InHand spans declared = HasInterface declared spans
+HasInterfaceIfInHand stage.Ended spans declared = Unit {0}
+HasInterfaceIfInHand (stage.Failed fault) spans declared = Unit {0}
+
+-- what holds of each source's fields
+pub record IsSound {I A : Type 0} (device : Ghosts I) (stage : Stage) (r : UnitReader I A)
+    (offset : ℕ) : Type 0 where
+  pub fits : offset + length (block_at stage r.spans r.buffer.items) < 2 ^ 63
+  pub counted : offset + length (block_at stage r.spans r.buffer.items) ≤ device.given r.input
+  pub lies : HoldsIfAny stage r.spans r.buffer.items
+  pub known : HasInterfaceIfInHand stage r.spans (declared_by r.file r.table)
+  pub consistent : IsConsistent r.file r.table
+  pub bounded : length r.buffer.items ≤ most_in_unit
+
+abbrev pub Continues : SourceView → Result Bool Fault → SourceView → Type 0
+Continues old (Ok true) new = FindsPacket old new
+Continues old (Ok false) new = FindsEnd old new
+Continues old (Err fault) new = IsBroken old new fault
+
+-- the current unit is left
+abbrev pub past_unit : SourceView → SourceView
+past_unit s = record {
+  phase = s.phase;
+  declared = s.declared;
+  packet = None;
+  block = [];
+  offset = s.offset + length s.block;
+  unread = s.unread;
+  given = s.given;
+  failures = s.failures;
+  sure = s.sure;
+  room = s.room;
+}
+
+-- no packet is current
+pub record IsBetween (s : SourceView) : Type 0 where
+  pub phase : s.phase ≡ Reading
+  pub block : s.block ≡ []
+  pub packet : s.packet ≡ None
+
+-- what a source that reads one unit finds there
+abbrev pub FindsNext : SourceView → Result NextUnit Fault → SourceView → Type 0
+FindsNext old (Ok next_unit.Packet) new = FindsPacket old new
+FindsNext old (Ok (next_unit.Other size)) new = SkipsUnits old new new.unread
+FindsNext old (Ok next_unit.End) new = FindsEnd old new
+FindsNext old (Err fault) new = IsBroken old new fault
+
+-- and what holds of any device
+pub record NextBounds (old : SourceView) (r : Result NextUnit Fault)
+    (new : SourceView) : Type 0 where
+  pub given : old.given ≤ new.given
+  pub failures : new.failures ≡ old.failures + read_failures r
+  pub sure : new.sure ≡ old.sure
+  pub enough : 0 < new.failures → HasGiven new.sure new.given
+  pub block : length new.block ≤ new.room
+  pub held : new.room ≤ most_in_unit
+  pub room : old.room ≤ new.room
+  pub packet : r ≡ Ok next_unit.Packet
+      → (old.given < new.given) × (new.given < 2 ^ 63) × (is_some new.packet ≡ true)
+  pub counted : OnOk r (new.given + end_offset old ≡ old.given + end_offset new)
+  pub broken : OnErr r
+      ((old.given + end_offset new ≤ new.given + end_offset old)
+      × (new.given + end_offset old ≤ old.given + end_offset new + most_in_unit))
+  pub ended : r ≡ Ok next_unit.End → new.phase ≡ Ended
+  pub found : r ≡ Ok next_unit.Packet → new.phase ≡ Reading
+  pub passed : (size : ℕ) → r ≡ Ok (next_unit.Other size)
+      → (old.given < new.given) × (new.given < 2 ^ 63) × IsBetween new
+
+-- the next unit, which the device had at hand, is taken: it has a packet
+pub record TakesNext (tells : Bool) (old new : SourceView) : Type 0 where
+  pub packet : IsTrue tells → FindsPacket old new
+  pub bounds : NextBounds old (Ok next_unit.Packet) new
+
+-- the source stays where it is
+pub record TakesNothing (tells : Bool) (old new : SourceView) : Type 0 where
+  pub between : IsBetween new
+  pub declared : new.declared ≡ old.declared
+  pub offset : new.offset ≡ old.offset
+  pub given : new.given ≡ old.given
+  pub failures : new.failures ≡ old.failures
+  pub sure : new.sure ≡ old.sure
+  pub room : new.room ≡ old.room
+  pub unread : IsTrue tells → new.unread ≡ old.unread

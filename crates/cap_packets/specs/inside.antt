@@ -1,0 +1,5 @@
+-- What no promise rests on: it helps the crate's own functions and proofs, and those of crates beside it.
+pub mod Edits
+pub mod Output
+pub mod Reports
+pub mod Selector

@@ -1,0 +1,53 @@
+-- What only the crate's own functions and proofs need beside specs/Effect.
+use Rattle.std.specs.Prelude.{◌≡◌, ℕ, ◌+◌, ◌-◌, ◌^◌, ◌<◌, ◌≤◌, ◌⊎◌, List, length, take, drop, None, Some, true, is_some, if◌then◌else◌, nat_lt}
+use Rattle.std.specs.List.{slice_get}
+use Rattle.cap_octet.specs.Checks.{first_failing}
+use Rattle.cap_octet.specs.Packet.{Captured}
+use Rattle.cap_octet.specs.declared.fault.Fault.{Fault}
+use Rattle.cap_octet.specs.declared.fault.Fault.TheVariants.{BadOption, BadTimeResolution, NoMemory, TooManyInterfaces}
+use Rattle.cap_octet.specs.declared.number.Order.{Order}
+use Rattle.cap_pcapng.specs.Block.{Parts, block_checks, parts_in}
+use Rattle.cap_pcapng.specs.Interface.{Described}
+use Rattle.cap_pcapng.specs.Unit.{checks_among, most_interfaces, packet_by}
+use Rattle.cap_pcapng.specs.declared.frames.Frame.{Frame}
+use Rattle.cap_pcapng.specs.declared.effect.PacketSpans.{PacketSpans}
+use Rattle.cap_pcapng.specs.Effect.{is_interface, held_packet, IsBlockFault}
+
+-- the packet of a block of this size, whose data are at the start of what is left of its body,
+-- and its options after them
+pub record PacketFound (order : Order) (interfaces : List Described) (parts : Parts)
+    (start size : ℕ) (rest : List ℕ) (spans : PacketSpans) : Type 0 where
+  pub whole : spans.size ≡ size
+  pub known : is_some (slice_get interfaces spans.interface) ≡ true
+  pub from : spans.bytes.start ≡ start
+  pub packet : Captured
+  pub stands : packet_by interfaces parts ≡ Some packet
+  pub is_lent : held_packet order interfaces spans (take spans.bytes.length rest)
+      (take spans.options.length (drop (spans.options.start - spans.bytes.start) rest))
+      ≡ Some packet
+  pub there : spans.bytes.length ≤ length rest
+  pub following : spans.bytes.start ≤ spans.options.start
+  pub options : spans.options.start - spans.bytes.start + spans.options.length ≤ length rest
+  pub time : spans.time < 2 ^ 63
+
+-- a block that fails no check describes an interface
+pub record AddsInterface (frame : Frame) (interfaces : List Described)
+    (block : List ℕ) : Type 0 where
+  pub passes : first_failing (block_checks frame block) ≡ None
+  pub among : first_failing (checks_among interfaces (parts_in frame block)) ≡ None
+  pub describes : is_interface (parts_in frame block) ≡ true
+
+-- the first check that a block fails, or out of memory for an interface
+abbrev pub IsEntryFault : Frame → List Described → List ℕ → Fault → Type 0
+IsEntryFault frame interfaces block fault =
+    IsBlockFault frame interfaces block fault
+    ⊎ ((fault ≡ NoMemory) × AddsInterface frame interfaces block)
+
+-- What a block's refusal by itself tells after these interfaces: that there are as many as may be
+-- comes before what its options tell.
+abbrev pub fault_among : List Described → Fault → Fault
+fault_among interfaces BadOption =
+    if nat_lt (length interfaces) most_interfaces then BadOption else TooManyInterfaces
+fault_among interfaces BadTimeResolution =
+    if nat_lt (length interfaces) most_interfaces then BadTimeResolution else TooManyInterfaces
+fault_among interfaces fault = fault

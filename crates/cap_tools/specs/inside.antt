@@ -1,0 +1,7 @@
+-- What no promise rests on: it helps the crate's own functions and proofs, and those of crates beside it.
+pub mod Bounds
+pub mod Commands
+pub mod FirstStep
+pub mod Jobs
+pub mod Packets
+pub mod Step

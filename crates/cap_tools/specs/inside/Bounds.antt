@@ -1,0 +1,27 @@
+-- What a step is paid by.
+use Rattle.std.specs.Prelude.{ℕ, ◌+◌, ◌≤◌, Bool, true, false, List, [], ◌∷◌, Option, None, Some}
+use Rattle.cap_tools.specs.declared.step.JobEnd.{JobEnd}
+use Rattle.cap_inputs.specs.Inputs.{InputView, InputsView, owed_by}
+use Rattle.cap_tools.specs.Bounds.{most_turns}
+
+abbrev pub step_goes_on : Option JobEnd → Bool
+step_goes_on None = true
+step_goes_on (Some end) = false
+
+-- the steps that follow without a byte more
+abbrev pub owed_in : List InputView → ℕ
+owed_in [] = 0
+owed_in (h ∷ hs) = owed_by h + owed_in hs
+
+abbrev pub steps_owed_in_all : InputsView → ℕ
+steps_owed_in_all f = owed_in f.cursors
+
+-- a step that goes on is one of those that were owed, or it read bytes that pay for it and for what
+-- is owed now
+abbrev pub IsPaid : InputsView → InputsView → Type 0
+IsPaid old new = steps_owed_in_all new + 1 + most_turns old ≤ steps_owed_in_all old + most_turns new
+
+-- the steps that were made, with those that are owed, are no more than what was read pays for
+abbrev pub HasFewTurns : Option ℕ → ℕ → InputsView → Type 0
+HasFewTurns None turns inputs = turns + steps_owed_in_all inputs ≤ most_turns inputs
+HasFewTurns (Some status) turns inputs = Unit {0}

@@ -1,0 +1,8 @@
+-- What a loop of steps keeps.
+use Rattle.std.specs.Prelude.{ℕ, ◌+◌, ◌≤◌, Option, None, Some}
+use Rattle.cap_inputs.specs.inside.Inputs.{most_steps}
+
+-- the steps that were made and those that are left, which a job that ended has none of
+abbrev pub IsCounted : Option ℕ → ℕ → ℕ → Type 0
+IsCounted None turns left = turns + left ≤ most_steps
+IsCounted (Some status) turns left = (turns ≤ most_steps + 1) × (status ≤ 2)

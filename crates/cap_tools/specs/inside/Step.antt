@@ -1,0 +1,38 @@
+-- What each step over the packets keeps and leaves, before its end is reported.
+use Rattle.std.specs.Prelude.{◌≡◌, ◌+◌, ◌<◌, Bool, IsTrue, Some, Option, None}
+use Rattle.cap_octet.specs.Views.{OutputView}
+use Rattle.cap_tools.specs.declared.step.JobEnd.{JobEnd}
+use Rattle.cap_inputs.specs.Inputs.{steps_left}
+use Rattle.cap_packets.specs.Selector.{HavePrograms}
+use Rattle.cap_tools.specs.Packets.{StepGives}
+use Rattle.cap_tools.specs.Jobs.{JobView, end_status}
+use Rattle.cap_tools.specs.Bounds.{IsLight, StepReads}
+use Rattle.cap_tools.specs.inside.Bounds.{IsPaid, step_goes_on}
+
+-- What a step leaves, where the inputs tell their bytes, and the output does; and what holds of any
+-- device. Messages and steps are not touched.
+pub record IsStep (inputs_tell output_tells : Bool) (old : JobView) (r : Option JobEnd)
+    (new : JobView) : Type 0 where
+  pub exact : IsTrue inputs_tell → IsTrue output_tells → StepGives old.state r new.state
+  pub reads : StepReads inputs_tell (step_goes_on r) old new
+  pub progress : r ≡ None → steps_left new.state.inputs < steps_left old.state.inputs
+  pub paid : r ≡ None → IsPaid old.state.inputs new.state.inputs
+  pub light : IsLight new.state
+  pub sound : HavePrograms new.state.policy new.programs
+  pub policy : new.state.policy ≡ old.state.policy
+  pub names : new.state.output.names ≡ old.state.output.names
+  pub preparing : new.preparing ≡ old.preparing
+  pub err : new.err ≡ old.err
+  pub turns : new.turns ≡ old.turns
+  pub done : r ≡ None → new.done ≡ old.done
+
+-- the job that ended so, with these messages
+abbrev pub ending : JobEnd → OutputView → JobView → JobView
+ending end err j = record {
+  preparing = j.preparing;
+  state = j.state;
+  programs = j.programs;
+  err = err;
+  turns = j.turns + 1;
+  done = Some (end_status end);
+}

@@ -1,0 +1,4 @@
+-- What no promise rests on: it helps the crate's own functions and proofs, and those of crates beside it.
+pub mod Code
+pub mod Emits
+pub mod Follow

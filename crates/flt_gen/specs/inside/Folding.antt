@@ -1,0 +1,79 @@
+-- Arithmetic of numbers alone is one number, where it has a value.
+use Rattle.std.specs.Prelude.{ℕ, ◌-◌, ◌%◌, ◌^◌, List, [], ◌∷◌, Option, Some, None}
+use Rattle.flt_words.specs.declared.token.Operator.{Operator}
+use Rattle.flt_tree.specs.declared.node.Node.{Node}
+use Rattle.flt_tree.specs.declared.node.Node.TheVariants as node
+use Rattle.flt_tree.specs.Tree.{NumberTree, literal, load, negated, applied, TruthTree, compared, denied, joined, Expression, empty, truth}
+use Rattle.flt_code.specs.Elementary.{with}
+use Rattle.flt_code.specs.Numbers.{result_of}
+use Rattle.flt_code.specs.inside.Code.{constant}
+
+-- the number that is made of one or two, if there are such
+abbrev pub negated_constant : Option ℕ → Option ℕ
+negated_constant a = with a (λ x. Some ((2 ^ 32 - x) % 2 ^ 32))
+
+abbrev pub applied_constant : Operator → Option ℕ → Option ℕ → Option ℕ
+applied_constant operator a b = with b (λ y. with a (λ x. result_of operator x y))
+
+-- ---- trees
+
+abbrev pub number_or : Option ℕ → NumberTree → NumberTree
+number_or (Some k) a = literal k
+number_or None a = a
+
+abbrev pub negated_number : NumberTree → NumberTree
+negated_number a = number_or (negated_constant (constant a)) (negated a)
+
+abbrev pub applied_number : Operator → NumberTree → NumberTree → NumberTree
+applied_number operator a b =
+    number_or (applied_constant operator (constant a) (constant b)) (applied operator a b)
+
+abbrev pub folded_number : NumberTree → NumberTree
+folded_number (load protocol size a) = load protocol size (folded_number a)
+folded_number (negated a) = negated_number (folded_number a)
+folded_number (applied operator a b) = applied_number operator (folded_number a) (folded_number b)
+folded_number a = a
+
+abbrev pub folded_truth : TruthTree → TruthTree
+folded_truth (compared c a b) = compared c (folded_number a) (folded_number b)
+folded_truth (denied a) = denied (folded_truth a)
+folded_truth (joined j a b) = joined j (folded_truth a) (folded_truth b)
+folded_truth a = a
+
+-- the expression of which code is emitted
+abbrev pub folded_expression : Expression → Expression
+folded_expression empty = empty
+folded_expression (truth a) = truth (folded_truth a)
+
+-- ---- the same of nodes, of which the latest comes first
+
+abbrev pub node_constant : Node → Option ℕ
+node_constant (node.Literal k) = Some k
+node_constant (node.Named k) = Some k
+node_constant _ = None
+
+abbrev pub latest_constant : List Node → Option ℕ
+latest_constant [] = None
+latest_constant (n ∷ ns) = node_constant n
+
+abbrev pub earlier : List Node → List Node
+earlier [] = []
+earlier (n ∷ ns) = ns
+
+abbrev pub node_or : Option ℕ → List Node → List Node → List Node
+node_or (Some k) before nodes = node.Literal k ∷ before
+node_or None before nodes = nodes
+
+abbrev pub with_negation : List Node → List Node
+with_negation ns = node_or (negated_constant (latest_constant ns)) (earlier ns) (node.Negate ∷ ns)
+
+abbrev pub with_operator : Operator → List Node → List Node
+with_operator operator ns =
+    node_or (applied_constant operator (latest_constant (earlier ns)) (latest_constant ns))
+    (earlier (earlier ns)) (node.Apply operator ∷ ns)
+
+-- one more node
+abbrev pub with_folded : List Node → Node → List Node
+with_folded ns node.Negate = with_negation ns
+with_folded ns (node.Apply operator) = with_operator operator ns
+with_folded ns n = n ∷ ns

@@ -1,0 +1,37 @@
+-- The code of an expression: the code of its formula, in front of two returns.
+use Rattle.std.specs.Prelude.{ℕ, ◌-◌, List, [], ◌∷◌, length, drop}
+use Rattle.flt_bpf.specs.declared.insn.Insn.{Insn}
+use Rattle.flt_words.specs.declared.token.Protocol.{Protocol}
+use Rattle.flt_tree.specs.Tree.{Expression, empty, truth}
+use Rattle.cap_octet.specs.declared.link.Link.{Link}
+use Rattle.flt_code.specs.inside.Follow.{nothing}
+use Rattle.flt_code.specs.Numbers.{accessor_tests}
+use Rattle.flt_code.specs.inside.Code.{plain, Block, emit_formula, emit_all}
+use Rattle.flt_gen.specs.inside.Group.{no_group, grouped_formula}
+use Rattle.flt_bpf.specs.declared.operation.Operation.TheVariants.{ReturnConstant}
+
+-- the tests of accessors, from the last to the first
+abbrev pub emit_accessors : Link → List Protocol → ℕ → ℕ → List Insn → Block
+emit_accessors link [] hit miss c = record { code = c; entry = hit }
+emit_accessors link (p ∷ ps) hit miss c =
+    let e = emit_accessors link ps hit miss c in
+    emit_all nothing (accessor_tests link p) e.entry miss e.code
+
+-- the two returns at the end
+abbrev pub returns_code : List Insn
+returns_code = plain ReturnConstant 262144 ∷ plain ReturnConstant 0 ∷ []
+
+-- the code of an expression, in front of the two returns; the empty expression has none. Hosts and
+-- ports that stand one after the other between or are looked for together
+abbrev pub expression_code : Link → Expression → Block
+expression_code link empty = record { code = returns_code; entry = 2 }
+expression_code link (truth a) =
+    emit_formula link nothing (grouped_formula link no_group a) 2 1 returns_code
+
+-- the instructions from the entry on
+abbrev pub from_entry : Block → List Insn
+from_entry e = drop (length e.code - e.entry) e.code
+
+-- the program of an expression
+abbrev pub program_code : Link → Expression → List Insn
+program_code link e = from_entry (expression_code link e)

@@ -1,0 +1,262 @@
+-- The walk over the nodes of an expression, from the last to the first.
+use Rattle.std.specs.Prelude.{ℕ, ◌+◌, List, [], ◌∷◌, length, drop, ◌-◌, if◌then◌else◌, Bool, true, false, Option, Some, None}
+use Rattle.flt_bpf.specs.declared.insn.Insn.{Insn}
+use Rattle.flt_bpf.specs.declared.operation.Operand.TheVariants.{Constant, IndexRegister}
+use Rattle.flt_words.specs.declared.token.Operator.{Operator}
+use Rattle.flt_words.specs.declared.token.Comparison.{Comparison}
+use Rattle.flt_words.specs.declared.token.Join.{Join}
+use Rattle.flt_words.specs.declared.token.Join.TheVariants.{And, Or}
+use Rattle.flt_words.specs.declared.token.Protocol.{Protocol}
+use Rattle.flt_tree.specs.declared.qualifiers.CompleteQualifiers.{CompleteQualifiers}
+use Rattle.flt_tree.specs.declared.value.Value.{Value}
+use Rattle.flt_tree.specs.declared.node.Node.{Node}
+use Rattle.flt_tree.specs.declared.node.Node.TheVariants as node
+use Rattle.cap_octet.specs.declared.link.Link.{Link}
+use Rattle.flt_code.specs.declared.code.Targets.{Targets}
+use Rattle.flt_gen.specs.declared.waiting.LeftTruth.{LeftTruth}
+use Rattle.flt_gen.specs.declared.waiting.Pending.{Pending}
+use Rattle.flt_gen.specs.declared.waiting.Pending.TheVariants as next
+use Rattle.flt_gen.specs.declared.waiting.Waiting.{Waiting}
+use Rattle.flt_gen.specs.declared.waiting.Waiting.TheVariants.{Index, Left}
+use Rattle.flt_code.specs.Numbers.{width_of}
+use Rattle.flt_code.specs.Formula.{Formula}
+use Rattle.flt_gen.specs.inside.Emitted.{with_accessor, qualified_needed}
+use Rattle.flt_gen.specs.inside.Group.{Group, no_group, larger_group, group_formula}
+use Rattle.flt_gen.specs.Primitives.{check_formula, cast_formula, sized_formula}
+use Rattle.flt_code.specs.inside.Follow.{nothing}
+use Rattle.flt_code.specs.inside.Code.{plain, emit_comparison, emit_accessor, computation, takes, emit_operands, Block, block, emit_formula}
+use Rattle.flt_gen.specs.inside.ProgramCode.{emit_accessors, returns_code}
+use Rattle.flt_bpf.specs.declared.operation.Operation.TheVariants.{Load, Store, Negate}
+use Rattle.flt_bpf.specs.declared.operation.Register.TheVariants.{Accumulator}
+use Rattle.flt_bpf.specs.declared.operation.Source.{Source}
+use Rattle.flt_bpf.specs.declared.operation.Source.TheVariants.{Immediate, Length}
+
+-- how far the walk has come: the code so far, the targets of the next truth, the word for the next
+-- left operand; what waits, latest first; and the protocols of the relation's accessors, each once,
+-- the one of the first word first
+pub record Walk : Type 0 where
+  pub code : List Insn
+  pub to : Targets
+  pub slot : ℕ
+  pub truths : List LeftTruth
+  pub numbers : List Waiting
+  pub accessors : List Protocol
+  -- hosts or ports that are tested in front of the code, and whose code isn't there yet; and what
+  -- the last node leaves to the next one
+  pub group : Group
+  pub pending : Pending
+
+abbrev pub targets : ℕ → ℕ → Targets
+targets hit miss = record { yes = hit; no = miss }
+
+-- where an operand goes on whose right neighbour is entered at a place
+abbrev pub left_targets : Join → Targets → ℕ → Targets
+left_targets And to entry = targets entry to.no
+left_targets Or to entry = targets to.yes entry
+
+-- the targets after a truth that is entered at a place: of the left operand that waits; once none
+-- waits, the program begins there
+abbrev pub next_targets : List LeftTruth → ℕ → Targets
+next_targets [] entry = targets entry entry
+next_targets (t ∷ ts) entry = left_targets t.join t.to entry
+
+abbrev pub others : List LeftTruth → List LeftTruth
+others [] = []
+others (t ∷ ts) = ts
+
+-- a truth's code is emitted
+abbrev pub finish_truth : Block → Walk → Walk
+finish_truth e w = record w {
+  code = e.code;
+  to = next_targets w.truths e.entry;
+  truths = others w.truths;
+}
+
+-- the operands of a relation are emitted: the tests of its accessors stand in front of them
+abbrev pub finish_relation : Link → Walk → Walk
+finish_relation link w =
+    finish_truth (emit_accessors link w.accessors (length w.code) w.to.no w.code)
+    (record w { accessors = [] })
+
+-- a number's code is emitted: the accessors whose index it is are complete, and then the left
+-- operand that waits is next
+abbrev pub finish_number : Link → List Waiting → Walk → Walk
+finish_number link [] w = finish_relation link w
+finish_number link (Index protocol ∷ ns) w =
+    finish_number link ns (record w { numbers = ns; accessors = with_accessor protocol w.accessors })
+finish_number link (Left slot ∷ ns) w = record w {
+  code = plain (Store Accumulator) slot ∷ w.code;
+  slot = slot;
+  numbers = ns;
+}
+
+-- code of a number is emitted in front
+abbrev pub with_insns : List Insn → Walk → Walk
+with_insns c w = record w { code = c }
+
+-- a right operand is next, and the left one waits; the code after them finds both
+abbrev pub begin_operands : ℕ → List Insn → Walk → Walk
+begin_operands slot c w = record w {
+  code = emit_operands slot c;
+  slot = slot + 1;
+  numbers = Left slot ∷ w.numbers;
+}
+
+-- the code of a formula is emitted
+abbrev pub finish_formula : Link → Formula → Walk → Walk
+finish_formula link f w = finish_truth (emit_formula link nothing f w.to.yes w.to.no w.code) w
+
+-- if an or was the last node, its right operand is on its own: the left one waits for it
+abbrev pub begin_right : Pending → Walk → Walk
+begin_right next.Nothing w = w
+begin_right next.Or w = record w {
+  truths = record { join = Or; to = w.to } ∷ w.truths;
+  pending = next.Nothing;
+}
+
+abbrev pub flush_members : Link → Walk → List ℕ → Walk
+flush_members link w [] = record w { group = no_group }
+flush_members link w (a ∷ others) =
+    let e = emit_formula link nothing (group_formula link w.group) w.to.yes w.to.no w.code in
+    record w { code = e.code; to = targets w.to.yes e.entry; group = no_group }
+
+-- the code of the group that waits is emitted
+abbrev pub flush_group : Link → Walk → Walk
+flush_group link w = flush_members link (begin_right w.pending w) w.group.numbers
+
+-- a host or port and those after it: they wait for one more if it is the right operand of an or
+abbrev pub finish_group : Link → Walk → Group → Pending → Walk
+finish_group link w group next.Or = record w { group = group; pending = next.Nothing }
+finish_group link w group next.Nothing =
+    finish_formula link (group_formula link group) (record w { group = no_group })
+
+abbrev pub emit_value : Link → CompleteQualifiers → Value → Walk → Option Group → Walk
+emit_value link q v w None = finish_formula link (qualified_needed link q v) (flush_group link w)
+emit_value link q v w (Some group) = finish_group link w group w.pending
+
+abbrev pub emit_join : Link → Join → Walk → Walk
+emit_join link Or w = record (begin_right w.pending w) { pending = next.Or }
+emit_join link And w =
+    let v = flush_group link w in record v { truths = record { join = And; to = v.to } ∷ v.truths }
+
+abbrev pub emit_truth_node : Link → Walk → Node → Walk
+emit_truth_node link w (node.Check protocol) = finish_formula link (check_formula link protocol) w
+emit_truth_node link w (node.Cast protocol c) = finish_formula link (cast_formula link protocol c) w
+emit_truth_node link w (node.Sized size n) = finish_formula link (sized_formula size n) w
+emit_truth_node link w (node.Compare comparison) =
+    begin_operands 0 (emit_comparison comparison IndexRegister 0 w.to.yes w.to.no w.code) w
+emit_truth_node link w node.Not = record w { to = targets w.to.no w.to.yes }
+emit_truth_node link w _ = finish_truth (block w.code w.to.no) w
+
+-- a number, or the length of the packet
+abbrev pub emit_loaded : Link → Source → ℕ → Walk → Walk
+emit_loaded link source n w =
+    finish_number link w.numbers (with_insns (plain (Load Accumulator source) n ∷ w.code) w)
+
+-- one more node
+abbrev pub emit_node : Link → Walk → Node → Walk
+emit_node link w (node.Join join) = emit_join link join w
+emit_node link w (node.Qualified q v) = emit_value link q v w (larger_group q v w.group)
+emit_node link w (node.Literal n) = emit_loaded link Immediate n w
+emit_node link w (node.Named n) = emit_loaded link Immediate n w
+emit_node link w node.Len = emit_loaded link Length 0 w
+emit_node link w (node.Load protocol size) = record w {
+  code = emit_accessor link protocol (width_of size) w.code;
+  numbers = Index protocol ∷ w.numbers;
+}
+emit_node link w node.Negate = with_insns (plain Negate 0 ∷ w.code) w
+emit_node link w (node.Apply operator) =
+    begin_operands w.slot (plain (computation operator IndexRegister) 0 ∷ w.code) w
+emit_node link w (node.Check protocol) =
+    emit_truth_node link (flush_group link w) (node.Check protocol)
+emit_node link w (node.Cast protocol c) =
+    emit_truth_node link (flush_group link w) (node.Cast protocol c)
+emit_node link w (node.Sized size n) = emit_truth_node link (flush_group link w) (node.Sized size n)
+emit_node link w (node.Bare v) = emit_truth_node link (flush_group link w) (node.Bare v)
+emit_node link w (node.Valued qualifiers v) =
+    emit_truth_node link (flush_group link w) (node.Valued qualifiers v)
+emit_node link w (node.Compare comparison) =
+    emit_truth_node link (flush_group link w) (node.Compare comparison)
+emit_node link w node.Not = emit_truth_node link (flush_group link w) node.Not
+
+-- an operator or a comparison, and its right operand, a constant that its instruction may have: the
+-- left operand is next
+abbrev pub emit_applied : Operator → ℕ → Walk → Option Walk
+emit_applied operator k w =
+    if takes operator k
+    then Some (with_insns (plain (computation operator Constant) k ∷ w.code) w)
+    else None
+
+abbrev pub emit_compared : Comparison → ℕ → Walk → Option Walk
+emit_compared comparison k w =
+    Some (with_insns (emit_comparison comparison Constant k w.to.yes w.to.no w.code) w)
+
+-- such a node and the one before it, or none where they aren't emitted at once
+abbrev pub emit_both_nodes : Link → Walk → Node → Node → Option Walk
+emit_both_nodes link w (node.Apply operator) (node.Literal k) = emit_applied operator k w
+emit_both_nodes link w (node.Apply operator) (node.Named k) = emit_applied operator k w
+emit_both_nodes link w (node.Compare comparison) (node.Literal k) =
+    emit_compared comparison k (flush_group link w)
+emit_both_nodes link w (node.Compare comparison) (node.Named k) =
+    emit_compared comparison k (flush_group link w)
+emit_both_nodes link w _ _ = None
+
+-- a node of arithmetic
+abbrev pub is_number_node : Node → Bool
+is_number_node (node.Literal n) = true
+is_number_node (node.Named n) = true
+is_number_node node.Len = true
+is_number_node (node.Load protocol size) = true
+is_number_node node.Negate = true
+is_number_node (node.Apply operator) = true
+is_number_node _ = false
+
+-- a node of truths, but for values with all their qualifiers and for joins
+abbrev pub is_truth_node : Node → Bool
+is_truth_node (node.Check protocol) = true
+is_truth_node (node.Cast protocol c) = true
+is_truth_node (node.Sized size n) = true
+is_truth_node (node.Bare v) = true
+is_truth_node (node.Valued qualifiers v) = true
+is_truth_node (node.Compare comparison) = true
+is_truth_node node.Not = true
+is_truth_node _ = false
+
+-- the two returns are there, and nothing waits
+abbrev pub start_walk : Walk
+start_walk = record {
+  code = returns_code;
+  to = targets 2 1;
+  slot = 0;
+  truths = [];
+  numbers = [];
+  accessors = [];
+  group = no_group;
+  pending = next.Nothing;
+}
+
+abbrev pub or_walk : Option Walk → Walk → Walk
+or_walk (Some v) w = v
+or_walk None w = w
+
+-- two nodes, at once or one after the other
+abbrev pub emit_pair : Link → Walk → Node → Node → Walk
+emit_pair link w n right =
+    or_walk (emit_both_nodes link w n right) (emit_node link (emit_node link w n) right)
+
+-- the walk over nodes, the last first
+abbrev pub emit_nodes : Link → Walk → List Node → Walk
+emit_nodes link w [] = w
+emit_nodes link w (node.Apply o ∷ node.Literal k ∷ ns) =
+    emit_nodes link (emit_pair link w (node.Apply o) (node.Literal k)) ns
+emit_nodes link w (node.Apply o ∷ node.Named k ∷ ns) =
+    emit_nodes link (emit_pair link w (node.Apply o) (node.Named k)) ns
+emit_nodes link w (node.Compare c ∷ node.Literal k ∷ ns) =
+    emit_nodes link (emit_pair link w (node.Compare c) (node.Literal k)) ns
+emit_nodes link w (node.Compare c ∷ node.Named k ∷ ns) =
+    emit_nodes link (emit_pair link w (node.Compare c) (node.Named k)) ns
+emit_nodes link w (n ∷ ns) = emit_nodes link (emit_node link w n) ns
+
+-- the instructions from where the program begins
+abbrev pub insns_of : Walk → List Insn
+insns_of w = drop (length w.code - w.to.yes) w.code

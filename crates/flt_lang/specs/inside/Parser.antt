@@ -1,0 +1,321 @@
+-- The parser's steps over plain lists: the frames and the nodes are listed latest first.
+use Rattle.std.specs.Prelude.{◌≡◌, ◌⊎◌, ℕ, suc, zero, ◌+◌, ◌-◌, ◌<◌, List, [], ◌∷◌, Option, Some, None, nat_le, length, if◌then◌else◌, option_and_then}
+use Rattle.flt_words.specs.declared.fault.ExprFault.{ExprFault}
+use Rattle.flt_words.specs.declared.fault.ExprFault.TheVariants as expr_fault
+use Rattle.flt_words.specs.declared.token.Protocol.{Protocol}
+use Rattle.flt_words.specs.declared.token.Operator.TheVariants.{Subtract, Divide}
+use Rattle.flt_words.specs.declared.token.TokenKind.{TokenKind}
+use Rattle.flt_words.specs.declared.token.TokenKind.TheVariants as token
+use Rattle.flt_tree.specs.declared.value.NetMask.{NetMask}
+use Rattle.flt_tree.specs.declared.value.NetMask.TheVariants as mask
+use Rattle.flt_tree.specs.declared.value.Value.{Value}
+use Rattle.flt_tree.specs.declared.value.Value.TheVariants as value
+use Rattle.flt_tree.specs.declared.qualifiers.Qualifiers.{Qualifiers}
+use Rattle.flt_tree.specs.declared.node.Node.{Node}
+use Rattle.flt_tree.specs.declared.node.Node.TheVariants as node
+use Rattle.flt_lang.specs.declared.frame.Frame.{Frame}
+use Rattle.flt_lang.specs.declared.frame.Frame.TheVariants as frame
+use Rattle.flt_lang.specs.declared.protocols.Opening.{Opening}
+use Rattle.flt_lang.specs.declared.protocols.Opening.TheVariants as opening
+use Rattle.flt_lang.specs.declared.frame.Operand.{Operand}
+use Rattle.flt_lang.specs.declared.frame.Operand.TheVariants as operand
+use Rattle.flt_lang.specs.declared.frame.Sort.{Sort}
+use Rattle.flt_lang.specs.declared.frame.Sort.TheVariants as sort
+use Rattle.flt_lang.specs.inside.Values.{qualifiers_of, value_of}
+use Rattle.flt_lang.specs.Grammar.{level, is_check, is_accessor, has_casts}
+
+-- what the parser keeps: the frames that wait and the nodes that are written
+pub record ReaderState : Type 0 where
+  pub frames : List Frame
+  pub nodes : List Node
+
+infixl 10 ◌>>=◌
+abbrev pub ◌>>=◌ : {A B : Type 0} → Option A → (A → Option B) → Option B
+o >>= f = option_and_then f o
+
+-- how loosely a frame binds its operand
+abbrev pub precedence : Frame → ℕ
+precedence frame.Negate = 0
+precedence (frame.Apply o) = level o + 1
+precedence (frame.Compare c) = 5
+precedence frame.Not = 6
+precedence (frame.Join j) = 7
+precedence frame.Open = 9
+precedence (frame.Load p) = 9
+
+-- the loosest operand that the latest frame takes
+abbrev pub operand_precedence : List Frame → ℕ
+operand_precedence [] = 7
+operand_precedence (frame.Negate ∷ fs) = 0
+operand_precedence (frame.Apply o ∷ fs) = level o
+operand_precedence (frame.Compare c ∷ fs) = 4
+operand_precedence (frame.Not ∷ fs) = 6
+operand_precedence (frame.Join j ∷ fs) = 6
+operand_precedence (frame.Open ∷ fs) = 7
+operand_precedence (frame.Load p ∷ fs) = 4
+
+-- how loosely the next token binds the operand before it
+abbrev pub token_precedence : TokenKind → ℕ
+token_precedence (token.Operator o) = level o + 1
+token_precedence (token.Comparison c) = 5
+token_precedence (token.Join j) = 7
+token_precedence token.Close = 8
+token_precedence token.CloseBracket = 8
+token_precedence token.Colon = 8
+token_precedence _ = 1
+
+abbrev pub next_precedence : List TokenKind → ℕ
+next_precedence [] = 8
+next_precedence (t ∷ ts) = token_precedence t
+
+-- the mask of a number that means a network
+abbrev pub prefix_mask : Option ℕ → NetMask
+prefix_mask None = mask.Unwritten
+prefix_mask (Some m) = mask.Prefix m
+
+-- the nodes once the operand is taken for a number, or for a truth
+abbrev pub as_number : Operand → List Node → Option (List Node)
+as_number operand.Truth d = None
+as_number operand.Number d = Some d
+as_number (operand.Plain n) d = Some (node.Literal n ∷ d)
+as_number (operand.Either n None) d = Some (node.Literal n ∷ d)
+as_number (operand.Either n (Some m)) d =
+    Some (node.Apply Divide ∷ node.Literal m ∷ node.Literal n ∷ d)
+
+abbrev pub as_truth : Operand → List Node → Option (List Node)
+as_truth operand.Truth d = Some d
+as_truth operand.Number d = None
+as_truth (operand.Plain n) d = Some (node.Bare (value.Number n mask.Unwritten) ∷ d)
+as_truth (operand.Either n m) d = Some (node.Bare (value.Number n (prefix_mask m)) ∷ d)
+
+abbrev pub as_sort : Sort → Operand → List Node → Option (List Node)
+as_sort sort.Truth x d = as_truth x d
+as_sort sort.Number x d = as_number x d
+
+abbrev pub Read : Type 0
+Read = Operand × List Node
+
+-- a node after its operand; the two are an operand of another sort
+abbrev pub after_node : Operand → Node → Option (List Node) → Option Read
+after_node y n o = o >>= λ e. Some (y, n ∷ e)
+
+-- of which sort the operands of a frame are
+abbrev pub sort_of : Frame → Sort
+sort_of frame.Negate = sort.Number
+sort_of (frame.Apply o) = sort.Number
+sort_of (frame.Compare c) = sort.Number
+sort_of frame.Not = sort.Truth
+sort_of (frame.Join j) = sort.Truth
+sort_of frame.Open = sort.Truth
+sort_of (frame.Load p) = sort.Number
+
+-- the node of a frame that no token closes, and the operand that it makes
+abbrev pub node_of : Frame → Option (Node × Operand)
+node_of frame.Negate = Some (node.Negate, operand.Number)
+node_of (frame.Apply o) = Some (node.Apply o, operand.Number)
+node_of (frame.Compare c) = Some (node.Compare c, operand.Truth)
+node_of frame.Not = Some (node.Not, operand.Truth)
+node_of (frame.Join j) = Some (node.Join j, operand.Truth)
+node_of frame.Open = None
+node_of (frame.Load p) = None
+
+-- what a frame makes of its operand
+abbrev pub fill : Frame → Operand → List Node → Option Read
+fill f x d = node_of f >>= λ w. after_node w.1 w.0 (as_sort (sort_of f) x d)
+
+abbrev pub Reduced : Type 0
+Reduced = List Frame × Operand × List Node
+
+-- the frames that bind at least as tightly as m take the operand
+abbrev pub reduce : ℕ → List Frame → Operand → List Node → Option Reduced
+reduce m [] x d = Some ([], x, d)
+reduce m (f ∷ fs) x d =
+    if nat_le (precedence f) m then (fill f x d >>= λ r. reduce m fs r.0 r.1)
+    else Some (f ∷ fs, x, d)
+
+-- the latest frame binds more loosely than m
+abbrev pub IsLoose : ℕ → List Frame → Type 0
+IsLoose m [] = Unit {0}
+IsLoose m (f ∷ fs) = m < precedence f
+
+-- the frames, the operand that is read, and the nodes
+abbrev pub State : Type 0
+State = List Frame × Option Operand × List Node
+
+-- how many more tokens than one are used up, and the state after them
+abbrev pub Begun : Type 0
+Begun = ℕ × State
+
+-- an operand in parentheses
+abbrev pub enclosed_operand : Operand → Operand
+enclosed_operand (operand.Plain n) = operand.Either n None
+enclosed_operand x = x
+
+-- a frame that waits for its right operand, after its left one of the same sort
+abbrev pub after_operator : Frame → List Frame → Operand → List Node → Option Begun
+after_operator f fs x d =
+    if nat_le (precedence f) (operand_precedence fs) then
+    (as_sort (sort_of f) x d >>= λ e. Some (0, (f ∷ fs, None, e))) else None
+
+-- the load that waits takes its index and reads `size` bytes; `more` tokens more than one are
+-- used up
+abbrev pub after_load : ℕ → ℕ → List Frame → Operand → List Node → Option Begun
+after_load more size (frame.Load p ∷ fs) x d =
+    as_number x d >>= λ e. Some (more, (fs, Some operand.Number, node.Load p size ∷ e))
+after_load more size _ x d = None
+
+-- the size of an accessor after its colon
+abbrev pub accessor_size : List TokenKind → Option ℕ
+accessor_size (token.Number n ∷ token.CloseBracket ∷ ts) = Some n
+accessor_size _ = None
+
+abbrev pub after_sized_load : Option ℕ → List Frame → Operand → List Node → Option Begun
+after_sized_load (Some n) fs x d = after_load 2 n fs x d
+after_sized_load None fs x d = None
+
+-- a parenthesis takes its operand
+abbrev pub after_close : List Frame → Operand → List Node → Option Begun
+after_close (frame.Open ∷ fs) x d = Some (0, (fs, Some (enclosed_operand x), d))
+after_close _ x d = None
+
+-- a token after an operand, and what comes after the token
+abbrev pub after_token_at : TokenKind → List TokenKind → List Frame → Operand → List Node
+    → Option Begun
+after_token_at (token.Operator o) ts fs x d = after_operator (frame.Apply o) fs x d
+after_token_at (token.Comparison c) ts fs x d = after_operator (frame.Compare c) fs x d
+after_token_at (token.Join j) ts fs x d = after_operator (frame.Join j) fs x d
+after_token_at token.Close ts fs x d = after_close fs x d
+after_token_at token.CloseBracket ts fs x d = after_load 0 1 fs x d
+after_token_at token.Colon ts fs x d = after_sized_load (accessor_size ts) fs x d
+after_token_at _ ts fs x d = None
+
+abbrev pub after_token : List TokenKind → List Frame → Operand → List Node → Option Begun
+after_token [] fs x d = None
+after_token (t ∷ ts) fs x d = after_token_at t ts fs x d
+
+abbrev pub Primitive : Type 0
+Primitive = ℕ × Option Operand × List Node
+
+-- a value with what stands before it, and how many tokens more than one they are
+abbrev pub valued_of : List TokenKind → Option (Qualifiers × Value × ℕ)
+valued_of ts =
+    let q = qualifiers_of ts in
+    value_of q.1 >>= λ r. Some (q.0, r.0, length ts - length r.1 - 1)
+
+abbrev pub check_of : List TokenKind → List Node → Option Primitive
+check_of (token.Protocol p ∷ ts) d =
+    if is_check p then Some (0, Some operand.Truth, node.Check p ∷ d) else None
+check_of _ d = None
+
+abbrev pub valued_or : Option (Qualifiers × Value × ℕ) → List TokenKind → List Node
+    → Option Primitive
+valued_or (Some r) ts d = Some (r.2, Some operand.Truth, node.Valued r.0 r.1 ∷ d)
+valued_or None ts d = check_of ts d
+
+abbrev pub primitive : List TokenKind → List Node → Option Primitive
+primitive ts d = valued_or (valued_of ts) ts d
+
+abbrev pub bare_of : List TokenKind → List Node → Option Primitive
+bare_of ts d =
+    value_of ts >>= λ r. Some (length ts - length r.1 - 1, Some operand.Truth, node.Bare r.0 ∷ d)
+
+-- a truth that is one node, and how many tokens more than one it takes
+abbrev pub one_node : List Node → Option (Node × ℕ) → Option Primitive
+one_node d None = None
+one_node d (Some r) = Some (r.1, Some operand.Truth, r.0 ∷ d)
+
+abbrev pub with_frames : List Frame → Option Primitive → Option Begun
+with_frames fs o = o >>= λ r. Some (r.0, (fs, r.1, r.2))
+
+-- what the token after a protocol makes of it
+abbrev pub opening_of : List TokenKind → Opening
+opening_of (t ∷ token.OpenBracket ∷ ts) = opening.Bracket
+opening_of (t ∷ token.Cast c ∷ ts) = opening.Cast c
+opening_of _ = opening.Other
+
+-- where a protocol, a number and a size begin an operand
+abbrev pub protocol_begins : Protocol → Opening → List TokenKind → List Frame → List Node
+    → Option Begun
+protocol_begins p opening.Bracket ts fs d =
+    if is_accessor p then Some (1, (frame.Load p ∷ fs, None, d)) else None
+protocol_begins p (opening.Cast c) ts fs d =
+    if has_casts p then Some (1, (fs, Some operand.Truth, node.Cast (Some p) c ∷ d)) else None
+protocol_begins p opening.Other ts fs d = with_frames fs (primitive ts d)
+
+abbrev pub number_primitive : List TokenKind → List Node → Option Primitive
+number_primitive (token.Number n ∷ token.Mask ∷ token.Dotted a p ∷ ts) d =
+    bare_of (token.Number n ∷ token.Mask ∷ token.Dotted a p ∷ ts) d
+number_primitive (token.Number n ∷ ts) d = Some (0, Some (operand.Plain n), d)
+number_primitive _ d = None
+
+abbrev pub sized_of : List TokenKind → List Node → Option Primitive
+sized_of (token.Size s ∷ token.Number n ∷ ts) d = Some (1, Some operand.Truth, node.Sized s n ∷ d)
+sized_of _ d = None
+
+-- a token where an operand begins, and the tokens from it on
+abbrev pub begin_at : TokenKind → List TokenKind → List Frame → List Node → Option Begun
+begin_at (token.Protocol p) ts fs d = protocol_begins p (opening_of ts) ts fs d
+begin_at (token.Side s) ts fs d = with_frames fs (primitive ts d)
+begin_at (token.ValueType k) ts fs d = with_frames fs (primitive ts d)
+begin_at (token.Cast c) ts fs d = Some (0, (fs, Some operand.Truth, node.Cast None c ∷ d))
+begin_at (token.Size s) ts fs d = with_frames fs (sized_of ts d)
+begin_at (token.Number n) ts fs d = with_frames fs (number_primitive ts d)
+begin_at (token.Dotted a p) ts fs d = with_frames fs (bare_of ts d)
+begin_at (token.Ip6 a) ts fs d = with_frames fs (bare_of ts d)
+begin_at (token.Mac a) ts fs d = with_frames fs (bare_of ts d)
+begin_at (token.Range a b) ts fs d = with_frames fs (bare_of ts d)
+begin_at token.Len ts fs d = Some (0, (fs, Some operand.Number, node.Len ∷ d))
+begin_at (token.Name n) ts fs d = Some (0, (fs, Some operand.Number, node.Named n ∷ d))
+begin_at token.Not ts fs d =
+    if nat_le 6 (operand_precedence fs) then Some (0, (frame.Not ∷ fs, None, d)) else None
+begin_at (token.Operator Subtract) ts fs d = Some (0, (frame.Negate ∷ fs, None, d))
+begin_at token.Open ts fs d = Some (0, (frame.Open ∷ fs, None, d))
+begin_at _ ts fs d = None
+
+abbrev pub begin : List TokenKind → List Frame → List Node → Option Begun
+begin [] fs d = None
+begin (t ∷ ts) fs d = begin_at t (t ∷ ts) fs d
+
+-- the number and the length of a prefix
+abbrev pub prefix_len : Operand → List TokenKind → Option (ℕ × ℕ)
+prefix_len (operand.Plain n) (token.Operator Divide ∷ token.Number m ∷ ts) = Some (n, m)
+prefix_len _ _ = None
+
+-- the tokens after an operand, once the tight frames have taken it
+abbrev pub next_of : List TokenKind → List Frame → Operand → List Node → Option Begun
+next_of ts fs x d = reduce (next_precedence ts) fs x d >>= λ r. after_token ts r.0 r.1 r.2
+
+abbrev pub with_prefix : Option (ℕ × ℕ) → List TokenKind → List Frame → Operand → List Node
+    → Option Begun
+with_prefix (Some p) ts fs x d =
+    if nat_le 1 (operand_precedence fs) then Some (1, (fs, Some (operand.Either p.0 (Some p.1)), d))
+    else next_of ts fs x d
+with_prefix None ts fs x d = next_of ts fs x d
+
+abbrev pub after_operand : List TokenKind → List Frame → Operand → List Node → Option Begun
+after_operand ts fs x d = with_prefix (prefix_len x ts) ts fs x d
+
+abbrev pub whole : List Frame → Operand → List Node → Option (List Node)
+whole [] x d = as_truth x d
+whole (f ∷ fs) x d = None
+
+abbrev pub finish : Option Operand → List Frame → List Node → Option (List Node)
+finish None fs d = None
+finish (Some x) fs d = reduce 8 fs x d >>= λ r. whole r.0 r.1 r.2
+
+-- the nodes of the whole, if it can be read; k tokens are used up already
+abbrev pub run : List TokenKind → ℕ → List Frame → Option Operand → List Node → Option (List Node)
+run [] k fs x d = finish x fs d
+run (t ∷ ts) (suc k) fs x d = run ts k fs x d
+run (t ∷ ts) zero fs None d = begin (t ∷ ts) fs d >>= λ r. run ts r.0 r.1.0 r.1.1 r.1.2
+run (t ∷ ts) zero fs (Some x) d =
+    after_operand (t ∷ ts) fs x d >>= λ r. run ts r.0 r.1.0 r.1.1 r.1.2
+
+-- no tokens have no nodes
+abbrev pub all_run : List TokenKind → Option (List Node)
+all_run [] = Some []
+all_run (t ∷ ts) = run (t ∷ ts) 0 [] None []
+
+-- why the readers stop: the tokens have no tree, or an allocation failed
+abbrev pub IsReadFault : ExprFault → Type 0
+IsReadFault fault = (fault ≡ expr_fault.NotAnExpression) ⊎ (fault ≡ expr_fault.Memory)

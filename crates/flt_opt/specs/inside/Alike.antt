@@ -1,0 +1,207 @@
+-- What the rules of `replaces` show.
+use Rattle.std.specs.Prelude.{◌≡◌, ℕ, ◌+◌, ◌≤◌, Bool, true, if◌then◌else◌, List, [], Option, Some, None, slice_get, ◌⊎◌}
+use Rattle.flt_bpf.specs.declared.insn.Insn.{Insn}
+use Rattle.flt_bpf.specs.declared.machine.State.{State}
+use Rattle.flt_bpf.specs.declared.operation.Operation.{Operation}
+use Rattle.flt_bpf.specs.declared.operation.Operation.TheVariants.{Compute, JumpIf, ReturnConstant}
+use Rattle.flt_bpf.specs.declared.operation.AluOperation.TheVariants.{And}
+use Rattle.flt_bpf.specs.declared.operation.Operand.TheVariants.{Constant}
+use Rattle.flt_bpf.specs.declared.operation.Test.TheVariants.{Equal, AnyBit}
+use Rattle.flt_bpf.specs.Answer.{answer_of, answer_after}
+use Rattle.flt_bpf.specs.Instructions.{operation_of}
+use Rattle.flt_bpf.specs.Machine.{Goes, step, test_holds, operand_value, start}
+use Rattle.flt_opt.specs.declared.facts.Learnt.{Learnt}
+use Rattle.flt_opt.specs.declared.note.Both.{Both}
+use Rattle.flt_opt.specs.declared.note.Fact.{Fact}
+use Rattle.flt_opt.specs.declared.note.Note.{Note}
+use Rattle.flt_opt.specs.declared.note.Piece.{Piece}
+use Rattle.flt_opt.specs.declared.note.Registers.{Registers}
+use Rattle.flt_opt.specs.declared.validator.Condition.{Condition}
+use Rattle.flt_opt.specs.declared.validator.Programs.{Programs}
+use Rattle.flt_opt.specs.declared.validator.Way.{Way}
+use Rattle.flt_opt.specs.declared.walk.Stage.{Stage}
+use Rattle.flt_opt.specs.inside.Facts.{AllLearnt, AllHold, Known, part}
+use Rattle.flt_opt.specs.inside.Terms.{Agree, Hold, There, Reads, asked, is_sure}
+
+-- from a place of each program on both return the same, where so much is known
+pub record Alike (new old : List Insn) (p : List ℕ) (n : ℕ) (at_new at_old : ℕ) (b : Both)
+    (facts : List Fact) (pieces : List Piece) (learnt : List Learnt) : Type 0 where
+  pub returns : (s t : State) (answer : ℕ) → Agree p n b s t → Known p n facts pieces learnt
+      → answer_of old p n at_old t ≡ Some answer → answer_of new p n at_new s ≡ Some answer
+
+-- they do from a note on
+abbrev pub IsGood : List Insn → List Insn → List Fact → List Piece → List ℕ → ℕ → Note → Type 0
+IsGood new old facts pieces p n m =
+    Alike new old p n m.new m.old m.registers (part facts m.facts) pieces []
+
+-- from each note on that is for a place of the new program from one on
+abbrev pub AreGoodFrom : List Insn → List Insn → List Note → List Fact → List Piece → List ℕ → ℕ
+    → ℕ → Type 0
+AreGoodFrom new old notes facts pieces p n at =
+    (j : ℕ) (m : Note) → slice_get notes j ≡ Some m → at ≤ m.new
+    → IsGood new old facts pieces p n m
+
+-- a note is as good as those further on are
+abbrev pub Stands : List Insn → List Insn → List Note → List Fact → List Piece → Note → Type 0
+Stands new old notes facts pieces m =
+    (p : List ℕ) (n : ℕ) → AreGoodFrom new old notes facts pieces p n (m.new + 1)
+    → IsGood new old facts pieces p n m
+
+-- the old run reaches a place, where it is as is known, and returns what it returned
+pub record Comes (old : List Insn) (p : List ℕ) (n : ℕ) (b : Both) (new_state : State)
+    (answer at : ℕ) : Type 0 where
+  pub state : State
+  pub agree : Agree p n b new_state state
+  pub returns : answer_of old p n at state ≡ Some answer
+
+-- an operation leads on, if what it loads is there, which it is
+pub record Leads (op : Operation) (k : ℕ) (r : Registers) (p : List ℕ) (n : ℕ) : Type 0 where
+  pub there : Bool
+  pub sure : is_sure op k there ≡ true
+  pub is_there : there ≡ true → There p n (asked op k r)
+
+abbrev pub IsSure : Operation → ℕ → Registers → Both → List Fact → List Piece → List Learnt → Type 0
+IsSure op k r b facts pieces learnt =
+    (p : List ℕ) (n : ℕ) (s t : State) → Agree p n b s t → Known p n facts pieces learnt
+    → Leads op k r p n
+
+-- the old run goes on after an instruction, and so much is known then
+pub record Passed (i : Insn) (far : ℕ) (b : Both) (p : List ℕ) (n : ℕ) (new old : State)
+    : Type 0 where
+  pub state : State
+  pub goes : step i p n old ≡ Goes far state
+  pub agree : Agree p n b new state
+
+abbrev pub Passes : Insn → ℕ → Both → Both → List Fact → List Piece → List Learnt → Type 0
+Passes i far b after facts pieces learnt =
+    (p : List ℕ) (n : ℕ) (s t : State) → Agree p n b s t → Known p n facts pieces learnt
+    → Passed i far after p n s t
+
+-- the old run is where a walk is, and returns what it returned
+pub record HereAt (old : List Insn) (p : List ℕ) (n : ℕ) (new_state : State) (answer : ℕ)
+    (stage : Stage) : Type 0 where
+  pub state : State
+  pub agree : Agree p n stage.known new_state state
+  pub shown : AllLearnt p n stage.learnt
+  pub returns : answer_of old p n stage.at state ≡ Some answer
+
+-- it has reached the goal on another way
+abbrev pub HasMet : List Insn → List ℕ → ℕ → State → ℕ → ℕ → Option Both → Type 0
+HasMet old p n new_state answer goal None = ⊥
+HasMet old p n new_state answer goal (Some b) = Comes old p n b new_state answer goal
+
+abbrev pub IsOn : List Insn → ℕ → List ℕ → ℕ → State → ℕ → Stage → Type 0
+IsOn old goal p n new_state answer stage =
+    HasMet old p n new_state answer goal stage.met ⊎ HereAt old p n new_state answer stage
+
+-- a walk goes on, and reaches its goal
+abbrev pub Advances : List Insn → ℕ → List Fact → List Piece → Stage → Stage → Type 0
+Advances old goal facts pieces stage next =
+    (p : List ℕ) (n : ℕ) (s : State) (answer : ℕ) → AllHold p n pieces facts
+    → IsOn old goal p n s answer stage → IsOn old goal p n s answer next
+
+abbrev pub Reaches : List Insn → ℕ → List Fact → List Piece → Stage → Both → Type 0
+Reaches old goal facts pieces stage known =
+    (p : List ℕ) (n : ℕ) (s : State) (answer : ℕ) → AllHold p n pieces facts
+    → IsOn old goal p n s answer stage → Comes old p n known s answer goal
+
+-- the same for two programs with their notes
+abbrev pub AreGood : Programs → List ℕ → ℕ → ℕ → Type 0
+AreGood programs p n at =
+    AreGoodFrom programs.new.now programs.old.now programs.notes.notes.now
+    programs.notes.facts.now programs.notes.pieces.now p n at
+
+-- from a way on both return the same, if they do from the notes further on
+abbrev pub LeadsTo : Programs → Way → List Fact → List Learnt → Type 0
+LeadsTo programs way facts learnt =
+    (p : List ℕ) (n at : ℕ) → at ≤ way.new → AreGood programs p n at
+    → Alike programs.new.now programs.old.now p n way.new way.old way.both facts
+    programs.notes.pieces.now learnt
+
+-- they do after a test of the new program that holds, or doesn't
+abbrev pub Branches : Programs → Note → Both → Insn → Condition → Bool → ℕ → Type 0
+Branches programs m b i condition holds at_old =
+    (p : List ℕ) (n : ℕ) (s t : State) (answer : ℕ) → AreGood programs p n (m.new + 1)
+    → Agree p n b s t
+    → AllHold p n programs.notes.pieces.now (part programs.notes.facts.now m.facts)
+    → test_holds condition.test s.accumulator (operand_value condition.operand i.k s.index) ≡ holds
+    → answer_of programs.old.now p n at_old t ≡ Some answer
+    → answer_of programs.new.now p n (m.new + 1 + (if holds then i.jt else i.jf)) s ≡ Some answer
+
+-- from a test of the new program on both return the same, where the old run is at one of two places
+abbrev pub Tests : Programs → Note → Both → Insn → Condition → ℕ → ℕ → Type 0
+Tests programs m b i condition at_yes at_no =
+    (p : List ℕ) (n : ℕ) (s t : State) (answer : ℕ) → AreGood programs p n (m.new + 1)
+    → Agree p n b s t
+    → AllHold p n programs.notes.pieces.now (part programs.notes.facts.now m.facts)
+    → answer_of programs.old.now p n
+    (if test_holds condition.test s.accumulator
+    (operand_value condition.operand i.k s.index) then at_yes else at_no) t ≡ Some answer
+    → answer_of programs.new.now p n m.new s ≡ Some answer
+
+-- a note is as good as those further on are
+abbrev pub IsSound : Programs → Note → Type 0
+IsSound programs m =
+    Stands programs.new.now programs.old.now programs.notes.notes.now programs.notes.facts.now
+    programs.notes.pieces.now m
+
+-- both runs have the same in A and X where an operation reads them
+abbrev pub OperandsAgree : Operation → Both → Type 0
+OperandsAgree op b = (p : List ℕ) (n : ℕ) (s t : State) → Agree p n b s t → Reads op s t
+
+abbrev pub AreSound : Programs → Type 0
+AreSound programs =
+    (j : ℕ) (m : Note) → slice_get programs.notes.notes.now j ≡ Some m → IsSound programs m
+
+-- both programs return the same on each packet, if they do from each note on
+abbrev pub Begins : Programs → Type 0
+Begins programs =
+    (p : List ℕ) (n answer : ℕ) → AreGood programs p n 0
+    → answer_of programs.old.now p n 0 start ≡ Some answer
+    → answer_of programs.new.now p n 0 start ≡ Some answer
+
+-- a test of bits means a mask, and a test of whether what is left is 0
+pub record IsBits (new mask test : Insn) : Type 0 where
+  pub new_is : operation_of new.code ≡ Some (JumpIf AnyBit Constant)
+  pub mask_is : operation_of mask.code ≡ Some (Compute And Constant)
+  pub test_is : operation_of test.code ≡ Some (JumpIf Equal Constant)
+  pub zero : test.k ≡ 0
+  pub same : mask.k ≡ new.k
+
+-- a run goes on after an instruction, where so much is known, or returns 0
+pub record Drifted (far : ℕ) (after : Registers) (p : List ℕ) (n answer : ℕ)
+    (rest : ℕ → State → Option ℕ) : Type 0 where
+  pub state : State
+  pub hold : Hold p n after state
+  pub returns : rest far state ≡ Some answer
+
+abbrev pub Drifts : Insn → ℕ → Registers → Registers → List Fact → List Piece → List Learnt → Type 0
+Drifts i far r after facts pieces learnt =
+    (p : List ℕ) (n : ℕ) (t : State) (rest : ℕ → State → Option ℕ) (answer : ℕ) → Hold p n r t
+    → Known p n facts pieces learnt → answer_after rest (step i p n t) ≡ Some answer
+    → (answer ≡ 0) ⊎ Drifted far after p n answer rest
+
+-- an instruction returns 0
+pub record IsRejection (i : Insn) : Type 0 where
+  pub operation : operation_of i.code ≡ Some ReturnConstant
+  pub zero : i.k ≡ 0
+
+-- from a place on code returns 0, if it returns
+abbrev pub Rejects : List Insn → ℕ → Registers → List Fact → List Piece → List Learnt → Type 0
+Rejects code from r facts pieces learnt =
+    (p : List ℕ) (n : ℕ) (t : State) (answer : ℕ) → Hold p n r t
+    → Known p n facts pieces learnt → answer_of code p n from t ≡ Some answer → answer ≡ 0
+
+-- a run from a place on returns what one from another place on returns, or 0
+pub record DriftsTo (code : List Insn) (p : List ℕ) (n : ℕ) (after : Registers) (answer at : ℕ)
+    : Type 0 where
+  pub state : State
+  pub hold : Hold p n after state
+  pub returns : answer_of code p n at state ≡ Some answer
+
+abbrev pub DriftsFrom : List Insn → ℕ → ℕ → Registers → Registers → List Fact → List Piece
+    → List Learnt → Type 0
+DriftsFrom code from to r after facts pieces learnt =
+    (p : List ℕ) (n : ℕ) (t : State) (answer : ℕ) → Hold p n r t
+    → Known p n facts pieces learnt → answer_of code p n from t ≡ Some answer
+    → (answer ≡ 0) ⊎ DriftsTo code p n after answer to

@@ -1,0 +1,156 @@
+-- What the facts of notes mean.
+use Rattle.std.specs.Prelude.{◌≡◌, ℕ, ◌+◌, ◌-◌, min, Bool, true, false, ◌&&◌, ◌||◌, ◌==◌, nat_le, List, [], ◌∷◌, Some, length, if◌then◌else◌, slice_range}
+use Rattle.flt_bpf.specs.declared.operation.Test.{Test}
+use Rattle.flt_bpf.specs.declared.operation.Test.TheVariants.{Equal, Greater, AtLeast, AnyBit}
+use Rattle.flt_bpf.specs.declared.machine.State.{State}
+use Rattle.flt_bpf.specs.Machine.{test_holds}
+use Rattle.flt_opt.specs.declared.facts.Learnt.{Learnt}
+use Rattle.flt_opt.specs.declared.note.Fact.{Fact}
+use Rattle.flt_opt.specs.declared.note.Piece.{Piece}
+use Rattle.flt_opt.specs.declared.note.Span.{Span}
+use Rattle.flt_opt.specs.declared.note.Term.{Term}
+use Rattle.flt_opt.specs.declared.note.Both.{Both}
+use Rattle.flt_opt.specs.inside.Terms.{value, There, Holds, Agree, masked}
+
+-- the greatest `high` is no bound
+abbrev pub in_piece : ℕ → Piece → Bool
+in_piece v q = nat_le q.low v && (nat_le v q.high || q.high == 0xffff_ffff)
+
+abbrev pub within : ℕ → List Piece → Bool
+within v [] = false
+within v (q ∷ qs) = in_piece v q || within v qs
+
+-- part of a list, or nothing where it has none such
+abbrev pub part : {A : Type 0} → List A → Span → List A
+part xs s =
+    if nat_le s.start s.end && nat_le s.end (length xs) then slice_range xs s.start s.end else []
+
+-- a fact holds of a packet
+pub record FactHolds (p : List ℕ) (n : ℕ) (pieces : List Piece) (f : Fact) : Type 0 where
+  pub number : ℕ
+  pub is : value p n f.term ≡ Some number
+  pub inside : within number (part pieces f.pieces) ≡ true
+
+abbrev pub AllHold : List ℕ → ℕ → List Piece → List Fact → Type 0
+AllHold p n pieces [] = Unit {0}
+AllHold p n pieces (f ∷ fs) = FactHolds p n pieces f × AllHold p n pieces fs
+
+-- what a test has shown holds of a packet: the value of a term, if it has one, is in one of two
+-- pieces
+abbrev pub in_either : ℕ → Learnt → Bool
+in_either v l = in_piece v l.below || in_piece v l.above
+
+pub record LearntHolds (p : List ℕ) (n : ℕ) (l : Learnt) : Type 0 where
+  pub inside : (number : ℕ) → value p n l.term ≡ Some number → in_either number l ≡ true
+
+abbrev pub AllLearnt : List ℕ → ℕ → List Learnt → Type 0
+AllLearnt p n [] = Unit {0}
+AllLearnt p n (l ∷ ls) = LearntHolds p n l × AllLearnt p n ls
+
+-- what is known of a packet
+pub record Known (p : List ℕ) (n : ℕ) (facts : List Fact) (pieces : List Piece)
+    (learnt : List Learnt) : Type 0 where
+  pub noted : AllHold p n pieces facts
+  pub shown : AllLearnt p n learnt
+
+-- the numbers below one
+abbrev pub before : ℕ → Piece
+before k = if k == 0 then record { low = 1; high = 0 } else record { low = 0; high = k - 1 }
+
+-- one number; the numbers from one on; those past one, and perhaps the greatest
+abbrev pub only : ℕ → Piece
+only k = record { low = k; high = k }
+
+abbrev pub starting : ℕ → Piece
+starting k = record { low = k; high = 0xffff_ffff }
+
+abbrev pub past : ℕ → Piece
+past k = starting (min (k + 1) 0xffff_ffff)
+
+abbrev pub learnt_of : Term → Piece → Piece → Learnt
+learnt_of t below above = record { term = t; below = below; above = above }
+
+-- what the outcome of a test with a number shows of a term
+abbrev pub outcome : Test → ℕ → Term → Bool → Learnt
+outcome Equal k t true = learnt_of t (only k) (only k)
+outcome Equal k t false = learnt_of t (before k) (past k)
+outcome Greater k t true = learnt_of t (past k) (past k)
+outcome Greater k t false = learnt_of t (before k) (only k)
+outcome AtLeast k t true = learnt_of t (starting k) (starting k)
+outcome AtLeast k t false = learnt_of t (before k) (before k)
+outcome AnyBit k t true = learnt_of (masked t k) (past 0) (past 0)
+outcome AnyBit k t false = learnt_of (masked t k) (only 0) (only 0)
+
+-- a term's value isn't in a piece
+abbrev pub NeverIs : Piece → Term → List Learnt → Type 0
+NeverIs q t learnt =
+    (p : List ℕ) (n number : ℕ) → AllLearnt p n learnt → value p n t ≡ Some number
+    → in_piece number q ≡ false
+
+-- all numbers of a piece are in others
+abbrev pub IsIn : Piece → List Piece → Type 0
+IsIn q numbers = (number : ℕ) → in_piece number q ≡ true → within number numbers ≡ true
+
+-- a term's value is in numbers if it is in a piece
+abbrev pub IsWithin : Piece → Term → List Learnt → List Piece → Type 0
+IsWithin q t learnt numbers =
+    (p : List ℕ) (n number : ℕ) → AllLearnt p n learnt → value p n t ≡ Some number
+    → in_piece number q ≡ true → within number numbers ≡ true
+
+-- a term's value is in part of the pieces
+abbrev pub HasNumbers : Term → Span → List Fact → List Piece → Type 0
+HasNumbers t s facts pieces =
+    (p : List ℕ) (n number : ℕ) → AllHold p n pieces facts → value p n t ≡ Some number
+    → within number (part pieces s) ≡ true
+
+-- what a test would show isn't so where a term's value is in a piece, in one of the pieces, or at
+-- all
+abbrev pub NeverSo : Piece → Learnt → List Learnt → Type 0
+NeverSo q l learnt =
+    (p : List ℕ) (n number : ℕ) → AllLearnt p n learnt → value p n l.term ≡ Some number
+    → in_piece number q ≡ true → in_either number l ≡ false
+
+abbrev pub NeverAmong : List Piece → Learnt → List Learnt → Type 0
+NeverAmong qs l learnt =
+    (p : List ℕ) (n number : ℕ) → AllLearnt p n learnt → value p n l.term ≡ Some number
+    → within number qs ≡ true → in_either number l ≡ false
+
+abbrev pub CannotBe : Learnt → List Fact → List Piece → List Learnt → Type 0
+CannotBe l facts pieces learnt =
+    (p : List ℕ) (n number : ℕ) → Known p n facts pieces learnt → value p n l.term ≡ Some number
+    → in_either number l ≡ false
+
+-- a test has one outcome
+abbrev pub IsDecided : Test → ℕ → Term → List Fact → List Piece → List Learnt → Bool → Type 0
+IsDecided test k t facts pieces learnt holds =
+    (p : List ℕ) (n number : ℕ) → Known p n facts pieces learnt → Holds p n t number
+    → test_holds test number k ≡ holds
+
+-- a term has a value where so much is known
+abbrev pub IsThere : Term → List Fact → Both → Type 0
+IsThere t facts b =
+    (p : List ℕ) (n : ℕ) (pieces : List Piece) (new old : State) → Agree p n b new old
+    → AllHold p n pieces facts → There p n t
+
+-- a term's value is in numbers if it is in one of the pieces
+abbrev pub AreWithin : List Piece → Term → List Learnt → List Piece → Type 0
+AreWithin qs t learnt numbers =
+    (p : List ℕ) (n number : ℕ) → AllLearnt p n learnt → value p n t ≡ Some number
+    → within number qs ≡ true → within number numbers ≡ true
+
+-- the value of a fact's term is in its pieces, if it has one
+abbrev pub NumbersFollow : Fact → List Fact → List Piece → List Learnt → Type 0
+NumbersFollow f facts pieces learnt =
+    (p : List ℕ) (n number : ℕ) → Known p n facts pieces learnt → value p n f.term ≡ Some number
+    → within number (part pieces f.pieces) ≡ true
+
+-- a fact holds, and all of them do, where so much is known
+abbrev pub FactFollows : Fact → Both → List Fact → List Piece → List Learnt → Type 0
+FactFollows f b facts pieces learnt =
+    (p : List ℕ) (n : ℕ) (new old : State) → Agree p n b new old → Known p n facts pieces learnt
+    → FactHolds p n pieces f
+
+abbrev pub FactsFollow : List Fact → Both → List Fact → List Piece → List Learnt → Type 0
+FactsFollow fs b facts pieces learnt =
+    (p : List ℕ) (n : ℕ) (new old : State) → Agree p n b new old → Known p n facts pieces learnt
+    → AllHold p n pieces fs

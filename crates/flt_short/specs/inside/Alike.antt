@@ -1,0 +1,167 @@
+-- When two places of two programs do the same.
+use Rattle.std.specs.Prelude.{ℕ, ◌+◌, ◌-◌, ◌%◌, ◌^◌, ◌==◌, nat_lt, nat_le, Bool, true, false, if◌then◌else◌, ◌&&◌, ◌||◌, List, [], ◌∷◌, length, Option, Some, None, slice_get, drop}
+use Rattle.flt_bpf.specs.declared.insn.Insn.{Insn}
+use Rattle.flt_bpf.specs.declared.operation.Operation.{Operation}
+use Rattle.flt_bpf.specs.declared.operation.Operation.TheVariants.{LoadAbsolute, LoadIndirect, Load, LoadHeaderLength, Store, Compute, Negate, Jump, JumpIf, ReturnConstant, ReturnAccumulator, CopyToIndex, CopyToAccumulator}
+use Rattle.flt_bpf.specs.declared.operation.Register.TheVariants.{Accumulator, Index}
+use Rattle.flt_bpf.specs.declared.operation.Source.TheVariants.{Immediate}
+use Rattle.flt_bpf.specs.declared.operation.Operand.TheVariants.{Constant, IndexRegister}
+use Rattle.flt_bpf.specs.declared.operation.Test.TheVariants as test
+use Rattle.flt_bpf.specs.declared.operation.AluOperation.TheVariants.{Add, And}
+use Rattle.flt_bpf.specs.Instructions.{code_of, operation_of}
+use Rattle.flt_short.specs.declared.alike.Landing.{Landing}
+
+-- an operation reads A, or X
+abbrev pub reads_accumulator : Operation → Bool
+reads_accumulator (Store Accumulator) = true
+reads_accumulator (Compute operator operand) = true
+reads_accumulator Negate = true
+reads_accumulator (JumpIf test operand) = true
+reads_accumulator ReturnAccumulator = true
+reads_accumulator CopyToIndex = true
+reads_accumulator _ = false
+
+abbrev pub reads_index : Operation → Bool
+reads_index (LoadIndirect width) = true
+reads_index (Store Index) = true
+reads_index (Compute operator IndexRegister) = true
+reads_index (JumpIf test IndexRegister) = true
+reads_index CopyToAccumulator = true
+reads_index _ = false
+
+-- it puts something into A, or into X
+abbrev pub sets_accumulator : Operation → Bool
+sets_accumulator (LoadAbsolute width) = true
+sets_accumulator (LoadIndirect width) = true
+sets_accumulator (Load Accumulator source) = true
+sets_accumulator (Compute operator operand) = true
+sets_accumulator Negate = true
+sets_accumulator CopyToAccumulator = true
+sets_accumulator _ = false
+
+abbrev pub sets_index : Operation → Bool
+sets_index (Load Index source) = true
+sets_index LoadHeaderLength = true
+sets_index CopyToIndex = true
+sets_index _ = false
+
+abbrev pub implies : Bool → Bool → Bool
+implies true b = b
+implies false b = true
+
+-- a landing is this far past the instruction at a place, and what is read there is the same in
+-- both programs: A and X are, as the two tests say
+abbrev pub landing_fits_at : Option Landing → ℕ → ℕ → Bool → Bool → Bool
+landing_fits_at None far place a x = false
+landing_fits_at (Some l) far place a x =
+    ((nat_lt 0 l.place && nat_lt l.place place) && place - l.place - 1 == far)
+    && (implies l.accumulator a && implies l.index x)
+
+abbrev pub landing_fits : List Landing → ℕ → ℕ → ℕ → Bool → Bool → Bool
+landing_fits ls k far place a x = landing_fits_at (slice_get ls k) far place a x
+
+-- both programs go on alike after an instruction that both have
+abbrev pub goes_on : Operation → Insn → Landing → Insn → List Landing → Bool
+goes_on Jump j l i ls = false
+goes_on (JumpIf test operand) j l i ls =
+    landing_fits ls i.jt j.jt l.place l.accumulator l.index
+    && landing_fits ls i.jf j.jf l.place l.accumulator l.index
+goes_on ReturnConstant j l i ls = true
+goes_on ReturnAccumulator j l i ls = true
+goes_on op j l i ls =
+    landing_fits ls 0 0 l.place (sets_accumulator op || l.accumulator) (sets_index op || l.index)
+
+-- the instruction j of the new program is the instruction i of the old one
+unfoldable pub same_step : Option Operation → Insn → Landing → Insn → List Landing → Bool
+same_step None j l i ls = false
+same_step (Some op) j l i ls =
+    (i.code == j.code && i.k == j.k)
+    && ((implies (reads_accumulator op) l.accumulator && implies (reads_index op) l.index)
+    && goes_on op j l i ls)
+
+-- the code of a mask, that of a test whether A is a number, and that of a test whether A has a bit
+-- of k
+abbrev pub MASK : ℕ
+MASK = code_of (Compute And Constant)
+
+abbrev pub EQUAL : ℕ
+EQUAL = code_of (JumpIf test.Equal Constant)
+
+abbrev pub ANY_BIT : ℕ
+ANY_BIT = code_of (JumpIf test.AnyBit Constant)
+
+-- it is one test for a mask and a test of what is left for 0; A isn't read after it
+unfoldable pub one_test : Insn → Landing → Insn → List Insn → List Landing → Bool
+one_test j l i [] ls = false
+one_test j l i (t ∷ is) ls =
+    ((i.code == MASK && t.code == EQUAL) && (t.k == 0 && (j.code == ANY_BIT && i.k == j.k)))
+    && (l.accumulator
+    && (landing_fits ls (1 + t.jt) j.jf l.place false l.index
+    && landing_fits ls (1 + t.jf) j.jt l.place false l.index))
+
+-- the code of a load at a fixed place that is as wide as one at X
+abbrev pub direct_code : Option Operation → Option ℕ
+direct_code (Some (LoadIndirect width)) = Some (code_of (LoadAbsolute width))
+direct_code _ = None
+
+abbrev pub is_number : Option ℕ → ℕ → Bool
+is_number None n = false
+is_number (Some m) n = m == n
+
+-- it is one load for a number that goes to X by A, and a load at X; X isn't read after it
+unfoldable pub direct_load : Insn → Landing → Insn → List Insn → List Landing → Bool
+direct_load j l i [] ls = false
+direct_load j l i (t ∷ []) ls = false
+direct_load j l i (t ∷ u ∷ is) ls =
+    ((i.code == code_of (Load Accumulator Immediate) && t.code == code_of CopyToIndex)
+    && (is_number (direct_code (operation_of u.code)) j.code && (i.k + u.k) % 2 ^ 32 == j.k))
+    && landing_fits ls 2 0 l.place true false
+
+-- a load at X
+abbrev pub is_indirect : Option Operation → Bool
+is_indirect (Some (LoadIndirect width)) = true
+is_indirect _ = false
+
+-- a number and the header length are added in A, and the sum goes to X
+abbrev pub adds_header : Insn → Insn → Insn → Insn → Bool
+adds_header i t u v =
+    (i.code == code_of (Load Accumulator Immediate) && t.code == code_of LoadHeaderLength)
+    && (u.code == code_of (Compute Add IndexRegister) && v.code == code_of CopyToIndex)
+
+-- two loads are the same header's length, and as many bytes past X
+abbrev pub loads_alike : Insn → Insn → Insn → Insn → Bool
+loads_alike t h w j =
+    (t.code == h.code && t.k == h.k) && (is_indirect (operation_of w.code) && w.code == j.code)
+
+-- they are the header length and a load after it, for a number, the header length, their sum that
+-- goes to X, and a load at X; X isn't read after it
+unfoldable pub header_load : List Insn → Landing → Insn → List Insn → List Landing → Bool
+header_load (h ∷ j ∷ js) l i (t ∷ u ∷ v ∷ w ∷ is) ls =
+    adds_header i t u v && (loads_alike t h w j
+    && ((i.k + w.k) % 2 ^ 32 == j.k && landing_fits ls 4 0 (l.place - 1) true false))
+header_load js l i is ls = false
+
+-- the code from a place on, which is named by the number of instructions from there to the end
+abbrev pub code_from : List Insn → ℕ → List Insn
+code_from c place = if nat_le place (length c) then drop (length c - place) c else []
+
+abbrev pub stands_at : List Insn → Landing → Insn → List Insn → List Landing → Bool
+stands_at [] l i is ls = false
+stands_at (j ∷ js) l i is ls =
+    (same_step (operation_of i.code) j l i ls || one_test j l i is ls)
+    || (direct_load j l i is ls || header_load (j ∷ js) l i is ls)
+
+-- the code does at a landing, if it is one, what the instruction i and those after it do
+abbrev pub stands : List Insn → Landing → Insn → List Insn → List Landing → Bool
+stands c l i is ls = l.place == 0 || stands_at (code_from c l.place) l i is ls
+
+-- it does at each landing what the old code does there
+abbrev pub are_alike : List Insn → List Insn → List Landing → Bool
+are_alike c [] ls = true
+are_alike c (i ∷ is) [] = false
+are_alike c (i ∷ is) (l ∷ ls) = stands c l i is ls && are_alike c is ls
+
+-- and the first landing is where it begins
+abbrev pub begins : List Landing → ℕ → Bool
+begins [] len = false
+begins (l ∷ ls) len = nat_lt 0 l.place && l.place == len

@@ -1,0 +1,6 @@
+-- What no promise rests on: it helps the crate's own functions and proofs, and those of crates beside it.
+pub mod Checks
+pub mod Filled
+pub mod Heights
+pub mod Nodes
+pub mod Resolved

@@ -1,0 +1,32 @@
+-- How an address is read group by group.
+use Rattle.std.specs.Prelude.{◌≡◌, ◌≤◌, ◌+◌, ℕ, List, length, slice_index, Option, Some, None, MatchOption}
+use Rattle.std.specs.Int.Digits.{number_from_digits}
+use Rattle.flt_words.specs.declared.address.Group.{Group}
+use Rattle.flt_words.specs.declared.address.Group.TheVariants as group
+use Rattle.flt_words.specs.declared.address.Joined.{Joined}
+use Rattle.flt_words.specs.Addresses.{group_values, AreGroups}
+
+-- a group's number is below its base
+abbrev pub base_of : Group → ℕ
+base_of group.Octet = 256
+base_of group.Byte = 256
+base_of group.Quad = 65536
+
+-- the answer of looking for an address: one of which this is so, or none where it is so of no
+-- address
+abbrev pub FindsAddress : (ℕ → Type 0) → Option ℕ → Type 0
+FindsAddress IsIt answer = MatchOption answer ((address : ℕ) → IsIt address → ⊥) IsIt
+
+-- two colons stand here
+abbrev pub IsDoubleColon : List ℕ → ℕ → Type 0
+IsDoubleColon word i = (slice_index word i ≡ 58) × (slice_index word (i + 1) ≡ 58)
+
+-- the answer of reading a text as at most eight groups: how many, and the number that they write in
+-- their base
+abbrev pub ReadsGroups : Group → List ℕ → Option Joined → Type 0
+ReadsGroups form text None =
+    (groups : List (List ℕ)) → AreGroups form text groups → length groups ≤ 8 → ⊥
+ReadsGroups form text (Some joined) =
+    (groups : List (List ℕ)) × AreGroups form text groups × (length groups ≤ 8)
+    × (joined.count ≡ length groups)
+    × (joined.value ≡ number_from_digits (base_of form) (group_values form groups))

@@ -1,0 +1,7 @@
+-- Characters, as words are cut.
+use Rattle.std.specs.Prelude.{ℕ, List, Bool, ◌==◌}
+use Rattle.std.specs.List.{list_any}
+
+-- the text has the byte
+abbrev pub has : ℕ → List ℕ → Bool
+has c text = list_any (λ b. b == c) text
