@@ -40,7 +40,7 @@ import time
 ROOT = pathlib.Path(__file__).resolve().parent.parent
 OUT = ROOT / "out"
 # What is built: the crate of the program, and that of the library for C.
-PROGRAM, LIBRARY = "capkit_main", "cap_library"
+PROGRAM, LIBRARY = "capkit_main", "capkit_c"
 # What a job of a check takes of memory, in bytes.
 MEMORY = 2_000_000_000
 # A byte of code costs as much to check as this many bytes of definitions and proofs. That and what

@@ -25,7 +25,7 @@ middle: low_a
 capkit_main: middle low_b clap
 other_tests: low_a
 only_for_c: low_a
-cap_library staticlib: middle only_for_c
+capkit_c staticlib: middle only_for_c
 """
 # It notes when it begins and ends, and wants the library of each crate below to be there. Its last
 # word is what it makes.
@@ -100,7 +100,7 @@ class Checkout:
 
     def build_library(self):
         """Calls build.py for the library, and returns its status and whether it is there."""
-        made = self.at / "library" / "out" / "libcap_library.a"
+        made = self.at / "library" / "out" / "libcapkit_c.a"
         words = {**os.environ, "PATH": self.path, "NOTES": str(self.notes)}
         build = [sys.executable, self.at / "packaging" / "build.py", "--library", made]
         ran = subprocess.run(build, env=words, timeout=60, stderr=subprocess.DEVNULL)
@@ -156,7 +156,7 @@ def try_first(checkout):
 def try_library(checkout):
     yield "the library is built", checkout.build_library() == (0, True)
     begun = [it for it in checkout.noted() if it.startswith("begin")]
-    yield "of its own crates, after the program", begun == ["begin only_for_c", "begin cap_library"]
+    yield "of its own crates, after the program", begun == ["begin only_for_c", "begin capkit_c"]
     yield "the program stays", len([*(checkout.at / "out").glob("built-*")]) == 1
     yield "it is built once too", checkout.build_library() == (0, True)
     yield "without a proof", checkout.noted() == []
@@ -216,7 +216,7 @@ def try_other_kit(checkout):
     yield "nothing is left of that build", checkout.logs() == []
     shutil.rmtree(checkout.at / "library")
     yield "the library is built too", checkout.build_library() == (0, True)
-    yield "by rt alone", checkout.noted()[-2:] == ["lib only_for_c", "lib cap_library"]
+    yield "by rt alone", checkout.noted()[-2:] == ["lib only_for_c", "lib capkit_c"]
     (checkout.at / "crates" / "low_b" / "src" / "lib.rt").write_text("// for another kit\n")
     status, out, messages = checkout.call(FAILS="middle")
     yield "a crate that rt doesn't prove ends the build", (status, out) == (1, "")

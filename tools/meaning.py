@@ -33,14 +33,14 @@ import sys
 
 from sources import ROOT, WORD, Sources, blanked
 
-POLICY = ("cap_packets", "specs.Verdict", "Policy")
+POLICY = ("cap_process", "specs.Verdict", "Policy")
 COMMAND = ("cap_command", "src.command", "Command")
 # What a command chooses: of these types a text has only the cases that its command comes to.
 CHOICES = {
     COMMAND,
     POLICY,
-    ("cap_packets", "specs.Outcome", "Form"),
-    ("cap_packets", "src.output", "Writing"),
+    ("cap_process", "specs.Outcome", "Form"),
+    ("cap_process", "src.output", "Writing"),
     ("cap_tools", "specs.Start", "Preparing"),
     ("cap_io", "specs.Sequence", "PacketOrder"),
 }
@@ -49,8 +49,8 @@ PREPARED = ["IsPolicy None", "IsWhyRefused None"]
 COMMANDS = {"edit": [], "print": PREPARED, "merge": [], "infos": [], "compile": PREPARED}
 # Crates whose public functions are for other crates here.
 BETWEEN = {
-    "cap_arguments", "cap_inputs", "cap_memory", "cap_packets", "flt_code", "flt_lay", "flt_opt", "flt_passes",
-    "flt_short", "flt_tree",
+    "capkit_args", "cap_inputs", "cap_memory", "cap_process", "flt_emit", "flt_lay", "flt_opt", "flt_passes",
+    "flt_short", "flt_ast",
 }
 # What the pages promise of these.
 PROMISED = {
@@ -136,7 +136,7 @@ class Meaning:
 
     def of(self, name):
         """The roots and the closure of a path or a promise."""
-        roots = self.roots({"library": "cap_library"}.get(name, "cap_tools::run" if name in COMMANDS else name))
+        roots = self.roots({"library": "capkit_c"}.get(name, "cap_tools::run" if name in COMMANDS else name))
         return roots, closure(self.sources, roots, Cases(name, COMMANDS[name]) if name in COMMANDS else None)
 
     def public_roots(self, is_promised=False):

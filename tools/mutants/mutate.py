@@ -16,11 +16,11 @@ from tokens import functions, tables, tokens
 
 # How many of some 450 mutants each crate has: by its size, more where a definition has rows.
 SHARES = {
-    "flt_words": 26, "flt_tree": 20, "flt_lang": 36, "flt_gen": 34,
-    "flt_code": 20, "flt_bpf": 30, "cap_octet": 28, "cap_pcap": 14, "cap_pcapng": 28, "cap_io": 26,
+    "flt_words": 26, "flt_ast": 20, "flt_lang": 36, "flt_gen": 34,
+    "flt_emit": 20, "flt_bpf": 30, "cap_octet": 28, "cap_pcap": 14, "cap_pcapng": 28, "cap_io": 26,
     "cap_command": 12, "cap_print": 28, "cap_filter": 10, "cap_window": 8, "cap_inputs": 12,
-    "cap_packets": 24, "cap_tools": 12, "cap_arguments": 14, "capkit": 18, "cap_streams": 28,
-    "cap_memory": 26, "cap_library": 26,
+    "cap_process": 24, "cap_tools": 12, "capkit_args": 14, "capkit": 18, "capkit_host": 28,
+    "cap_memory": 26, "capkit_c": 26,
 }  # fmt: skip
 
 # Proofs alone, examples, devices for tests, tests: files and folders.

@@ -4,7 +4,7 @@
 usage: run.py SEED [COUNT] [--in FOLDER] [--only NUMBER..]
 
 About COUNT mutants (400) are made of this repository, all in a copy that is built once for each program: cap_cases,
-capkit_main, and the tests of cap_tests and cap_library. What the compiler refuses is left out. As each mutant run, in this
+capkit_main, and the tests of cap_tests and capkit_c. What the compiler refuses is left out. As each mutant run, in this
 order, until one shows it: the tables of cases, up to the first that fails; alone the rounds 1 to 400; the stored run; the
 tests. The last of these that run show what no case can see. After them come a table of counts by crate, and one of the
 survivors.
@@ -31,8 +31,8 @@ import mutate
 HERE = Path(__file__).resolve().parent
 ROOT = HERE.parent.parent
 
-# The programs, and whether they are tests. Of those below cap_library alone nothing else knows.
-PROGRAMS = {"cap_library": True, "cap_cases": False, "cap_tests": True, "capkit_main": False}
+# The programs, and whether they are tests. Of those below capkit_c alone nothing else knows.
+PROGRAMS = {"capkit_c": True, "cap_cases": False, "cap_tests": True, "capkit_main": False}
 
 # What is run, in this order: its name, its program, and how many times what it takes as no mutant it may take.
 STEPS = [
@@ -40,7 +40,7 @@ STEPS = [
     ("rounds", "cap_cases"),
     ("stored", "capkit_main"),
     ("tests", "cap_tests"),
-    ("library", "cap_library"),
+    ("library", "capkit_c"),
 ]
 ROUNDS = ["1", "400"]
 FEWEST_SECONDS, SLOWEST = 10, 8

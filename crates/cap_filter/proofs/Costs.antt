@@ -2,8 +2,8 @@
 use Rattle.std.proofs.Common.{◌≡◌, ℕ, zero, suc, ◌+◌, ◌≤◌, List, [], ◌∷◌, ap, arith}
 use Rattle.cap_octet.specs.Packet.{Captured}
 use Rattle.flt_bpf.specs.Content.{Content}
-use Rattle.flt_tree.specs.Tree.{Expression, empty, truth}
-use Rattle.flt_tree.specs.Counts.{bound_of}
+use Rattle.flt_ast.specs.Tree.{Expression, empty, truth}
+use Rattle.flt_ast.specs.Counts.{bound_of}
 use Rattle.cap_octet.specs.declared.link.Link.{Link}
 use Rattle.cap_filter.specs.Programs.{AreMade, IsMade, steps_of_run, met_on, ran_at, spent_in}
 use Rattle.cap_filter.specs.inside.Programs.{HasPrograms}

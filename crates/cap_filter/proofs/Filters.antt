@@ -12,11 +12,11 @@ use Rattle.cap_octet.specs.Packet.{Captured}
 use Rattle.flt_bpf.specs.declared.insn.Insn.{Insn}
 use Rattle.flt_bpf.specs.Content.{Content}
 use Rattle.flt_bpf.specs.Machine.{machine, Answered}
-use Rattle.flt_tree.specs.Tree.{Expression, empty, truth}
+use Rattle.flt_ast.specs.Tree.{Expression, empty, truth}
 use Rattle.cap_octet.specs.declared.link.Link.{Link}
 use Rattle.cap_octet.specs.declared.link.Link.TheVariants.{Ether}
 use Rattle.flt_gen.specs.Correct.{IsProgramOf}
-use Rattle.flt_code.specs.Elementary.{Reading, Yes, No, Rejected}
+use Rattle.flt_emit.specs.Elementary.{Reading, Yes, No, Rejected}
 use Rattle.flt_gen.specs.Reading.{holds}
 use Rattle.cap_filter.specs.Decisions.{ReturnsDecision}
 use Rattle.cap_filter.specs.Programs.{AreMade, IsMade, steps_of_run, met_on, ran_at, ran_if, ran_on}

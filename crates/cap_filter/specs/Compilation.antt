@@ -2,7 +2,7 @@
 use Rattle.std.specs.Prelude.{ℕ, List}
 use Rattle.flt_bpf.specs.declared.insn.Insn.{Insn}
 use Rattle.flt_bpf.specs.Valid.{IsValid}
-use Rattle.flt_tree.specs.Tree as tree
+use Rattle.flt_ast.specs.Tree as tree
 use Rattle.cap_octet.specs.declared.link.Link.{Link}
 use Rattle.flt_gen.specs.Correct.{IsProgramOf}
 use Rattle.cap_filter.specs.Expressions.{IsExpression}

@@ -4,12 +4,12 @@ use Rattle.flt_words.specs.declared.fault.ExprFault.{ExprFault}
 use Rattle.flt_words.specs.declared.fault.ExprFault.TheVariants as fault
 use Rattle.flt_words.specs.declared.token.Token.{Token}
 use Rattle.flt_words.specs.Tokens.{Tokens}
-use Rattle.flt_tree.specs.Tree.{Expression}
+use Rattle.flt_ast.specs.Tree.{Expression}
 use Rattle.flt_lang.specs.Grammar.{IsReadAs, kinds_of}
 use Rattle.flt_lang.specs.Nesting.{IsTooDeep}
-use Rattle.flt_tree.specs.Filled.{fill_expression}
-use Rattle.flt_tree.specs.Resolved.{fill_fault}
-use Rattle.flt_tree.specs.Checks.{check_fault}
+use Rattle.flt_ast.specs.Filled.{fill_expression}
+use Rattle.flt_ast.specs.Resolved.{fill_fault}
+use Rattle.flt_ast.specs.Checks.{check_fault}
 
 -- the text has these tokens, and they have this tree
 pub record HasTree (text : List ℕ) (tree : Expression) : Type 0 where

@@ -7,9 +7,9 @@ use Rattle.flt_bpf.specs.Listing.{IsListing}
 use Rattle.flt_bpf.specs.Machine.{machine, Progress, Answered}
 use Rattle.flt_bpf.specs.Refusal as listing
 use Rattle.flt_bpf.specs.Valid.{IsValid, BreaksFirst}
-use Rattle.flt_tree.specs.Tree.{Expression, empty, truth}
+use Rattle.flt_ast.specs.Tree.{Expression, empty, truth}
 use Rattle.cap_octet.specs.declared.link.Link.{Link}
-use Rattle.flt_code.specs.Elementary.{Reading, Yes, No, Rejected}
+use Rattle.flt_emit.specs.Elementary.{Reading, Yes, No, Rejected}
 use Rattle.flt_gen.specs.Reading.{holds}
 use Rattle.cap_filter.specs.declared.refusal.Refusal.{Refusal}
 use Rattle.cap_filter.specs.declared.refusal.Refusal.TheVariants as refusal

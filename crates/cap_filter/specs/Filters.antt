@@ -2,8 +2,8 @@
 use Rattle.std.specs.Prelude.{◌≡◌, ◌==◌, ℕ, List, [], ◌∷◌, All, length, Option, None, Some}
 use Rattle.cap_octet.specs.Packet.{Captured}
 use Rattle.flt_bpf.specs.Content.{Content}
-use Rattle.flt_tree.specs.Counts.{bound_of}
-use Rattle.flt_tree.specs.Tree.{empty, truth}
+use Rattle.flt_ast.specs.Counts.{bound_of}
+use Rattle.flt_ast.specs.Tree.{empty, truth}
 use Rattle.cap_filter.specs.declared.filter.Filter.{Filter}
 use Rattle.cap_filter.specs.declared.filter.Filter.TheVariants as filter
 use Rattle.cap_filter.specs.Programs.{AreMade, ran_if}

@@ -5,7 +5,7 @@ use Rattle.flt_bpf.specs.declared.insn.Insn.{Insn}
 use Rattle.flt_bpf.specs.Content.{Content}
 use Rattle.flt_bpf.specs.Machine.{machine, Progress, Answered}
 use Rattle.flt_bpf.specs.Valid.{IsValid}
-use Rattle.flt_tree.specs.Tree.{Expression}
+use Rattle.flt_ast.specs.Tree.{Expression}
 use Rattle.cap_octet.specs.declared.link.Link.{Link}
 use Rattle.flt_gen.specs.Correct.{IsProgramOf}
 

@@ -19,28 +19,28 @@ use Rattle.cap_octet.specs.Link.{link_of}
 use Rattle.cap_filter.specs.FilterRules.{Rule, rule_decides, read_on, decision_of, answering}
 use Rattle.flt_bpf.specs.Machine as bpf
 use Rattle.flt_bpf.specs.Machine.{machine, Answered}
-use Rattle.flt_tree.specs.Tree.{Expression, empty, truth}
+use Rattle.flt_ast.specs.Tree.{Expression, empty, truth}
 use Rattle.cap_octet.specs.declared.link.Link.{Link}
-use Rattle.flt_code.specs.Elementary.{Reading, Yes, No, Rejected}
+use Rattle.flt_emit.specs.Elementary.{Reading, Yes, No, Rejected}
 use Rattle.flt_gen.specs.Reading.{holds}
-use Rattle.cap_packets.specs.declared.selector.Verdict as code
-use Rattle.cap_packets.specs.declared.selector.Verdict.TheVariants as code_verdict
+use Rattle.cap_process.specs.declared.selector.Verdict as code
+use Rattle.cap_process.specs.declared.selector.Verdict.TheVariants as code_verdict
 use Rattle.cap_tools.specs.declared.step.JobEnd.TheVariants as end
 use Rattle.cap_inputs.specs.declared.inputs.Next.TheVariants as next
-use Rattle.cap_packets.specs.Reports.{Tally}
-use Rattle.cap_packets.specs.inside.Reports.{FitsTally}
+use Rattle.cap_process.specs.Reports.{Tally}
+use Rattle.cap_process.specs.inside.Reports.{FitsTally}
 use Rattle.cap_io.specs.Sequence.{InputItems, Event, Packet, SequenceEnd, Complete, FaultIn, Sequence, sequence_of, with_front, PacketOrder}
-use Rattle.cap_packets.specs.Verdict.{Policy, Edit, Filter, KeepAll, Count, EditRule, SelectorState, Verdict, Pass, PassLast, PassesAs, Skip, Refuse, judge}
+use Rattle.cap_process.specs.Verdict.{Policy, Edit, Filter, KeepAll, Count, EditRule, SelectorState, Verdict, Pass, PassLast, PassesAs, Skip, Refuse, judge}
 use Rattle.cap_window.specs.Marks.{mark_of, has_same}
-use Rattle.cap_packets.specs.Verdict as judged_spec
-use Rattle.cap_packets.specs.Selector.{IsWithin}
-use Rattle.cap_packets.specs.inside.Selector.{PolicyState, GrowsByOne, IsVerdict}
+use Rattle.cap_process.specs.Verdict as judged_spec
+use Rattle.cap_process.specs.Selector.{IsWithin}
+use Rattle.cap_process.specs.inside.Selector.{PolicyState, GrowsByOne, IsVerdict}
 use Rattle.cap_print.specs.declared.print.Options.{Options}
 use Rattle.cap_print.specs.Rendering.{printed_text}
-use Rattle.cap_packets.specs.Outcome.{Form, AsCapture, AsLines, JobProgress, IsNextEvent, lines_text, no_progress, decide, decide_unless, apply_verdict, apply_event, apply_events, final_progress, packet_bytes, form_refuses, end_with, final_text, first_link, output_text}
-use Rattle.cap_packets.specs.Outcome as course_spec
-use Rattle.cap_packets.specs.Output.{JobOutputView, Target, Capture, Text, Lines, HasWritten, form_at, form_to, output_at, written_to, failures_to}
-use Rattle.cap_packets.specs.inside.Output.{PutsIntoOutput}
+use Rattle.cap_process.specs.Outcome.{Form, AsCapture, AsLines, JobProgress, IsNextEvent, lines_text, no_progress, decide, decide_unless, apply_verdict, apply_event, apply_events, final_progress, packet_bytes, form_refuses, end_with, final_text, first_link, output_text}
+use Rattle.cap_process.specs.Outcome as course_spec
+use Rattle.cap_process.specs.Output.{JobOutputView, Target, Capture, Text, Lines, HasWritten, form_at, form_to, output_at, written_to, failures_to}
+use Rattle.cap_process.specs.inside.Output.{PutsIntoOutput}
 use Rattle.cap_inputs.specs.Inputs.{InputView, InputsView, Future, InputPast, AreInputsAfter, AreSettled, IsInput, input_after_decided, inputs_with, items_left, inputs_left, sequence_left}
 use Rattle.cap_inputs.specs.inside.Inputs.{actual_future, most_steps}
 use Rattle.cap_inputs.specs.Inputs as input_spec
@@ -49,11 +49,11 @@ use Rattle.cap_tools.specs.inside.Packets.{DecidesPacket, Offers, end_of_failed_
 use Rattle.cap_tools.proofs.Places.{get-at}
 use Rattle.cap_tools.proofs.Splits.{At, stands-split, stands-join, stands-length, rests-join, finish-here, come-on}
 use Rattle.cap_tools.proofs.Coming.{carries-decided, come-first, true-wholes, true-fit, true-fits}
-use Rattle.cap_packets.proofs.Outputs.{drained-text, PutOk, put-ok, WhyUnput, lines-more, unput, closing-some}
-use Rattle.cap_packets.proofs.Growing.{Grows, course-grows}
+use Rattle.cap_process.proofs.Outputs.{drained-text, PutOk, put-ok, WhyUnput, lines-more, unput, closing-some}
+use Rattle.cap_process.proofs.Growing.{Grows, course-grows}
 use Rattle.cap_tools.proofs.Laws.{DecideLaws, DecideAt, decide-at}
 use Rattle.cap_tools.proofs.Once.{once-nothing, once-packet}
-use Rattle.cap_packets.proofs.Outcomes.{progress-next, course-stop}
+use Rattle.cap_process.proofs.Outcomes.{progress-next, course-stop}
 use Rattle.cap_inputs.proofs.Cursors.{greatest-decided, greatest-here, limits-at, set-here}
 use Rattle.cap_tools.proofs.Fetches.{mk, among-same, comes-broken, inputs_at}
 

@@ -17,18 +17,18 @@ use Rattle.flt_bpf.specs.Listing.{listing}
 use Rattle.cap_tools.proofs.Compilations.{CompileLeaves}
 use Rattle.cap_filter.specs.declared.refusal.Refusal.{Refusal}
 use Rattle.cap_filter.specs.declared.refusal.Refusal.TheVariants as refusal
-use Rattle.cap_packets.specs.Messages.{fault_message, refusal_message, write_failed_message}
+use Rattle.cap_process.specs.Messages.{fault_message, refusal_message, write_failed_message}
 use Rattle.cap_filter.specs.Refusals.{refusal_status}
 use Rattle.cap_octet.specs.Views.{OutputView, output_view}
-use Rattle.cap_packets.specs.Messages.{IsTold}
+use Rattle.cap_process.specs.Messages.{IsTold}
 use Rattle.cap_tools.specs.Listing.{Runs}
 use Rattle.cap_octet.specs.Views.{FreshInput}
 use Rattle.cap_inputs.specs.Fresh.{fresh_view, nothing_done}
 use Rattle.cap_inputs.specs.inside.Fresh.{fresh_limits}
 use Rattle.cap_inputs.specs.Inputs.{DeviceLimits, InputView, InputsView, InputPast, input_after, device_limits, limits_of, offset_at}
 use Rattle.cap_io.specs.Sequence.{InputItems, Event, Packet, InputEnd, SequenceEnd, Complete, FaultIn, PacketOrder, InTurn, ByTime, whole_input}
-use Rattle.cap_packets.specs.declared.output.Writing.{Writing}
-use Rattle.cap_packets.specs.declared.output.Writing.TheVariants as writing
+use Rattle.cap_process.specs.declared.output.Writing.{Writing}
+use Rattle.cap_process.specs.declared.output.Writing.TheVariants as writing
 use Rattle.cap_command.specs.Call.{Call, RunResult}
 use Rattle.cap_tools.proofs.CommandRuns.{RunsBy}
 use Rattle.cap_tools.proofs.Runs.{JobRuns}
@@ -38,19 +38,19 @@ use Rattle.cap_tools.specs.declared.step.JobEnd.{JobEnd}
 use Rattle.cap_tools.specs.declared.step.JobEnd.TheVariants as end
 use Rattle.cap_io.specs.Source.{SourceView}
 use Rattle.cap_tools.specs.Packets.{JobState, PacketsDecided, CompletesOutput, EndLeaves, EndsByCut, NextPacket, NextReport, NextClosing, StopsWriting, WantsMemory, asks_report, failures_by, output_form, progress_of, texts, wholes_of, work_of, written_by}
-use Rattle.cap_packets.specs.Outcome.{Form, Outcome, JobProgress, Work, IsNextEvent, apply_event, apply_verdict, closing_text, end_input, cut_at, decide, decide_unless, first_link, form_refuses, form_takes_memory, message, outcome, packet_bytes, job_progress_after, report_bytes, status, text_after, text_of_progress}
-use Rattle.cap_packets.specs.Output.{failures_to, form_to, target_at, written_to}
-use Rattle.cap_packets.specs.Reports.{name_at}
+use Rattle.cap_process.specs.Outcome.{Form, Outcome, JobProgress, Work, IsNextEvent, apply_event, apply_verdict, closing_text, end_input, cut_at, decide, decide_unless, first_link, form_refuses, form_takes_memory, message, outcome, packet_bytes, job_progress_after, report_bytes, status, text_after, text_of_progress}
+use Rattle.cap_process.specs.Output.{failures_to, form_to, target_at, written_to}
+use Rattle.cap_process.specs.Reports.{name_at}
 use Rattle.cap_tools.specs.Run.{CommandRuns, HasCutInput, HasLackedMemory, HasLeft, HasLostOutput, IsNextAnswer, IsPolicy, IsWhyRefused, IsWork, by_end, by_event, ends, form_asked, input_cut, listing_answer, listing_outcome, next_judgement, no_memory, of_listing, of_packets, of_refusal, output_failed, packets_answer, refusal_outcome, whole_inputs}
 use Rattle.cap_tools.specs.Start.{Assignment, Preparing, ReadsFilter, Compiles}
 use Rattle.cap_filter.specs.FilterRules.{Rule}
 use Rattle.flt_bpf.specs.Content.{Content}
 use Rattle.cap_io.specs.declared.source.Kind.{Kind}
-use Rattle.cap_packets.specs.Verdict.{Policy, Edit, Filter, KeepAll, Count, SelectorState, Verdict, Pass, PassLast, PassesAs, Skip, Refuse, judge}
+use Rattle.cap_process.specs.Verdict.{Policy, Edit, Filter, KeepAll, Count, SelectorState, Verdict, Pass, PassLast, PassesAs, Skip, Refuse, judge}
 use Rattle.cap_tools.proofs.Ends.{offset-here, same-work}
 use Rattle.cap_tools.proofs.Once.{packet-more, report-more}
-use Rattle.cap_packets.proofs.Outcomes.{progress-next}
-use Rattle.cap_packets.proofs.Outputs.{drained-text}
+use Rattle.cap_process.proofs.Outcomes.{progress-next}
+use Rattle.cap_process.proofs.Outputs.{drained-text}
 
 -- ---- the first view, by its call
 

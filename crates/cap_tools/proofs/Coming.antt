@@ -12,7 +12,7 @@ use Rattle.cap_io.specs.Sequence.{InputItems, Event, Packet, InputEnd, FaultIn, 
 use Rattle.cap_inputs.specs.Inputs.{InputView, InputsView, Future, InputPast, AreInputsAfter, AreFutures, AreSettled, waiting_packets, packets_at, input_items, inputs_with, items_left, inputs_left, sequence_left, no_future, input_after, input_after_decided}
 use Rattle.cap_inputs.specs.inside.Inputs.{actual_future}
 use Rattle.cap_tools.specs.Packets.{wholes_of}
-use Rattle.cap_packets.specs.Outcome.{ComeFirst}
+use Rattle.cap_process.specs.Outcome.{ComeFirst}
 use Rattle.cap_tools.proofs.Splits.{At, Fit, Carries}
 
 drop-front : (rs qs : List InputItems) (r : InputItems) (n : ℕ) → length rs ≡ n → drop n (rs ++ r ∷ qs) ≡ r ∷ qs

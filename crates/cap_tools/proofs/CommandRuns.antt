@@ -1,11 +1,11 @@
 -- All steps of a command's job.
 use Rattle.std.proofs.Common.{◌≡◌, ◌⊎◌, inl, inr, ℕ, List, [], Bool, IsTrue, Option, None, Some, refl, sym, ◌∙◌, ap, subst}
-use Rattle.cap_packets.specs.Messages.{refusal_message}
+use Rattle.cap_process.specs.Messages.{refusal_message}
 use Rattle.flt_bpf.specs.Content.{Content}
 use Rattle.cap_filter.specs.FilterRules.{Rule, IsRule, IsWhy}
 use Rattle.cap_filter.specs.Filters.{AreNew}
 use Rattle.cap_octet.specs.Views.{OutputView, output_view}
-use Rattle.cap_packets.specs.Messages.{IsTold}
+use Rattle.cap_process.specs.Messages.{IsTold}
 use Rattle.cap_tools.specs.Listing.{Runs}
 use Rattle.cap_tools.proofs.Compilations.{CompileLeaves}
 use Rattle.cap_tools.specs.Listing.{ListingLeaves}

@@ -3,10 +3,10 @@ use Rattle.std.proofs.Common.{◌≡◌, inl, inr, ℕ, ◌+◌, ◌≤◌, Bool
 use Rattle.std.proofs.lemmas.List.{append-nil}
 use Rattle.cap_octet.specs.declared.device.Stopped.{Stopped}
 use Rattle.flt_bpf.specs.Listing.{listing}
-use Rattle.cap_packets.specs.Messages.{write_failed_message}
-use Rattle.cap_packets.specs.Output.{Target, Capture, Text, Lines, output_at, target_at, written_to, failures_to}
-use Rattle.cap_packets.specs.inside.Output.{ListsText}
-use Rattle.cap_packets.specs.Reports.{name_at, nothing_counted}
+use Rattle.cap_process.specs.Messages.{write_failed_message}
+use Rattle.cap_process.specs.Output.{Target, Capture, Text, Lines, output_at, target_at, written_to, failures_to}
+use Rattle.cap_process.specs.inside.Output.{ListsText}
+use Rattle.cap_process.specs.Reports.{name_at, nothing_counted}
 use Rattle.cap_tools.specs.Packets.{JobState, written_by}
 use Rattle.cap_tools.specs.Messages.{MessagesView}
 use Rattle.std.proofs.lemmas.Bool.{and_parts, eqb-true, leb-true}
@@ -16,15 +16,15 @@ use Rattle.cap_command.specs.declared.command.Command.TheVariants as command
 use Rattle.cap_filter.specs.Compilation.{IsCompiled}
 use Rattle.cap_tools.specs.Listing.{ListingLeaves}
 use Rattle.cap_octet.specs.Views.{OutputView}
-use Rattle.cap_packets.specs.Messages.{IsTold}
+use Rattle.cap_process.specs.Messages.{IsTold}
 use Rattle.cap_tools.specs.Listing.{Runs}
 use Rattle.flt_bpf.specs.declared.insn.Insn.{Insn}
 use Rattle.cap_octet.specs.declared.link.Link.{Link}
 use Rattle.cap_tools.specs.declared.job.Turn.{Turn}
 use Rattle.cap_tools.specs.declared.job.Turn.TheVariants as turn
-use Rattle.cap_packets.specs.declared.output.Writing.TheVariants as writing
+use Rattle.cap_process.specs.declared.output.Writing.TheVariants as writing
 use Rattle.cap_io.specs.Sequence.{InTurn}
-use Rattle.cap_packets.specs.Verdict.{Count, KeepAll}
+use Rattle.cap_process.specs.Verdict.{Count, KeepAll}
 use Rattle.cap_command.specs.Call.{Call, RunResult}
 use Rattle.cap_tools.specs.Jobs.{JobView, first_job, state_at, end_message}
 use Rattle.cap_inputs.specs.Fresh.{fresh_inputs, nothing_done}
@@ -35,7 +35,7 @@ use Rattle.cap_tools.specs.FirstStep.{output_by}
 use Rattle.cap_tools.specs.inside.FirstStep.{EndsList, is_text}
 use Rattle.cap_tools.specs.inside.Step.{ending}
 use Rattle.cap_tools.specs.Start.{Assignment, FilterAsked, Preparing, assignment}
-use Rattle.cap_packets.specs.Selector.{SelectorView, state_with}
+use Rattle.cap_process.specs.Selector.{SelectorView, state_with}
 use Rattle.cap_tools.specs.Commands.{CompileGives, DecidedBy, FilterGives, PreparesOnly, StepKeeps, preparing_left}
 use Rattle.cap_tools.specs.inside.Commands.{IsReadyIf, KeepsFirst}
 use Rattle.cap_tools.proofs.CommandRuns.{RunsBy, RunsCommand}

@@ -8,7 +8,7 @@ use Rattle.cap_filter.specs.declared.refusal.Refusal.TheVariants.{Expression}
 use Rattle.cap_filter.specs.Compilation.{IsCompiled}
 use Rattle.cap_filter.specs.Expressions.{IsTextFault}
 use Rattle.cap_filter.specs.Refusals.{refusal_status}
-use Rattle.cap_packets.specs.Messages.{refusal_message}
+use Rattle.cap_process.specs.Messages.{refusal_message}
 use Rattle.cap_tools.specs.Listing.{ListingLeaves}
 
 -- The output is as it was, and this is reported.

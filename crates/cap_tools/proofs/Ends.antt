@@ -2,12 +2,12 @@
 use Rattle.std.proofs.Common.{◌≡◌, ℕ, List, [], ◌∷◌, ◌++◌, length, Some, Bool, IsTrue, refl, sym, ◌∙◌, ap, subst}
 use Rattle.std.specs.List.{slice_get}
 use Rattle.cap_octet.specs.Views.{OutputView}
-use Rattle.cap_packets.specs.Messages.{IsTold}
+use Rattle.cap_process.specs.Messages.{IsTold}
 use Rattle.cap_tools.specs.declared.step.JobEnd.{JobEnd}
 use Rattle.cap_tools.specs.declared.step.JobEnd.TheVariants as end
 use Rattle.cap_io.specs.Sequence.{PacketOrder}
-use Rattle.cap_packets.specs.Verdict.{Policy}
-use Rattle.cap_packets.specs.Outcome.{Form}
+use Rattle.cap_process.specs.Verdict.{Policy}
+use Rattle.cap_process.specs.Outcome.{Form}
 use Rattle.cap_inputs.specs.Inputs.{InputView, InputPast}
 use Rattle.cap_tools.specs.Packets.{JobState, StepGives, output_form, work_of}
 use Rattle.cap_tools.specs.Jobs.{JobView, EndsJob, end_message, end_status}

@@ -13,28 +13,28 @@ use Rattle.cap_io.specs.Position.{IsAt}
 use Rattle.cap_io.proofs.Standing.{IsAt-found, IsAt-closed, IsAt-fault}
 use Rattle.cap_inputs.specs.declared.inputs.Next.TheVariants as next
 use Rattle.cap_tools.specs.declared.step.JobEnd.{JobEnd}
-use Rattle.cap_packets.specs.Reports.{Report, Tally}
+use Rattle.cap_process.specs.Reports.{Report, Tally}
 use Rattle.cap_io.specs.Sequence.{InputItems, Event, FaultIn, PacketOrder, InTurn, ByTime, Sequence, sequence_of, with_front, whole_input}
-use Rattle.cap_packets.specs.Verdict.{Policy, Edit, Filter, KeepAll, Count, SelectorState}
-use Rattle.cap_packets.specs.inside.Selector as selecting_inside
-use Rattle.cap_packets.specs.Selector.{IsWithin, is_count}
-use Rattle.cap_packets.specs.inside.Selector.{PolicyState, with_empty_tally}
-use Rattle.cap_packets.specs.Outcome.{Form, AsReports, JobProgress, cut_at, no_progress, apply_events, final_progress, end_with, final_text, output_text, text_at_end, first_link}
-use Rattle.cap_packets.specs.Output.{JobOutputView, Target, Capture, Text, Lines, HasWritten, form_at, written_to, failures_to}
-use Rattle.cap_packets.specs.inside.Output.{Reports}
+use Rattle.cap_process.specs.Verdict.{Policy, Edit, Filter, KeepAll, Count, SelectorState}
+use Rattle.cap_process.specs.inside.Selector as selecting_inside
+use Rattle.cap_process.specs.Selector.{IsWithin, is_count}
+use Rattle.cap_process.specs.inside.Selector.{PolicyState, with_empty_tally}
+use Rattle.cap_process.specs.Outcome.{Form, AsReports, JobProgress, cut_at, no_progress, apply_events, final_progress, end_with, final_text, output_text, text_at_end, first_link}
+use Rattle.cap_process.specs.Output.{JobOutputView, Target, Capture, Text, Lines, HasWritten, form_at, written_to, failures_to}
+use Rattle.cap_process.specs.inside.Output.{Reports}
 use Rattle.cap_inputs.specs.Inputs.{InputView, InputsView, Future, InputPast, AreInputsAfter, AreSettled, IsInput, ReadsInput, IsNext, waiting_packets, input_after, input_items, inputs_with, inputs_left, limits_of, sequence_left}
 use Rattle.cap_inputs.specs.inside.Inputs.{actual_future, is_in_turn}
-use Rattle.cap_packets.specs.Reports.{report_text, reports_text}
+use Rattle.cap_process.specs.Reports.{report_text, reports_text}
 use Rattle.cap_tools.specs.Packets.{JobState, AppendsOnce, PacketsDecided, GoesOn, CompletesOutput, BreaksAt, WhyBroken, StopsWriting, StepLeaves, asks_report, report_at, progress_at, progress_of, progress_over, output_form, failures_by, written_by, wholes_of}
 use Rattle.cap_tools.specs.inside.Packets.{Closes, ClosesBy, unless_failed, sieve}
 use Rattle.cap_tools.proofs.Places.{get-at}
 use Rattle.cap_tools.proofs.Splits.{At, Fit, stands-split, stands-join, stands-length, fits-join, wholes-join, rests-join, finish-here, come-on}
 use Rattle.cap_tools.proofs.Coming.{carries-found, carries-closed, come-first, true-wholes, true-fits, finds}
-use Rattle.cap_packets.proofs.Outputs.{drained-text, ReportOk, report-ok, reports-more}
-use Rattle.cap_packets.proofs.Growing.{Grows, course-grows}
+use Rattle.cap_process.proofs.Outputs.{drained-text, ReportOk, report-ok, reports-more}
+use Rattle.cap_process.proofs.Growing.{Grows, course-grows}
 use Rattle.cap_tools.proofs.Laws.{ReadLaws, ReadAt, closed_in, read-at}
 use Rattle.cap_tools.proofs.Once.{once-nothing, once-report}
-use Rattle.cap_packets.proofs.Outcomes.{progress-append, course-close}
+use Rattle.cap_process.proofs.Outcomes.{progress-append, course-close}
 use Rattle.cap_inputs.proofs.Cursors.{greatest-here, greatest-same, limits-at, limits-kept, set-here}
 
 abbrev pub inputs_at : PacketOrder → List InputView → InputsView

@@ -12,19 +12,19 @@ use Rattle.cap_io.specs.Text.{file_start, text}
 use Rattle.cap_io.specs.Source.{Ended}
 use Rattle.cap_io.proofs.Texts.{finish-none, finish-none-writes, finish-some}
 use Rattle.cap_inputs.specs.declared.inputs.Next.TheVariants as next
-use Rattle.cap_packets.specs.Reports.{Report}
+use Rattle.cap_process.specs.Reports.{Report}
 use Rattle.cap_io.specs.Sequence.{Event, InputItems, Complete, sequence_of, with_front, PacketOrder}
-use Rattle.cap_packets.specs.Verdict.{Policy, SelectorState}
-use Rattle.cap_packets.specs.Outcome.{Form, AsCapture, JobProgress, closing_text, final_progress, lines_text, end_with, final_text, first_link}
-use Rattle.cap_packets.specs.Output.{JobOutputView, Target, Capture, Text, Lines, HasWrittenTo, form_at, form_to, written_to, failures_to}
-use Rattle.cap_packets.specs.inside.Output.{EndsOutput}
+use Rattle.cap_process.specs.Verdict.{Policy, SelectorState}
+use Rattle.cap_process.specs.Outcome.{Form, AsCapture, JobProgress, closing_text, final_progress, lines_text, end_with, final_text, first_link}
+use Rattle.cap_process.specs.Output.{JobOutputView, Target, Capture, Text, Lines, HasWrittenTo, form_at, form_to, written_to, failures_to}
+use Rattle.cap_process.specs.inside.Output.{EndsOutput}
 use Rattle.cap_inputs.specs.Inputs.{InputView, Future, InputPast, AreInputsAfter, IsNext, AllEnded}
 use Rattle.cap_inputs.specs.inside.Inputs.{actual_future, first_declared_link}
-use Rattle.cap_packets.specs.Reports.{reports_text}
+use Rattle.cap_process.specs.Reports.{reports_text}
 use Rattle.cap_tools.specs.Packets.{JobState, PacketsDecided, CompletesOutput, StopsWriting, progress_at, progress_of, progress_over, wholes_of}
 use Rattle.cap_tools.proofs.Splits.{At}
 use Rattle.cap_tools.proofs.Coming.{true-whole, true-wholes, true-fit, true-fits}
-use Rattle.cap_packets.proofs.Outcomes.{course-close}
+use Rattle.cap_process.proofs.Outcomes.{course-close}
 use Rattle.cap_tools.proofs.Laws.{OverAt, over-at}
 use Rattle.cap_tools.proofs.Fetches.{mk, inputs_at}
 use Rattle.cap_tools.proofs.Once.{once-closing}

@@ -1,7 +1,7 @@
 -- The current packet of the input whose turn it is.
 use Rattle.std.proofs.Common.{◌≡◌, ℕ, ◌+◌, ◌≤◌, Option, None, Some, refl}
 use Rattle.cap_octet.specs.Packet.{Captured}
-use Rattle.cap_packets.specs.Selector.{SelectorView, most_spent, spent_by_verdict}
+use Rattle.cap_process.specs.Selector.{SelectorView, most_spent, spent_by_verdict}
 use Rattle.cap_filter.specs.Programs.{spent_in}
 use Rattle.cap_tools.specs.inside.Packets.{Spends}
 

@@ -8,8 +8,8 @@ use Rattle.cap_io.specs.Position.{IsAt}
 use Rattle.cap_io.specs.Source.{Phase, Reading, Ended, Failed}
 use Rattle.cap_inputs.specs.declared.inputs.Next.TheVariants as next
 use Rattle.cap_io.specs.Sequence.{InputItems, Event, Packet, InputEnd, SequenceEnd, Complete, FaultIn, PacketOrder, InTurn, ByTime, with_front, sequence_in_turn, sequence_by_time, fault_without_packets, sequence_of_entries, sort_entries, all_entries, unless_fault}
-use Rattle.cap_packets.specs.Verdict.{Policy}
-use Rattle.cap_packets.specs.Outcome.{Form, JobProgress, apply_events, end_input, unless_ended}
+use Rattle.cap_process.specs.Verdict.{Policy}
+use Rattle.cap_process.specs.Outcome.{Form, JobProgress, apply_events, end_input, unless_ended}
 use Rattle.cap_inputs.specs.Inputs.{InputView, InputPast, Future, AreFutures, AreInputsAfter, AllEnded, AllReady, IsInput, IsNextIn, IsOpen, IsReady, KeysOver, KeysFrom, NoneEnded, NoneWaits, ended_count, input_after_decided, items_left, inputs_left, key_of, one_more_if_ended, sequence_left, packet_time}
 use Rattle.cap_tools.proofs.Splits.{At, Fit, fits-join, rests-join, rests-length}
 use Rattle.cap_tools.proofs.Coming.{from_turn, left-decided, turn-closes, turn-broken}

@@ -5,11 +5,11 @@ use Rattle.cap_octet.specs.Packet.{Captured}
 use Rattle.cap_io.proofs.Texts.{text-more}
 use Rattle.cap_io.specs.Text.{added_text, text}
 use Rattle.cap_io.specs.Sequence.{Complete}
-use Rattle.cap_packets.specs.Reports.{Report, report_text, reports_text}
-use Rattle.cap_packets.specs.Outcome.{Form, AsCapture, AsReports, AsLines, JobProgress, closing_text, packet_bytes, report_bytes, output_text}
-use Rattle.cap_packets.specs.Output.{JobOutputView, HasWritten, form_at, written_to}
+use Rattle.cap_process.specs.Reports.{Report, report_text, reports_text}
+use Rattle.cap_process.specs.Outcome.{Form, AsCapture, AsReports, AsLines, JobProgress, closing_text, packet_bytes, report_bytes, output_text}
+use Rattle.cap_process.specs.Output.{JobOutputView, HasWritten, form_at, written_to}
 use Rattle.cap_tools.specs.Packets.{AppendsOnce, nothing, packet, report, closes}
-use Rattle.cap_packets.proofs.Outputs.{drained-text, lines-one, reports-more}
+use Rattle.cap_process.proofs.Outputs.{drained-text, lines-one, reports-more}
 
 pub once-nothing : (link : Option ℕ) (far next : JobProgress) (old new : JobOutputView) → next.packets ≡ far.packets → next.reports ≡ far.reports → written_to new.target ≡ written_to old.target → AppendsOnce link far next old new
 once-nothing link far next old new packets reports same = record {

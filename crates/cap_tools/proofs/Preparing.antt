@@ -3,7 +3,7 @@ use Rattle.std.proofs.Common.{◌≡◌, ◌+◌, true, false, Option, None, Som
 use Rattle.std.specs.List.{All}
 use Rattle.std.specs.Option.{is_some, option_map}
 use Rattle.flt_bpf.specs.Content.{Content}
-use Rattle.flt_tree.specs.Tree.{empty, truth}
+use Rattle.flt_ast.specs.Tree.{empty, truth}
 use Rattle.cap_filter.specs.FilterRules.{Rule, by_reading, by_answer}
 use Rattle.cap_filter.specs.Filters.{AreNew}
 use Rattle.cap_tools.specs.declared.start.Preparation.{Preparation}

@@ -3,14 +3,14 @@ use Rattle.std.proofs.Common.{◌≡◌, ℕ, zero, suc, List, [], ◌∷◌, ma
 use Rattle.cap_octet.specs.Packet.{Captured}
 use Rattle.flt_bpf.specs.declared.insn.Insn.{Insn}
 use Rattle.flt_bpf.specs.Content.{Content}
-use Rattle.flt_tree.specs.Tree.{Expression, empty, truth}
+use Rattle.flt_ast.specs.Tree.{Expression, empty, truth}
 use Rattle.cap_octet.specs.declared.link.Link.{Link}
 use Rattle.cap_octet.specs.Link.{all_links}
 use Rattle.cap_filter.specs.Programs.{AreMade, ran_at, ran_if}
 use Rattle.cap_filter.specs.FilterRules.{Rule, by_reading, by_answer}
 use Rattle.cap_filter.specs.Filters.{AreNew, place_by, spent_on}
-use Rattle.cap_packets.specs.Verdict.{Policy, Edit, Filter, KeepAll, Count, is_too_many}
-use Rattle.cap_packets.specs.Selector.{AreFor, HavePrograms, SelectorView, spent_by, spent_by_verdict}
+use Rattle.cap_process.specs.Verdict.{Policy, Edit, Filter, KeepAll, Count, is_too_many}
+use Rattle.cap_process.specs.Selector.{AreFor, HavePrograms, SelectorView, spent_by, spent_by_verdict}
 use Rattle.cap_tools.specs.inside.Packets.{Spends}
 
 -- a run leaves a program's instructions

@@ -1,7 +1,7 @@
 -- Many steps.
 use Rattle.std.proofs.Common.{◌≡◌, ℕ, Bool, zero, suc, List, [], ◌∷◌, refl, ◌∙◌, ap}
 use Rattle.cap_io.specs.Capture.{Placed}
-use Rattle.cap_packets.specs.Messages.{IsTold}
+use Rattle.cap_process.specs.Messages.{IsTold}
 use Rattle.cap_inputs.specs.Inputs.{InputPast, device_limits}
 use Rattle.cap_command.specs.Call.{RunResult}
 use Rattle.cap_tools.specs.declared.step.JobEnd.{JobEnd}

@@ -1,18 +1,18 @@
 -- A job of which nothing is done.
 use Rattle.cap_command.specs.Command.{most_inputs}
 use Rattle.std.proofs.Common.{◌≡◌, ℕ, suc, ◌+◌, ◌*◌, ◌^◌, ◌<◌, ◌≤◌, List, [], ◌∷◌, map, drop, length, refl, sym, ◌∙◌, ap, arith}
-use Rattle.cap_packets.specs.declared.output.Writing.{Writing}
-use Rattle.cap_packets.specs.declared.output.Writing.TheVariants as writing
-use Rattle.cap_packets.specs.Output.{HasWrittenTo, target_at}
-use Rattle.cap_packets.specs.Reports.{nothing_counted}
+use Rattle.cap_process.specs.declared.output.Writing.{Writing}
+use Rattle.cap_process.specs.declared.output.Writing.TheVariants as writing
+use Rattle.cap_process.specs.Output.{HasWrittenTo, target_at}
+use Rattle.cap_process.specs.Reports.{nothing_counted}
 use Rattle.std.proofs.lemmas.List.{append-nil}
 use Rattle.cap_io.proofs.Standing.{IsAt-start}
 use Rattle.cap_io.proofs.Texts.{HasPackets-none}
 use Rattle.cap_io.specs.Sequence.{InputItems, sequence_in_turn, sequence_by_time, PacketOrder, InTurn, ByTime}
-use Rattle.cap_packets.specs.Verdict.{Policy}
+use Rattle.cap_process.specs.Verdict.{Policy}
 use Rattle.cap_octet.specs.Views.{FreshInput}
 use Rattle.cap_inputs.specs.Fresh.{fresh_view, nothing_done, fresh_inputs}
-use Rattle.cap_packets.specs.Selector.{state_with}
+use Rattle.cap_process.specs.Selector.{state_with}
 use Rattle.cap_inputs.specs.Inputs.{Future, AreInputsAfter, KnowGreatest, AreFutures, AreSettled, ended_count, inputs_with, inputs_left, input_items, steps_left_in, steps_left}
 use Rattle.cap_inputs.specs.inside.Inputs.{most_steps}
 use Rattle.cap_tools.specs.Bounds.{reads_of, most_turns}

@@ -6,11 +6,11 @@ use Rattle.cap_octet.specs.declared.fault.Fault.{Fault}
 use Rattle.cap_io.specs.Capture.{Declared, Nothing, PcapFile, PcapngFile}
 use Rattle.cap_io.specs.Reading.{most_in_unit}
 use Rattle.cap_io.specs.Source.{SourceView, Phase, Reading, Ended, Failed, SectionFits, Steps}
-use Rattle.cap_packets.specs.declared.output.Writing.{Writing}
-use Rattle.cap_packets.specs.declared.output.Writing.TheVariants as writing
-use Rattle.cap_packets.specs.Output.{HasFewOutputInterfaces, Target, Capture, Text, Lines, target_at}
+use Rattle.cap_process.specs.declared.output.Writing.{Writing}
+use Rattle.cap_process.specs.declared.output.Writing.TheVariants as writing
+use Rattle.cap_process.specs.Output.{HasFewOutputInterfaces, Target, Capture, Text, Lines, target_at}
 use Rattle.cap_inputs.specs.Inputs.{InputView, InputsView, IsInput, ReadSteps, MarksDecided, input_after, input_after_decided}
-use Rattle.cap_packets.specs.inside.Selector.{HasFewMarks}
+use Rattle.cap_process.specs.inside.Selector.{HasFewMarks}
 use Rattle.cap_octet.specs.Views.{FreshInput}
 use Rattle.cap_inputs.specs.Fresh.{fresh_view}
 use Rattle.cap_tools.specs.Packets.{JobState}

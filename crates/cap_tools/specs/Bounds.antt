@@ -7,12 +7,12 @@ use Rattle.cap_io.specs.Capture.{Declared, Nothing, PcapFile, PcapngFile}
 use Rattle.cap_io.specs.Reading.{most_in_unit}
 use Rattle.cap_io.specs.Source.{SectionFits, end_offset}
 use Rattle.cap_io.specs.Text.{most_output_interfaces}
-use Rattle.cap_packets.specs.Output.{Target, Capture, Text, Lines, HasFewOutputInterfaces}
+use Rattle.cap_process.specs.Output.{Target, Capture, Text, Lines, HasFewOutputInterfaces}
 use Rattle.cap_inputs.specs.declared.inputs.Next.TheVariants as next
 use Rattle.cap_inputs.specs.Inputs.{InputView, InputsView, IsNext, ReadsInput, ReadSteps, MarksDecided, is_clean_end}
 use Rattle.cap_octet.specs.Packet.{Captured}
 use Rattle.cap_filter.specs.Programs.{spent_in}
-use Rattle.cap_packets.specs.Selector.{most_spent, places, spent_by_verdict, window_of}
+use Rattle.cap_process.specs.Selector.{most_spent, places, spent_by_verdict, window_of}
 use Rattle.cap_tools.specs.Packets.{JobState, asks_report}
 use Rattle.cap_tools.specs.Jobs.{JobView}
 

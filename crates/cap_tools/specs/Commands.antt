@@ -14,7 +14,7 @@ use Rattle.cap_filter.specs.Programs.{spent_in}
 use Rattle.cap_tools.specs.declared.job.Turn.{Turn}
 use Rattle.cap_tools.specs.declared.job.Turn.TheVariants as turn
 use Rattle.cap_tools.specs.Start.{FilterAsked, Preparing, ReadsFilter, Compiles}
-use Rattle.cap_packets.specs.Selector.{HavePrograms}
+use Rattle.cap_process.specs.Selector.{HavePrograms}
 use Rattle.cap_inputs.specs.Inputs.{InputPast, steps_left}
 use Rattle.cap_tools.specs.Bounds.{IsLight, StepReads, most_turns}
 use Rattle.cap_tools.specs.Jobs.{JobView, Decided, IsStatus, done_by}

@@ -4,15 +4,15 @@ use Rattle.flt_bpf.specs.declared.insn.Insn.{Insn}
 use Rattle.flt_bpf.specs.Content.{Content}
 use Rattle.cap_filter.specs.declared.refusal.Refusal.{Refusal}
 use Rattle.cap_tools.specs.Listing.{ListingLeaves}
-use Rattle.cap_packets.specs.Messages.{refusal_message}
+use Rattle.cap_process.specs.Messages.{refusal_message}
 use Rattle.cap_filter.specs.Refusals.{refusal_status}
 use Rattle.cap_filter.specs.FilterRules.{Rule}
 use Rattle.cap_octet.specs.Views.{OutputView, output_view}
-use Rattle.cap_packets.specs.Messages.{IsTold}
+use Rattle.cap_process.specs.Messages.{IsTold}
 use Rattle.cap_tools.specs.Listing.{Runs}
-use Rattle.cap_packets.specs.Verdict.{Policy, Filter}
-use Rattle.cap_packets.specs.Selector.{state_with}
-use Rattle.cap_packets.specs.Reports.{name_at, nothing_counted}
+use Rattle.cap_process.specs.Verdict.{Policy, Filter}
+use Rattle.cap_process.specs.Selector.{state_with}
+use Rattle.cap_process.specs.Reports.{name_at, nothing_counted}
 use Rattle.cap_tools.specs.Packets.{JobState, written_by, failures_by}
 use Rattle.cap_tools.specs.Jobs.{JobView}
 

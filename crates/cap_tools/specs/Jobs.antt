@@ -1,16 +1,16 @@
 -- What a contract sees of a whole job, with its messages, and how it ends.
 use Rattle.std.specs.Prelude.{◌≡◌, ℕ, ◌≤◌, Bool, true, false, List, [], length, Option, None, Some}
-use Rattle.cap_packets.specs.Messages.{fault_message, write_failed_message}
+use Rattle.cap_process.specs.Messages.{fault_message, write_failed_message}
 use Rattle.cap_octet.specs.Views.{OutputView}
-use Rattle.cap_packets.specs.Messages.{IsTold}
+use Rattle.cap_process.specs.Messages.{IsTold}
 use Rattle.cap_tools.specs.declared.step.JobEnd.{JobEnd}
 use Rattle.cap_tools.specs.declared.step.JobEnd.TheVariants as end
 use Rattle.cap_tools.specs.declared.job.Turn.{Turn}
 use Rattle.cap_tools.specs.declared.job.Turn.TheVariants as turn
-use Rattle.cap_packets.specs.Output.{JobOutputView, target_at}
+use Rattle.cap_process.specs.Output.{JobOutputView, target_at}
 use Rattle.cap_tools.specs.Start.{Assignment, Preparing}
-use Rattle.cap_packets.specs.Selector.{HavePrograms, SelectorView, state_with}
-use Rattle.cap_packets.specs.Reports.{name_at, nothing_counted}
+use Rattle.cap_process.specs.Selector.{HavePrograms, SelectorView, state_with}
+use Rattle.cap_process.specs.Reports.{name_at, nothing_counted}
 use Rattle.cap_inputs.specs.Inputs.{InputView, InputsView, InputPast, offset_at}
 use Rattle.cap_inputs.specs.Fresh.{fresh_inputs}
 use Rattle.cap_command.specs.Call.{Call}

@@ -3,7 +3,7 @@ use Rattle.std.specs.Prelude.{◌≡◌, ◌⊎◌, ℕ, ◌+◌, ◌<◌, Bool,
 use Rattle.flt_bpf.specs.declared.insn.Insn.{Insn}
 use Rattle.flt_bpf.specs.Listing.{listing}
 use Rattle.cap_octet.specs.Views.{OutputView}
-use Rattle.cap_packets.specs.Messages.{IsTold, write_failed_message}
+use Rattle.cap_process.specs.Messages.{IsTold, write_failed_message}
 
 -- what a run leaves that ends by some message, `tells` being whether the messages' device tells its
 -- bytes

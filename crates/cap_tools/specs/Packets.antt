@@ -11,12 +11,12 @@ use Rattle.cap_io.specs.Position.{IsCutShort, MemoryEndsAt, ReadFailsAt}
 use Rattle.cap_inputs.specs.declared.inputs.Next.TheVariants as next
 use Rattle.cap_tools.specs.declared.step.JobEnd.{JobEnd}
 use Rattle.cap_tools.specs.declared.step.JobEnd.TheVariants as end
-use Rattle.cap_packets.specs.Reports.{Report, Tally}
-use Rattle.cap_packets.specs.Output.{JobOutputView, HasWritten, form_at, written_to, failures_to}
+use Rattle.cap_process.specs.Reports.{Report, Tally}
+use Rattle.cap_process.specs.Output.{JobOutputView, HasWritten, form_at, written_to, failures_to}
 use Rattle.cap_io.specs.Sequence.{Event, Packet, InputEnd, SequenceEnd, Complete, FaultIn, InputItems, PacketOrder, InTurn, ByTime, sequence_of, whole_input}
-use Rattle.cap_packets.specs.Verdict.{Policy, SelectorState, PassesAs, judge}
-use Rattle.cap_packets.specs.Selector.{IsWithin, is_count}
-use Rattle.cap_packets.specs.Outcome.{Form, JobProgress, Work, ComeFirst, IsNextEvent, AreAllEvents, cut_at, no_progress, apply_events, final_progress, final_text, output_text, closing_text, first_link, packet_bytes, report_bytes, form_refuses, form_takes_memory}
+use Rattle.cap_process.specs.Verdict.{Policy, SelectorState, PassesAs, judge}
+use Rattle.cap_process.specs.Selector.{IsWithin, is_count}
+use Rattle.cap_process.specs.Outcome.{Form, JobProgress, Work, ComeFirst, IsNextEvent, AreAllEvents, cut_at, no_progress, apply_events, final_progress, final_text, output_text, closing_text, first_link, packet_bytes, report_bytes, form_refuses, form_takes_memory}
 use Rattle.cap_inputs.specs.Inputs.{InputsView, InputView, InputPast, AreInputsAfter, KnowGreatest, AreSettled, ReadsInput, IsNext, input_after, device_limits}
 
 -- the state of a job, whatever its programs cost so far

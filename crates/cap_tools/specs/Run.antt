@@ -17,17 +17,17 @@ use Rattle.cap_filter.specs.Compilation.{IsCompiled}
 use Rattle.cap_filter.specs.Expressions.{IsTextFault}
 use Rattle.cap_filter.specs.FilterRules.{Rule, IsRule, IsWhy}
 use Rattle.cap_io.specs.Sequence.{Event, Packet, InputItems, whole_input}
-use Rattle.cap_packets.specs.Messages.{fault_message, no_memory_message, refusal_message, write_failed_message, IsTold}
+use Rattle.cap_process.specs.Messages.{fault_message, no_memory_message, refusal_message, write_failed_message, IsTold}
 use Rattle.cap_filter.specs.Refusals.{refusal_status}
 use Rattle.cap_octet.specs.Views.{FreshInput}
-use Rattle.cap_packets.specs.declared.output.Writing.{Writing}
-use Rattle.cap_packets.specs.declared.output.Writing.TheVariants as writing
+use Rattle.cap_process.specs.declared.output.Writing.{Writing}
+use Rattle.cap_process.specs.declared.output.Writing.TheVariants as writing
 use Rattle.cap_command.specs.Call.{Call, RunResult}
-use Rattle.cap_packets.specs.Outcome.{Form, AsCapture, AsReports, AsLines, Outcome, Work, IsNextEvent, AreAllEvents, closing_text, cut_at, first_link, form_refuses, form_takes_memory, outcome, job_progress_after, text_after}
-use Rattle.cap_packets.specs.Reports.{name_at}
+use Rattle.cap_process.specs.Outcome.{Form, AsCapture, AsReports, AsLines, Outcome, Work, IsNextEvent, AreAllEvents, closing_text, cut_at, first_link, form_refuses, form_takes_memory, outcome, job_progress_after, text_after}
+use Rattle.cap_process.specs.Reports.{name_at}
 use Rattle.cap_tools.specs.Start.{Assignment, Preparing, ReadsFilter, Compiles}
 use Rattle.cap_octet.specs.Packet.{Captured}
-use Rattle.cap_packets.specs.Verdict.{Policy, Filter, Judgement, PassesAs, judge}
+use Rattle.cap_process.specs.Verdict.{Policy, Filter, Judgement, PassesAs, judge}
 
 -- ---- the work that a command asks
 

@@ -9,11 +9,11 @@ use Rattle.cap_command.specs.declared.command.Command.TheVariants as command
 use Rattle.cap_command.specs.Command.{listing_of}
 use Rattle.cap_tools.specs.declared.start.Preparation.{Preparation}
 use Rattle.cap_tools.specs.declared.start.Preparation.TheVariants as preparation
-use Rattle.cap_packets.specs.declared.output.Writing.{Writing}
-use Rattle.cap_packets.specs.declared.output.Writing.TheVariants as writing
+use Rattle.cap_process.specs.declared.output.Writing.{Writing}
+use Rattle.cap_process.specs.declared.output.Writing.TheVariants as writing
 use Rattle.cap_io.specs.Sequence.{PacketOrder, InTurn, order_of}
-use Rattle.cap_packets.specs.Verdict.{Policy, Edit, KeepAll, Count}
-use Rattle.cap_packets.specs.Selector.{edit_rule_of}
+use Rattle.cap_process.specs.Verdict.{Policy, Edit, KeepAll, Count}
+use Rattle.cap_process.specs.Selector.{edit_rule_of}
 
 -- a filter by these words, or by a listing, for `count` packets at most
 pub record FilterAsked : Type 0 where

@@ -2,7 +2,7 @@
 ghost use Rattle.std.specs.Prelude.{ℕ, ◌≡◌, ◌+◌, ◌<◌, ◌≤◌, IfErr, IfOk, IsTrue, None, Some, length};
 ghost use Rattle.std.specs.Prelude.{map, string_bytes, true, vec_len};
 ghost use Rattle.cap_command.specs.Command.{is_proper};
-ghost use Rattle.cap_packets.specs.Messages.{IsTold};
+ghost use Rattle.cap_process.specs.Messages.{IsTold};
 ghost use Rattle.cap_octet.specs.Views.{device_view, fresh_input, fresh_output, output_view};
 ghost use Rattle.cap_tools.specs.Bounds.{IsLight, ReadsNothing, StepReads, most_turns};
 ghost use Rattle.cap_command.specs.Call.{call_of, run_result};
@@ -22,8 +22,8 @@ use cap_filter::filter::Filter;
 use cap_filter::refusal::Refusal;
 use cap_inputs::{InputCursor, Inputs, Next};
 use cap_octet::{Input, Output};
-use cap_packets::message::report_no_memory;
-use cap_packets::{JobOutput, Selector};
+use cap_process::message::report_no_memory;
+use cap_process::{JobOutput, Selector};
 use flt_bpf::Program;
 use std::alloc::Allocator;
 use std::marker::Model;
@@ -67,9 +67,9 @@ impl<I: Input, O: Output, E: Output, A: Allocator> Model for Job<I, O, E, A> {
     ghost use Rattle.cap_inputs.specs.inside.Inputs.{most_steps};
     ghost use Rattle.cap_tools.specs.Jobs.{JobView, state_at};
     ghost use Rattle.cap_tools.specs.inside.Jobs.{IsCounted};
-    ghost use Rattle.cap_packets.specs.Output.{output_at};
-    ghost use Rattle.cap_packets.specs.Selector.{HavePrograms};
-    ghost use Rattle.cap_packets.specs.inside.Selector.{HasFewMarks};
+    ghost use Rattle.cap_process.specs.Output.{output_at};
+    ghost use Rattle.cap_process.specs.Selector.{HavePrograms};
+    ghost use Rattle.cap_process.specs.inside.Selector.{HasFewMarks};
     ghost use Rattle.cap_tools.specs.Start.{preparing_of};
 
     ghost Value = { JobView };
@@ -124,7 +124,7 @@ impl<I: Input, O: Output, E: Output, A: Allocator + Copy + Drop> Job<I, O, E, A>
     ghost use Rattle.cap_tools.specs.Jobs.{turn_goes_on};
     ghost use Rattle.cap_inputs.specs.Fresh.{nothing_done};
     ghost use Rattle.cap_tools.specs.Packets.{failures_by, written_by};
-    ghost use Rattle.cap_packets.specs.Selector.{HavePrograms};
+    ghost use Rattle.cap_process.specs.Selector.{HavePrograms};
     ghost use Rattle.cap_tools.specs.Start.{asked_by};
     ghost use Rattle.cap_tools.specs.inside.Step.{IsStep, ending};
 

@@ -3,13 +3,13 @@ ghost use Rattle.std.specs.Prelude.{◌≡◌, ◌+◌, IsTrue, map};
 ghost use Rattle.std.specs.String.{string_bytes};
 ghost use Rattle.cap_octet.specs.Device.{AppendsOrStops, failures_of};
 ghost use Rattle.cap_tools.specs.Jobs.{end_message};
-ghost use Rattle.cap_packets.specs.Reports.{name_at};
+ghost use Rattle.cap_process.specs.Reports.{name_at};
 
 use crate::step::JobEnd;
 use cap_filter::refusal::Refusal;
 use cap_inputs::Inputs;
 use cap_octet::{DeviceFault, Input, Output};
-use cap_packets::message::{report_fault, report_refusal, report_write_failed};
+use cap_process::message::{report_fault, report_refusal, report_write_failed};
 use std::alloc::Allocator;
 use std::marker::Model;
 
@@ -38,11 +38,11 @@ impl<E: Output, A: Allocator> Model for Messages<E, A> {
 impl<E: Output, A: Allocator> Messages<E, A> {
     ghost use Rattle.std.specs.Prelude.{◌≡◌, map};
     ghost use Rattle.std.specs.String.{string_bytes};
-    ghost use Rattle.cap_packets.specs.Messages.{refusal_message};
-    ghost use Rattle.cap_packets.specs.Messages.{IsTold};
+    ghost use Rattle.cap_process.specs.Messages.{refusal_message};
+    ghost use Rattle.cap_process.specs.Messages.{IsTold};
     ghost use Rattle.cap_octet.specs.Views.{output_view};
     ghost use Rattle.cap_tools.specs.Jobs.{end_message};
-    ghost use Rattle.cap_packets.specs.Reports.{name_at};
+    ghost use Rattle.cap_process.specs.Reports.{name_at};
 
     /// Messages of a job over files of these names: of the inputs, then of the output.
     pub fn new(device: E, names: Vec<String<A>, A>) -> Self

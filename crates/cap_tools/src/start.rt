@@ -4,14 +4,14 @@ ghost use Rattle.std.specs.Option.{option_map};
 ghost use Rattle.cap_command.specs.Command.{listing_of};
 ghost use Rattle.cap_filter.specs.FilterRules.{IsRule, IsWhy};
 ghost use Rattle.cap_filter.specs.Filters.{AreNew, programs_of, rule_of};
-ghost use Rattle.cap_packets.specs.Selector.{HavePrograms, policy_of, programs_in};
+ghost use Rattle.cap_process.specs.Selector.{HavePrograms, policy_of, programs_in};
 ghost use Rattle.cap_io.specs.Sequence.{order_of};
 ghost use Rattle.cap_tools.specs.Start.{assignment, lines_unless, preparing_of};
 
 use cap_command::{Command, Compile, Print};
 use cap_filter::filter::{Filter, read_code, read_words};
 use cap_filter::refusal::Refusal;
-use cap_packets::{Policy, Writing};
+use cap_process::{Policy, Writing};
 use cap_print::Options;
 use std::alloc::Allocator;
 

@@ -1,16 +1,16 @@
 //! The parts of a step: a packet is decided, or an input that was read to its end is reported.
 ghost use Rattle.std.specs.Prelude.{◌≡◌, ◌<◌, ◌≤◌, IsTrue, false, length, true};
 ghost use Rattle.cap_octet.specs.Packet.{captured};
-ghost use Rattle.cap_packets.specs.Output.{HasFewOutputInterfaces, output_at};
-ghost use Rattle.cap_packets.specs.inside.Reports.{FitsTally};
-ghost use Rattle.cap_packets.specs.inside.Selector.{GrowsByOne, HasFewMarks, policy_state};
+ghost use Rattle.cap_process.specs.Output.{HasFewOutputInterfaces, output_at};
+ghost use Rattle.cap_process.specs.inside.Reports.{FitsTally};
+ghost use Rattle.cap_process.specs.inside.Selector.{GrowsByOne, HasFewMarks, policy_state};
 ghost use Rattle.cap_tools.specs.Packets.{asks_report};
 ghost use Rattle.cap_tools.specs.inside.Packets.{Closes, DecidesPacket, Offers, Spends, sieve, end_of_failed_write};
 
 use crate::messages::Messages;
 use cap_inputs::{InputCursor, Inputs};
 use cap_octet::{Fault, Input, Output, Packet};
-use cap_packets::{JobOutput, Report, Selector, Verdict};
+use cap_process::{JobOutput, Report, Selector, Verdict};
 use std::alloc::Allocator;
 
 /// How a job ended.

@@ -13,11 +13,11 @@ use Rattle.clap.specs.declared.parser.matches.ArgMatches.TheViews.{out-ArgMatche
 use Rattle.clap.specs.declared.parser.matches.ArgMatches.{ArgMatches}
 use Rattle.clap.specs.Words.{subcommand_name_of, subcommand_rows_of}
 use Rattle.clap.specs.declared.parser.matches.SubCommand.{SubCommand}
-use Rattle.cap_arguments.specs.Arguments.{TakesWords, line_app, name_of}
-use Rattle.cap_arguments.specs.inside.Arguments.{subcommand_named}
+use Rattle.capkit_args.specs.Arguments.{TakesWords, line_app, name_of}
+use Rattle.capkit_args.specs.inside.Arguments.{subcommand_named}
 use Rattle.capkit.specs.Line.{Asks}
-use Rattle.cap_arguments.specs.declared.arguments.Subcommand.{Subcommand}
-use Rattle.cap_arguments.specs.declared.arguments.Subcommand.TheVariants as sub
+use Rattle.capkit_args.specs.declared.arguments.Subcommand.{Subcommand}
+use Rattle.capkit_args.specs.declared.arguments.Subcommand.TheVariants as sub
 
 -- where no step of several fails, the last one doesn't
 last_none : (a b : Kinds) → or_else a b ≡ [] → b ≡ []

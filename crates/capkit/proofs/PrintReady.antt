@@ -8,7 +8,7 @@ use Rattle.std.proofs.lemmas.Bool.{and_from, eq-eqb, lt-ltb}
 use Rattle.cap_octet.specs.declared.format.Format.{Format}
 use Rattle.cap_command.specs.Command.{has_at_most_one_filter, has_at_most_one_output, is_at_least_one, is_proper}
 use Rattle.clap.specs.Words.{Row, Text, first_of}
-use Rattle.cap_arguments.specs.declared.ids.TheConstants as ids
+use Rattle.capkit_args.specs.declared.ids.TheConstants as ids
 use Rattle.capkit.specs.Line.{IsPrintOf, flag_in, format_in, has_exclusion, has_expression, has_two_filters, has_two_outputs, is_ready, or_else, print_fault, texts_in}
 use Rattle.capkit.specs.declared.line.Line.{Line}
 use Rattle.capkit.specs.declared.usage.Usage.{Usage}

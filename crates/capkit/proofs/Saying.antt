@@ -5,12 +5,12 @@ use Rattle.std.specs.List.{list_any}
 use Rattle.clap.specs.Words.{Row, Text, first_of}
 use Rattle.clap.specs.declared.error.Error.{Error}
 use Rattle.cap_command.specs.Command.{most_inputs, most_ranges}
-use Rattle.cap_arguments.specs.declared.ids.TheConstants as ids
+use Rattle.capkit_args.specs.declared.ids.TheConstants as ids
 use Rattle.capkit.specs.Line.{Asks, IsUsageOf, IsLineOf, SaysFault, SaysLine, fault_in, files_in, has_bad_time, has_exclusion, has_two_shifts, or_else, read_names, text_in, texts_in}
 use Rattle.capkit.specs.Names.{uses_name_twice}
 use Rattle.capkit.specs.Range.{range_of}
-use Rattle.cap_arguments.specs.declared.arguments.Subcommand.{Subcommand}
-use Rattle.cap_arguments.specs.declared.arguments.Subcommand.TheVariants as sub
+use Rattle.capkit_args.specs.declared.arguments.Subcommand.{Subcommand}
+use Rattle.capkit_args.specs.declared.arguments.Subcommand.TheVariants as sub
 use Rattle.capkit.specs.declared.line.Line.{Line}
 use Rattle.capkit.specs.declared.usage.Usage.{Usage}
 use Rattle.capkit.specs.declared.usage.Usage.TheVariants.{BadRange, BadTime, Memory, NameUsedTwice, OptionsExclude, Refused, TooManyValues}

@@ -8,7 +8,7 @@ use crate::line::Line;
 use crate::print_line::expression;
 use crate::usage::Usage;
 use crate::values::link;
-use cap_arguments::ids;
+use capkit_args::ids;
 use cap_command::{Command, Compile};
 use clap::ArgMatches;
 use std::alloc::Global;

@@ -8,7 +8,7 @@ ghost use Rattle.capkit.specs.Line.{files_fault, files_in, IsUsageOf};
 use crate::names::uses_name_twice;
 use crate::usage::Usage;
 use crate::values::{text, texts};
-use cap_arguments::ids;
+use capkit_args::ids;
 use cap_command::MOST_INPUTS;
 use clap::ArgMatches;
 use std::alloc::{AllocError, Global};

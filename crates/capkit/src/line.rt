@@ -10,7 +10,7 @@ use crate::infos_line::infos_line;
 use crate::merge_line::merge_line;
 use crate::print_line::print_line;
 use crate::usage::Usage;
-use cap_arguments::arguments::{Subcommand, matches_of, subcommand_named};
+use capkit_args::arguments::{Subcommand, matches_of, subcommand_named};
 use cap_command::{Command, Print};
 use clap::ArgMatches;
 use std::alloc::Global;

@@ -7,7 +7,7 @@ use crate::files::input_names;
 use crate::line::Line;
 use crate::usage::Usage;
 use crate::values::{flag, format, text};
-use cap_arguments::ids;
+use capkit_args::ids;
 use cap_command::{Command, Merge};
 use clap::ArgMatches;
 use std::alloc::Global;

@@ -1,7 +1,7 @@
 //! The program again, over a capture that ends inside a record: the stored run of its status.
 #![tactic(auto)]
 
-use cap_streams::program::status;
+use capkit_host::program::status;
 use capkit_engine::Jobs;
 use std::process::ExitCode;
 

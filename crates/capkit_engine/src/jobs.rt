@@ -4,7 +4,7 @@ ghost use Rattle.cap_tools.specs.Start.{assignment};
 
 use cap_command::Command;
 use cap_octet::{Input, Output};
-use cap_streams::engine::Engine;
+use capkit_host::engine::Engine;
 use cap_tools::run;
 use std::alloc::Global;
 

@@ -1,7 +1,7 @@
 //! capkit: a workbench for saved packet captures.
 #![tactic(auto)]
 
-use cap_streams::program::status;
+use capkit_host::program::status;
 use capkit_engine::Jobs;
 use std::process::ExitCode;
 

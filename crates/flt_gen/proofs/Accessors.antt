@@ -6,9 +6,9 @@ use Rattle.std.proofs.lemmas.List.{take-append-drop, reverse-append}
 use Rattle.flt_bpf.specs.declared.insn.Insn.{Insn}
 use Rattle.flt_words.specs.declared.token.Protocol.{Protocol}
 use Rattle.cap_octet.specs.declared.link.Link.{Link}
-use Rattle.flt_code.specs.Numbers.{accessor_tests}
-use Rattle.flt_code.specs.inside.Follow.{nothing}
-use Rattle.flt_code.specs.inside.Code.{Block, block, emit_all}
+use Rattle.flt_emit.specs.Numbers.{accessor_tests}
+use Rattle.flt_emit.specs.inside.Follow.{nothing}
+use Rattle.flt_emit.specs.inside.Code.{Block, block, emit_all}
 use Rattle.flt_gen.specs.inside.ProgramCode.{emit_accessors}
 use Rattle.flt_gen.proofs.Tails.{accessors_extend}
 

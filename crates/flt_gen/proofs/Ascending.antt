@@ -3,7 +3,7 @@ use Rattle.std.proofs.Common.{◌≡◌, ℕ, zero, suc, ◌+◌, ◌<◌, ◌�
 use Rattle.std.specs.Prelude.{nat_lt, ◌==◌, ◌||◌, if◌then◌else◌}
 use Rattle.std.specs.List.{insert}
 use Rattle.std.proofs.lemmas.Bool.Decides.{nat_tests}
-use Rattle.flt_code.specs.Formula.{is_one_of, without, remaining}
+use Rattle.flt_emit.specs.Formula.{is_one_of, without, remaining}
 use Rattle.flt_gen.specs.inside.Group.{insert_ascending}
 
 -- by a test

@@ -10,28 +10,28 @@ use Rattle.flt_words.specs.declared.token.Cast.{Cast}
 use Rattle.flt_words.specs.declared.token.Cast.TheVariants.{Broadcast, Multicast}
 use Rattle.flt_words.specs.declared.token.ValueType.{ValueType}
 use Rattle.flt_words.specs.declared.token.ValueType.TheVariants.{Host, Net, Port, PortRange, Proto}
-use Rattle.flt_tree.specs.declared.qualifiers.Direction.{Direction}
-use Rattle.flt_tree.specs.declared.qualifiers.Direction.TheVariants as direction
-use Rattle.flt_tree.specs.declared.value.Value.{Value}
-use Rattle.flt_tree.specs.declared.value.Value.TheVariants as value
-use Rattle.flt_tree.specs.Tree.{NumberTree, literal, len, named, load, negated, applied, TruthTree, check, cast, sized, bare, valued, qualified, compared, denied, joined}
-use Rattle.flt_tree.specs.Counts as count
-use Rattle.flt_tree.specs.Resolved.{is_unfilled, any_primitive}
+use Rattle.flt_ast.specs.declared.qualifiers.Direction.{Direction}
+use Rattle.flt_ast.specs.declared.qualifiers.Direction.TheVariants as direction
+use Rattle.flt_ast.specs.declared.value.Value.{Value}
+use Rattle.flt_ast.specs.declared.value.Value.TheVariants as value
+use Rattle.flt_ast.specs.Tree.{NumberTree, literal, len, named, load, negated, applied, TruthTree, check, cast, sized, bare, valued, qualified, compared, denied, joined}
+use Rattle.flt_ast.specs.Counts as count
+use Rattle.flt_ast.specs.Resolved.{is_unfilled, any_primitive}
 use Rattle.cap_octet.specs.declared.link.Link.{Link}
-use Rattle.flt_code.specs.declared.elementary.FrameKind.{FrameKind}
-use Rattle.flt_code.specs.declared.elementary.FrameKind.TheVariants as kind
-use Rattle.flt_code.specs.declared.elementary.Offset.{Offset}
-use Rattle.flt_code.specs.declared.elementary.Elementary.{Elementary}
+use Rattle.flt_emit.specs.declared.elementary.FrameKind.{FrameKind}
+use Rattle.flt_emit.specs.declared.elementary.FrameKind.TheVariants as kind
+use Rattle.flt_emit.specs.declared.elementary.Offset.{Offset}
+use Rattle.flt_emit.specs.declared.elementary.Elementary.{Elementary}
 use Rattle.flt_gen.specs.declared.wanted.Ports.{Ports}
 use Rattle.flt_gen.specs.declared.wanted.Ports.TheVariants.{One, Between, Several}
 use Rattle.flt_bpf.specs.declared.operation.Width.{Width}
-use Rattle.flt_code.specs.declared.elementary.Sides.{Sides}
+use Rattle.flt_emit.specs.declared.elementary.Sides.{Sides}
 use Rattle.flt_gen.specs.declared.wanted.Transport.{Transport}
-use Rattle.flt_code.specs.Elementary.{has_ip_proto, has_ip6_proto}
-use Rattle.flt_code.specs.Numbers.{accessors, accessor_tests}
-use Rattle.flt_code.specs.Formula.{Formula, Single, Compare, Both, Either, Guard, Choose, Among, all_of, sides, checked_formula, guarded_formula}
+use Rattle.flt_emit.specs.Elementary.{has_ip_proto, has_ip6_proto}
+use Rattle.flt_emit.specs.Numbers.{accessors, accessor_tests}
+use Rattle.flt_emit.specs.Formula.{Formula, Single, Compare, Both, Either, Guard, Choose, Among, all_of, sides, checked_formula, guarded_formula}
 use Rattle.flt_gen.specs.Primitives.{any_proto, mac_tests, check_formula, cast_formula, proto_formula, hosts_of_kind, net_formula, net_test, ip6_formula, ether_host, port_formula, port_test, port_places, port_sides, ports_after, ip_transport, ip6_transport, transport, value_formula}
-use Rattle.flt_code.specs.Formula.{whole_field, remaining, any_sides}
+use Rattle.flt_emit.specs.Formula.{whole_field, remaining, any_sides}
 use Rattle.flt_gen.specs.Reading.{formula}
 use Rattle.flt_gen.specs.inside.Counts.{tests, nodes, words}
 use Rattle.flt_gen.specs.declared.wanted.NetTest.{NetTest}

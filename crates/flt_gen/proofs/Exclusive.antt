@@ -5,12 +5,12 @@ use Rattle.std.proofs.lemmas.Bool.Decides.{nat_tests}
 use Rattle.flt_bpf.specs.declared.operation.Width.TheVariants.{HalfWord, Byte}
 use Rattle.flt_bpf.specs.Machine.{field}
 use Rattle.cap_octet.specs.declared.link.Link.{Link}
-use Rattle.flt_code.specs.declared.elementary.FrameKind.TheVariants.{Ip, Ip6, Arp, Rarp}
-use Rattle.flt_code.specs.declared.elementary.Elementary.{Elementary}
+use Rattle.flt_emit.specs.declared.elementary.FrameKind.TheVariants.{Ip, Ip6, Arp, Rarp}
+use Rattle.flt_emit.specs.declared.elementary.Elementary.{Elementary}
 use Rattle.cap_octet.specs.Link.{type_offset}
-use Rattle.flt_code.specs.Elementary.{Yes, No, reading_of, with, under_mask, elementary_reads, kind_test, type_test}
+use Rattle.flt_emit.specs.Elementary.{Yes, No, reading_of, with, under_mask, elementary_reads, kind_test, type_test}
 use Rattle.flt_gen.proofs.Ascending.{Searchable}
-use Rattle.flt_code.specs.Formula.{Formula, Single, Compare, Both, Either, Except, Guard, Fork, Choose, Among, both, either, reads}
+use Rattle.flt_emit.specs.Formula.{Formula, Single, Compare, Both, Either, Except, Guard, Fork, Choose, Among, both, either, reads}
 
 -- a field that is one number is no other
 other_value : (o : Option ℕ) (mask : Option ℕ) (a b : ℕ) → (a == b) ≡ false → reading_of (with o (λ v. Some (under_mask mask v == a))) ≡ Yes → reading_of (with o (λ v. Some (under_mask mask v == b))) ≡ No

@@ -7,22 +7,22 @@ use Rattle.flt_words.specs.declared.token.Join.TheVariants as join
 use Rattle.flt_words.specs.declared.token.Comparison.{Comparison}
 use Rattle.flt_words.specs.declared.token.Protocol.{Protocol}
 use Rattle.flt_bpf.specs.Machine.{field, compute}
-use Rattle.flt_tree.specs.declared.node.Node.{Node}
-use Rattle.flt_tree.specs.declared.node.Node.TheVariants as node
-use Rattle.flt_tree.specs.Tree.{NumberTree, literal, len, named, load, negated, applied, TruthTree, check, cast, sized, bare, valued, qualified, compared, denied, joined, Expression, empty, truth}
-use Rattle.flt_tree.specs.Counts.{number_size, number_words, number_tests, truth_size, truth_words, truth_tests, bound_of, words_of}
-use Rattle.flt_tree.specs.Nodes.{number_nodes, truth_nodes, expr_nodes}
-use Rattle.flt_tree.specs.inside.Nodes.{number_onto, truth_onto, expr_onto}
-use Rattle.flt_tree.specs.Resolved.{is_unfilled, any_primitive, some_primitive}
+use Rattle.flt_ast.specs.declared.node.Node.{Node}
+use Rattle.flt_ast.specs.declared.node.Node.TheVariants as node
+use Rattle.flt_ast.specs.Tree.{NumberTree, literal, len, named, load, negated, applied, TruthTree, check, cast, sized, bare, valued, qualified, compared, denied, joined, Expression, empty, truth}
+use Rattle.flt_ast.specs.Counts.{number_size, number_words, number_tests, truth_size, truth_words, truth_tests, bound_of, words_of}
+use Rattle.flt_ast.specs.Nodes.{number_nodes, truth_nodes, expr_nodes}
+use Rattle.flt_ast.specs.inside.Nodes.{number_onto, truth_onto, expr_onto}
+use Rattle.flt_ast.specs.Resolved.{is_unfilled, any_primitive, some_primitive}
 use Rattle.cap_octet.specs.declared.link.Link.{Link}
 use Rattle.flt_bpf.specs.declared.insn.Insn.{Insn}
 use Rattle.flt_bpf.specs.Layout.{IsShort}
 use Rattle.flt_gen.specs.Correct.{IsProgramOf}
-use Rattle.flt_code.specs.Elementary.{Yes, with, reading_of, compares, elementary_reads}
-use Rattle.flt_code.specs.Numbers.{width_of, base, number, result_of, accessors, accessor_tests}
-use Rattle.flt_code.specs.Formula.{Formula, Compare, both, either, negation, reads, relation_reads, guarded_formula, checked_formula}
-use Rattle.flt_code.specs.declared.elementary.Elementary.{Elementary}
-use Rattle.flt_code.specs.inside.Code.{constant, alu_operation}
+use Rattle.flt_emit.specs.Elementary.{Yes, with, reading_of, compares, elementary_reads}
+use Rattle.flt_emit.specs.Numbers.{width_of, base, number, result_of, accessors, accessor_tests}
+use Rattle.flt_emit.specs.Formula.{Formula, Compare, both, either, negation, reads, relation_reads, guarded_formula, checked_formula}
+use Rattle.flt_emit.specs.declared.elementary.Elementary.{Elementary}
+use Rattle.flt_emit.specs.inside.Code.{constant, alu_operation}
 use Rattle.flt_gen.specs.Reading.{formula, holds}
 use Rattle.flt_gen.specs.Counts.{short_bound_of}
 use Rattle.flt_gen.specs.inside.Folding.{negated_constant, applied_constant, number_or, negated_number, applied_number, folded_number, folded_truth, folded_expression, latest_constant, node_or, with_negation, with_operator, with_folded}

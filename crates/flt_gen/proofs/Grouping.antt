@@ -8,20 +8,20 @@ use Rattle.flt_words.specs.declared.token.Side.TheVariants.{Source, Destination}
 use Rattle.flt_words.specs.declared.token.Join.TheVariants.{And, Or}
 use Rattle.flt_words.specs.declared.token.ValueType.{ValueType}
 use Rattle.flt_words.specs.declared.token.ValueType.TheVariants.{Host, Net, Port, PortRange, Proto}
-use Rattle.flt_tree.specs.declared.qualifiers.Direction.{Direction}
-use Rattle.flt_tree.specs.declared.qualifiers.Direction.TheVariants as direction
-use Rattle.flt_tree.specs.declared.qualifiers.CompleteQualifiers.{CompleteQualifiers}
-use Rattle.flt_tree.specs.declared.value.Value.{Value}
-use Rattle.flt_tree.specs.declared.value.Value.TheVariants as value
+use Rattle.flt_ast.specs.declared.qualifiers.Direction.{Direction}
+use Rattle.flt_ast.specs.declared.qualifiers.Direction.TheVariants as direction
+use Rattle.flt_ast.specs.declared.qualifiers.CompleteQualifiers.{CompleteQualifiers}
+use Rattle.flt_ast.specs.declared.value.Value.{Value}
+use Rattle.flt_ast.specs.declared.value.Value.TheVariants as value
 use Rattle.flt_words.specs.declared.token.Comparison.{Comparison}
-use Rattle.flt_tree.specs.Tree.{NumberTree, TruthTree, check, cast, sized, bare, valued, qualified, compared, denied, joined}
-use Rattle.flt_tree.specs.Counts as count
-use Rattle.flt_tree.specs.Resolved.{is_unfilled, any_primitive}
+use Rattle.flt_ast.specs.Tree.{NumberTree, TruthTree, check, cast, sized, bare, valued, qualified, compared, denied, joined}
+use Rattle.flt_ast.specs.Counts as count
+use Rattle.flt_ast.specs.Resolved.{is_unfilled, any_primitive}
 use Rattle.cap_octet.specs.declared.link.Link.{Link}
-use Rattle.flt_code.specs.Elementary.{Reading, Yes, No, Rejected}
+use Rattle.flt_emit.specs.Elementary.{Reading, Yes, No, Rejected}
 use Rattle.flt_gen.specs.declared.wanted.Hosts.TheVariants as hosts
 use Rattle.flt_gen.specs.declared.wanted.Ports.TheVariants.{One, Several}
-use Rattle.flt_code.specs.Formula.{Formula, Compare, Both, Either, Except, is_one_of, both, either, negation, reads}
+use Rattle.flt_emit.specs.Formula.{Formula, Compare, Both, Either, Except, is_one_of, both, either, negation, reads}
 use Rattle.flt_gen.specs.Primitives.{net_test, net_formula, hosts_formula, port_test, port_formula, qualified_formula, value_formula}
 use Rattle.flt_gen.specs.inside.Emitted.{protocols_of, relation_formula, qualified_needed}
 use Rattle.flt_gen.specs.Reading.{formula}

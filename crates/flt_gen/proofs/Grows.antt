@@ -15,24 +15,24 @@ use Rattle.flt_words.specs.declared.token.Operator.{Operator}
 use Rattle.flt_words.specs.declared.token.Operator.TheVariants.{Or, And, ShiftLeft, ShiftRight, Add, Subtract, Multiply, Divide, Remainder, ExclusiveOr}
 use Rattle.flt_words.specs.declared.token.Protocol.{Protocol}
 use Rattle.flt_words.specs.declared.token.Protocol.TheVariants.{Ether, Tcp, Udp, Icmp}
-use Rattle.flt_tree.specs.Tree.{NumberTree, literal, len, named, load, negated, applied}
+use Rattle.flt_ast.specs.Tree.{NumberTree, literal, len, named, load, negated, applied}
 use Rattle.cap_octet.specs.declared.link.Link.{Link}
-use Rattle.flt_code.specs.declared.elementary.Offset.{Offset}
-use Rattle.flt_code.specs.declared.elementary.Offset.TheVariants.{Fixed, AfterHeader}
-use Rattle.flt_code.specs.declared.elementary.Elementary.TheVariants.{Outcome, Field}
+use Rattle.flt_emit.specs.declared.elementary.Offset.{Offset}
+use Rattle.flt_emit.specs.declared.elementary.Offset.TheVariants.{Fixed, AfterHeader}
+use Rattle.flt_emit.specs.declared.elementary.Elementary.TheVariants.{Outcome, Field}
 use Rattle.flt_bpf.specs.declared.fault.CheckFault.{CheckFault}
 use Rattle.flt_bpf.specs.declared.fault.CheckFault.TheVariants.{JumpOut, NoSuchWord, DivisionByZero, ShiftTooFar}
 use Rattle.flt_bpf.specs.Instructions.{operation_of}
 use Rattle.flt_bpf.specs.Check.{fault_of, unless, ends_in_return, IsFaultless}
 use Rattle.cap_octet.specs.Link.{network_offset}
-use Rattle.flt_code.specs.Numbers.{width_of}
-use Rattle.flt_code.specs.Formula.{Formula, Single, Compare, Both, Either, Except, Guard, Fork, Choose, Among}
-use Rattle.flt_tree.specs.Counts.{number_words, number_size}
+use Rattle.flt_emit.specs.Numbers.{width_of}
+use Rattle.flt_emit.specs.Formula.{Formula, Single, Compare, Both, Either, Except, Guard, Fork, Choose, Among}
+use Rattle.flt_ast.specs.Counts.{number_words, number_size}
 use Rattle.flt_gen.specs.inside.Counts.{words, nodes, tests}
-use Rattle.flt_code.specs.inside.Code.{plain, computation, takes, constant, constant_operand, branch_insn, emit_jump, emit_branch, reach, emit_comparison, emit_field, emit_mask, emit_base, emit_transport, emit_accessor, emit_number, Block, at_top, emit_chain, emit_search, LEVELS, emit_elementary, emit_fork, emit_formula}
-use Rattle.flt_code.specs.declared.follow.Knowledge.{Knowledge}
-use Rattle.flt_code.specs.inside.Follow.{and_fork, fact, always, and_fact, target}
-use Rattle.flt_code.specs.declared.elementary.Elementary.{Elementary}
+use Rattle.flt_emit.specs.inside.Code.{plain, computation, takes, constant, constant_operand, branch_insn, emit_jump, emit_branch, reach, emit_comparison, emit_field, emit_mask, emit_base, emit_transport, emit_accessor, emit_number, Block, at_top, emit_chain, emit_search, LEVELS, emit_elementary, emit_fork, emit_formula}
+use Rattle.flt_emit.specs.declared.follow.Knowledge.{Knowledge}
+use Rattle.flt_emit.specs.inside.Follow.{and_fork, fact, always, and_fact, target}
+use Rattle.flt_emit.specs.declared.elementary.Elementary.{Elementary}
 use Rattle.flt_gen.proofs.Onward.{target_inside}
 use Rattle.flt_gen.proofs.Tails.{by_reach, by_right}
 use Rattle.flt_short.proofs.Basics.{by_test}

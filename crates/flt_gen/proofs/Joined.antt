@@ -7,19 +7,19 @@ use Rattle.flt_words.specs.declared.token.Protocol.{Protocol}
 use Rattle.flt_words.specs.declared.token.ValueType.{ValueType}
 use Rattle.flt_words.specs.declared.token.ValueType.TheVariants.{Host, Port}
 use Rattle.cap_octet.specs.declared.link.Link.{Link}
-use Rattle.flt_code.specs.declared.elementary.Elementary.{Elementary}
+use Rattle.flt_emit.specs.declared.elementary.Elementary.{Elementary}
 use Rattle.flt_gen.specs.declared.wanted.Hosts.{Hosts}
 use Rattle.flt_gen.specs.declared.wanted.Hosts.TheVariants as hosts
 use Rattle.flt_gen.specs.declared.wanted.NetTest.{NetTest}
 use Rattle.flt_gen.specs.declared.wanted.PortTest.{PortTest}
 use Rattle.flt_gen.specs.declared.wanted.Ports.TheVariants.{One, Several}
-use Rattle.flt_code.specs.Numbers.{accessor_tests}
+use Rattle.flt_emit.specs.Numbers.{accessor_tests}
 use Rattle.flt_gen.specs.Primitives.{net_test, net_formula, hosts_formula, port_test, port_formula}
 use Rattle.flt_gen.specs.inside.Group.{Group, one_formula, several_formula, formula_by, group_formula}
-use Rattle.flt_code.specs.Formula.{Formula, guarded_formula, checked_formula}
-use Rattle.flt_code.specs.declared.follow.Knowledge.{Knowledge}
-use Rattle.flt_code.specs.inside.Follow.{nothing}
-use Rattle.flt_code.specs.inside.Code.{Block, block, emit_elementary, emit_formula, emit_all}
+use Rattle.flt_emit.specs.Formula.{Formula, guarded_formula, checked_formula}
+use Rattle.flt_emit.specs.declared.follow.Knowledge.{Knowledge}
+use Rattle.flt_emit.specs.inside.Follow.{nothing}
+use Rattle.flt_emit.specs.inside.Code.{Block, block, emit_elementary, emit_formula, emit_all}
 use Rattle.flt_gen.specs.inside.ProgramCode.{emit_accessors}
 
 guarded_emitted : (link : Link) (known : Knowledge) (ts : List Elementary) (f : Formula) (hit miss : ℕ) (c : List Insn) → emit_formula link known (guarded_formula ts f) hit miss c ≡ (let e = emit_formula link known f hit miss c in emit_all known ts e.entry miss e.code)

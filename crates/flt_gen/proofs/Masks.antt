@@ -4,7 +4,7 @@ use Rattle.std.proofs.Math.Pow.{pow_mono}
 use Rattle.std.proofs.lemmas.Bool.{cases_lt}
 use Rattle.std.proofs.lemmas.Nat.{pow-add}
 use Rattle.std.specs.Int.Digits.{number_from_digits}
-use Rattle.flt_tree.specs.Nets.{first_bits, ip6_mask}
+use Rattle.flt_ast.specs.Nets.{first_bits, ip6_mask}
 use Rattle.flt_gen.specs.Laws.{word_mask}
 use Rattle.std.specs.Prelude.{◌==◌, unwrap_or}
 use Rattle.std.proofs.lemmas.Bool.Decides.{nat_tests}

@@ -8,21 +8,21 @@ use Rattle.flt_words.specs.declared.token.Join.TheVariants.{And, Or}
 use Rattle.flt_words.specs.declared.token.Protocol.{Protocol}
 use Rattle.flt_words.specs.declared.token.ValueType.{ValueType}
 use Rattle.flt_words.specs.declared.token.ValueType.TheVariants.{Host, Net, Port, PortRange, Proto}
-use Rattle.flt_tree.specs.declared.qualifiers.Direction.{Direction}
-use Rattle.flt_tree.specs.declared.qualifiers.Direction.TheVariants as direction
-use Rattle.flt_tree.specs.declared.value.Value.{Value}
-use Rattle.flt_tree.specs.declared.value.Value.TheVariants as value
-use Rattle.flt_tree.specs.Nets.{first_bits}
-use Rattle.flt_tree.specs.Counts as count
+use Rattle.flt_ast.specs.declared.qualifiers.Direction.{Direction}
+use Rattle.flt_ast.specs.declared.qualifiers.Direction.TheVariants as direction
+use Rattle.flt_ast.specs.declared.value.Value.{Value}
+use Rattle.flt_ast.specs.declared.value.Value.TheVariants as value
+use Rattle.flt_ast.specs.Nets.{first_bits}
+use Rattle.flt_ast.specs.Counts as count
 use Rattle.flt_bpf.specs.declared.operation.Width.TheVariants.{Word}
 use Rattle.flt_bpf.specs.Machine.{big_endian_at, field}
 use Rattle.cap_octet.specs.declared.link.Link.{Link}
-use Rattle.flt_code.specs.declared.elementary.FrameKind.TheVariants as kind
-use Rattle.flt_code.specs.declared.elementary.Offset.TheVariants.{Fixed}
-use Rattle.flt_code.specs.declared.elementary.Elementary.{Elementary}
-use Rattle.flt_code.specs.Elementary.{Reading, Yes, No, Rejected, reading_of, with, under_mask, kind_test, elementary_reads}
+use Rattle.flt_emit.specs.declared.elementary.FrameKind.TheVariants as kind
+use Rattle.flt_emit.specs.declared.elementary.Offset.TheVariants.{Fixed}
+use Rattle.flt_emit.specs.declared.elementary.Elementary.{Elementary}
+use Rattle.flt_emit.specs.Elementary.{Reading, Yes, No, Rejected, reading_of, with, under_mask, kind_test, elementary_reads}
 use Rattle.cap_octet.specs.Link.{network_offset}
-use Rattle.flt_code.specs.Formula.{both, either, all_of, sides, reads}
+use Rattle.flt_emit.specs.Formula.{both, either, all_of, sides, reads}
 use Rattle.flt_gen.specs.inside.Counts.{tests}
 use Rattle.flt_gen.specs.Primitives.{partial_mask, address_test, ip6_test, ip6_tests, ip6_formula, value_formula}
 use Rattle.flt_gen.specs.inside.Emitted.{is_empty, is_idle, capture_test, last_test, needed_tests, needed_sides, ip6_needed, value_needed}

@@ -15,7 +15,7 @@ use Rattle.flt_bpf.specs.declared.operation.Width.TheVariants.{HalfWord}
 use Rattle.flt_bpf.specs.Machine.{big_endian_at}
 use Rattle.cap_octet.specs.declared.link.Link.{Link}
 use Rattle.cap_octet.specs.declared.link.Link.TheVariants.{Ether}
-use Rattle.flt_code.specs.Elementary.{Reading, Yes, No, Rejected, reading_of, with, elementary_reads, is_at, kind_test, type_test}
+use Rattle.flt_emit.specs.Elementary.{Reading, Yes, No, Rejected, reading_of, with, elementary_reads, is_at, kind_test, type_test}
 use Rattle.cap_octet.specs.Link.{all_links, link_of, link_type, type_offset}
 use Rattle.flt_gen.specs.Laws.{frame_kind, carries_kind, carries}
 

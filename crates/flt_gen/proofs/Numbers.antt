@@ -22,13 +22,13 @@ use Rattle.flt_words.specs.declared.token.Operator.{Operator}
 use Rattle.flt_words.specs.declared.token.Operator.TheVariants.{Or, And, ShiftLeft, ShiftRight, Add, Subtract, Multiply, Divide, Remainder, ExclusiveOr}
 use Rattle.flt_words.specs.declared.token.Protocol.{Protocol}
 use Rattle.flt_words.specs.declared.token.Protocol.TheVariants.{Ether, Tcp, Udp, Icmp}
-use Rattle.flt_tree.specs.Tree.{NumberTree, literal, len, named, load, negated, applied}
+use Rattle.flt_ast.specs.Tree.{NumberTree, literal, len, named, load, negated, applied}
 use Rattle.cap_octet.specs.declared.link.Link.{Link}
-use Rattle.flt_code.specs.Elementary.{with}
+use Rattle.flt_emit.specs.Elementary.{with}
 use Rattle.cap_octet.specs.Link.{network_offset}
-use Rattle.flt_code.specs.Numbers.{width_of, base, result_of, number}
-use Rattle.flt_tree.specs.Counts.{number_words}
-use Rattle.flt_code.specs.inside.Code.{plain, computation, takes, constant, constant_operand, branch_insn, emit_base, emit_transport, emit_accessor, emit_operands, emit_number}
+use Rattle.flt_emit.specs.Numbers.{width_of, base, result_of, number}
+use Rattle.flt_ast.specs.Counts.{number_words}
+use Rattle.flt_emit.specs.inside.Code.{plain, computation, takes, constant, constant_operand, branch_insn, emit_base, emit_transport, emit_accessor, emit_operands, emit_number}
 use Rattle.flt_gen.proofs.Tails.{by_right}
 use Rattle.flt_bpf.specs.Answer.{answer_of, answer_after}
 use Rattle.flt_bpf.specs.declared.operation.Operation.TheVariants.{LoadAbsolute, LoadIndirect, Load, LoadHeaderLength, Store, Compute, Negate, Jump, CopyToIndex}

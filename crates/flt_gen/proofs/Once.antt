@@ -3,13 +3,13 @@ use Rattle.std.proofs.Common.{◌≡◌, ℕ, ◌+◌, ◌≤◌, List, [], ◌�
 use Rattle.flt_words.specs.declared.token.Comparison.{Comparison}
 use Rattle.flt_words.specs.declared.token.Protocol.{Protocol}
 use Rattle.flt_words.specs.declared.token.Protocol.TheVariants.{Ether, Ip, Ip6, Arp, Rarp, Tcp, Udp, Icmp, Icmp6}
-use Rattle.flt_tree.specs.Tree.{NumberTree, literal, len, named, load, negated, applied, compared}
-use Rattle.flt_tree.specs.Counts.{number_tests, truth_tests}
+use Rattle.flt_ast.specs.Tree.{NumberTree, literal, len, named, load, negated, applied, compared}
+use Rattle.flt_ast.specs.Counts.{number_tests, truth_tests}
 use Rattle.cap_octet.specs.declared.link.Link.{Link}
-use Rattle.flt_code.specs.declared.elementary.Elementary.{Elementary}
-use Rattle.flt_code.specs.Elementary.{Reading, Yes, No, Rejected, elementary_reads}
-use Rattle.flt_code.specs.Numbers.{accessors, accessor_tests}
-use Rattle.flt_code.specs.Formula.{Formula, Compare, both, reads, guarded_formula, checked_formula}
+use Rattle.flt_emit.specs.declared.elementary.Elementary.{Elementary}
+use Rattle.flt_emit.specs.Elementary.{Reading, Yes, No, Rejected, elementary_reads}
+use Rattle.flt_emit.specs.Numbers.{accessors, accessor_tests}
+use Rattle.flt_emit.specs.Formula.{Formula, Compare, both, reads, guarded_formula, checked_formula}
 use Rattle.flt_gen.specs.inside.Counts.{tests}
 use Rattle.flt_gen.specs.inside.Emitted.{equals, without_protocol, protocols_of, relation_formula}
 use Rattle.flt_gen.specs.Reading.{formula}

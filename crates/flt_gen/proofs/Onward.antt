@@ -12,14 +12,14 @@ use Rattle.flt_bpf.specs.Instructions.{operation_of}
 use Rattle.flt_bpf.specs.Machine.{step, does_if_known, start, field, into, header_length}
 use Rattle.flt_words.specs.declared.token.Comparison.{Comparison}
 use Rattle.flt_words.specs.declared.token.Comparison.TheVariants.{Equal, NotEqual, Less, AtMost, Greater, AtLeast}
-use Rattle.flt_code.specs.declared.elementary.Offset.{Offset}
-use Rattle.flt_code.specs.declared.elementary.Offset.TheVariants.{Fixed, AfterHeader}
-use Rattle.flt_code.specs.declared.elementary.Elementary.{Elementary}
-use Rattle.flt_code.specs.declared.elementary.Elementary.TheVariants.{Outcome, Field}
-use Rattle.flt_code.specs.declared.elementary.Fact.{Fact}
-use Rattle.flt_code.specs.Elementary.{Reading, Yes, No, Rejected, reading_of, with, compares, field_at, under_mask, elementary_reads}
-use Rattle.flt_code.specs.declared.follow.Knowledge.{Knowledge}
-use Rattle.flt_code.specs.inside.Follow.{load_code, same_mask, same_place, is_equal, says_value, test_says, first_of, looks_at, known_outcome, outcome_place, past_mask, past_load, onward, step_from, follow, MOST_STEPS, fact, facts_of, agreed_place, followed_place, past_index, target}
+use Rattle.flt_emit.specs.declared.elementary.Offset.{Offset}
+use Rattle.flt_emit.specs.declared.elementary.Offset.TheVariants.{Fixed, AfterHeader}
+use Rattle.flt_emit.specs.declared.elementary.Elementary.{Elementary}
+use Rattle.flt_emit.specs.declared.elementary.Elementary.TheVariants.{Outcome, Field}
+use Rattle.flt_emit.specs.declared.elementary.Fact.{Fact}
+use Rattle.flt_emit.specs.Elementary.{Reading, Yes, No, Rejected, reading_of, with, compares, field_at, under_mask, elementary_reads}
+use Rattle.flt_emit.specs.declared.follow.Knowledge.{Knowledge}
+use Rattle.flt_emit.specs.inside.Follow.{load_code, same_mask, same_place, is_equal, says_value, test_says, first_of, looks_at, known_outcome, outcome_place, past_mask, past_load, onward, step_from, follow, MOST_STEPS, fact, facts_of, agreed_place, followed_place, past_index, target}
 use Rattle.flt_bpf.specs.Answer.{answer_of, answer_after}
 use Rattle.flt_bpf.proofs.Suffix.{answer_drop}
 use Rattle.flt_gen.proofs.Tails.{Extends, extends_none, extends_put, extends_on}

@@ -11,12 +11,12 @@ use Rattle.flt_words.specs.declared.token.Operator.{Operator}
 use Rattle.flt_words.specs.declared.token.Operator.TheVariants.{Or, And, ShiftLeft, ShiftRight, Add, Subtract, Multiply, Divide, Remainder, ExclusiveOr}
 use Rattle.flt_words.specs.declared.token.Protocol.{Protocol}
 use Rattle.flt_words.specs.declared.token.Protocol.TheVariants.{Ether, Tcp, Udp, Icmp}
-use Rattle.flt_code.specs.declared.elementary.Elementary.{Elementary}
+use Rattle.flt_emit.specs.declared.elementary.Elementary.{Elementary}
 use Rattle.cap_octet.specs.Link.{network_offset}
-use Rattle.flt_code.specs.Numbers.{width_of}
-use Rattle.flt_code.specs.declared.follow.Knowledge.{Knowledge}
-use Rattle.flt_code.specs.inside.Follow.{and_fork, fact, always, and_fact, target}
-use Rattle.flt_code.specs.declared.elementary.Fact.{Fact}
+use Rattle.flt_emit.specs.Numbers.{width_of}
+use Rattle.flt_emit.specs.declared.follow.Knowledge.{Knowledge}
+use Rattle.flt_emit.specs.inside.Follow.{and_fork, fact, always, and_fact, target}
+use Rattle.flt_emit.specs.declared.elementary.Fact.{Fact}
 use Rattle.flt_gen.proofs.Exclusive.{Apt, excluded_no}
 use Rattle.flt_gen.proofs.Onward.{is_load, Leads, leads_on, Settles, Branches, MaskedBranches, Settled, FactHolds, KnowledgeHolds, Ready, LeadsReady, ready_anyhow, ready_on, target_leads}
 use Rattle.flt_bpf.specs.declared.operation.Test.{Test}
@@ -25,26 +25,26 @@ use Rattle.flt_bpf.specs.declared.operation.Operand.{Operand}
 use Rattle.flt_bpf.specs.declared.operation.Operand.TheVariants.{Constant, IndexRegister}
 use Rattle.flt_words.specs.declared.token.Comparison.{Comparison}
 use Rattle.flt_words.specs.declared.token.Comparison.TheVariants.{Equal, NotEqual, Less, AtMost, Greater, AtLeast}
-use Rattle.flt_tree.specs.Tree.{NumberTree, literal, len, named, load, negated, applied}
+use Rattle.flt_ast.specs.Tree.{NumberTree, literal, len, named, load, negated, applied}
 use Rattle.cap_octet.specs.declared.link.Link.{Link}
-use Rattle.flt_code.specs.declared.elementary.Offset.{Offset}
-use Rattle.flt_code.specs.declared.elementary.Offset.TheVariants.{Fixed, AfterHeader}
-use Rattle.flt_code.specs.declared.elementary.FieldTest.{FieldTest}
-use Rattle.flt_code.specs.declared.elementary.Elementary.TheVariants.{Outcome, Field}
+use Rattle.flt_emit.specs.declared.elementary.Offset.{Offset}
+use Rattle.flt_emit.specs.declared.elementary.Offset.TheVariants.{Fixed, AfterHeader}
+use Rattle.flt_emit.specs.declared.elementary.FieldTest.{FieldTest}
+use Rattle.flt_emit.specs.declared.elementary.Elementary.TheVariants.{Outcome, Field}
 use Rattle.flt_bpf.specs.declared.machine.State.{State}
 use Rattle.flt_bpf.specs.declared.operation.Register.TheVariants.{Accumulator, Index}
 use Rattle.flt_bpf.specs.Machine.{field, test_holds, operand_value, into, header_length}
-use Rattle.flt_code.specs.Elementary.{Reading, Yes, No, Rejected, reading_of, with, compares, field_at, under_mask, elementary_reads}
-use Rattle.flt_code.specs.Numbers.{number}
-use Rattle.flt_code.specs.Formula.{Formula, Single, Compare, Both, Either, Except, Guard, Fork, Choose, Among, is_one_of, among_reads, relation_reads, both, either, negation as exchanged, reads}
-use Rattle.flt_tree.specs.Counts.{number_words}
+use Rattle.flt_emit.specs.Elementary.{Reading, Yes, No, Rejected, reading_of, with, compares, field_at, under_mask, elementary_reads}
+use Rattle.flt_emit.specs.Numbers.{number}
+use Rattle.flt_emit.specs.Formula.{Formula, Single, Compare, Both, Either, Except, Guard, Fork, Choose, Among, is_one_of, among_reads, relation_reads, both, either, negation as exchanged, reads}
+use Rattle.flt_ast.specs.Counts.{number_words}
 use Rattle.flt_gen.specs.inside.Counts.{words}
-use Rattle.flt_code.specs.inside.Code.{plain, computation, constant, constant_operand, emit_base, emit_transport, emit_accessor, emit_elementary, emit_jump, emit_branch, reach, emit_comparison, emit_field, emit_mask, emit_test, emit_operands, emit_number, emit_relation, Block, at_top, emit_chain, emit_search, LEVELS, emit_among, emit_formula}
+use Rattle.flt_emit.specs.inside.Code.{plain, computation, constant, constant_operand, emit_base, emit_transport, emit_accessor, emit_elementary, emit_jump, emit_branch, reach, emit_comparison, emit_field, emit_mask, emit_test, emit_operands, emit_number, emit_relation, Block, at_top, emit_chain, emit_search, LEVELS, emit_among, emit_formula}
 use Rattle.flt_bpf.specs.Answer.{answer_of, answer_after}
 use Rattle.flt_gen.proofs.Tails.{Extends, extends_none, extends_put, extends_on, branch_extends, field_extends, mask_extends, by_reach, by_right, test_extends, relation_extends, search_extends}
 use Rattle.flt_short.proofs.Basics.{by_test}
 use Rattle.flt_gen.proofs.Ascending.{Ascending, Searchable, searchable_ascends, ascending_take, ascending_drop, lower_half, upper_half}
-use Rattle.flt_code.specs.declared.elementary.MaskedField.{MaskedField}
+use Rattle.flt_emit.specs.declared.elementary.MaskedField.{MaskedField}
 use Rattle.flt_bpf.proofs.Suffix.{answer_drop}
 use Rattle.flt_gen.proofs.Numbers.{NumberRuns, TwoRuns, constant_is, run_load, run_indirect, run_header, run_mask, run_jump, run_branch, number_runs, two_runs}
 use Rattle.flt_bpf.specs.declared.operation.Operation.TheVariants.{LoadIndirect, Jump, JumpIf}

@@ -12,22 +12,22 @@ use Rattle.flt_words.specs.declared.token.Comparison.{Comparison}
 use Rattle.flt_words.specs.declared.token.Comparison.TheVariants.{Equal, NotEqual, Less, AtMost, Greater, AtLeast}
 use Rattle.flt_words.specs.declared.token.Protocol.{Protocol}
 use Rattle.flt_words.specs.declared.token.Protocol.TheVariants.{Ether, Tcp, Udp, Icmp}
-use Rattle.flt_tree.specs.Tree.{NumberTree, literal, len, named, load, negated, applied}
+use Rattle.flt_ast.specs.Tree.{NumberTree, literal, len, named, load, negated, applied}
 use Rattle.cap_octet.specs.declared.link.Link.{Link}
-use Rattle.flt_code.specs.declared.elementary.Offset.{Offset}
-use Rattle.flt_code.specs.declared.elementary.Offset.TheVariants.{Fixed, AfterHeader}
-use Rattle.flt_code.specs.declared.elementary.FieldTest.{FieldTest}
-use Rattle.flt_code.specs.declared.elementary.Elementary.{Elementary}
-use Rattle.flt_code.specs.declared.elementary.Elementary.TheVariants.{Outcome, Field}
+use Rattle.flt_emit.specs.declared.elementary.Offset.{Offset}
+use Rattle.flt_emit.specs.declared.elementary.Offset.TheVariants.{Fixed, AfterHeader}
+use Rattle.flt_emit.specs.declared.elementary.FieldTest.{FieldTest}
+use Rattle.flt_emit.specs.declared.elementary.Elementary.{Elementary}
+use Rattle.flt_emit.specs.declared.elementary.Elementary.TheVariants.{Outcome, Field}
 use Rattle.cap_octet.specs.Link.{network_offset}
-use Rattle.flt_code.specs.Numbers.{width_of, accessor_tests}
-use Rattle.flt_code.specs.Formula.{Formula, Single, Compare, Both, Either, Except, Guard, Fork, Choose, Among}
-use Rattle.flt_code.specs.declared.code.Reach.{Reach}
-use Rattle.flt_code.specs.declared.code.Reach.TheVariants.{Near, YesFar, NoFar, BothFar}
-use Rattle.flt_code.specs.inside.Code.{plain, emit_branch, emit_branch_by, reach, emit_comparison, emit_field, emit_mask, emit_test, emit_accessor, constant, constant_operand, emit_right, emit_number, emit_relation, Block, emit_chain, emit_search, LEVELS, emit_elementary, emit_fork, emit_formula, emit_all, emit_base, emit_transport}
+use Rattle.flt_emit.specs.Numbers.{width_of, accessor_tests}
+use Rattle.flt_emit.specs.Formula.{Formula, Single, Compare, Both, Either, Except, Guard, Fork, Choose, Among}
+use Rattle.flt_emit.specs.declared.code.Reach.{Reach}
+use Rattle.flt_emit.specs.declared.code.Reach.TheVariants.{Near, YesFar, NoFar, BothFar}
+use Rattle.flt_emit.specs.inside.Code.{plain, emit_branch, emit_branch_by, reach, emit_comparison, emit_field, emit_mask, emit_test, emit_accessor, constant, constant_operand, emit_right, emit_number, emit_relation, Block, emit_chain, emit_search, LEVELS, emit_elementary, emit_fork, emit_formula, emit_all, emit_base, emit_transport}
 use Rattle.flt_gen.specs.inside.ProgramCode.{emit_accessors}
-use Rattle.flt_code.specs.declared.follow.Knowledge.{Knowledge}
-use Rattle.flt_code.specs.inside.Follow.{and_fork, fact, always, nothing, and_fact, target}
+use Rattle.flt_emit.specs.declared.follow.Knowledge.{Knowledge}
+use Rattle.flt_emit.specs.inside.Follow.{and_fork, fact, always, nothing, and_fact, target}
 use Rattle.flt_bpf.specs.declared.operation.Operation.TheVariants.{Store, Negate, Jump}
 use Rattle.flt_bpf.specs.declared.operation.Register.TheVariants.{Accumulator}
 

@@ -9,21 +9,21 @@ use Rattle.flt_words.specs.declared.token.ValueType.{ValueType}
 use Rattle.flt_words.specs.declared.token.ValueType.TheVariants.{Host, Net, Port, PortRange, Proto}
 use Rattle.flt_words.specs.declared.token.Side.TheVariants.{Source, Destination}
 use Rattle.flt_words.specs.declared.token.Join.TheVariants.{And, Or}
-use Rattle.flt_tree.specs.declared.qualifiers.Direction.{Direction}
-use Rattle.flt_tree.specs.declared.qualifiers.Direction.TheVariants as direction
+use Rattle.flt_ast.specs.declared.qualifiers.Direction.{Direction}
+use Rattle.flt_ast.specs.declared.qualifiers.Direction.TheVariants as direction
 use Rattle.cap_octet.specs.declared.link.Link.{Link}
-use Rattle.flt_code.specs.declared.elementary.FrameKind.{FrameKind}
-use Rattle.flt_code.specs.declared.elementary.FrameKind.TheVariants as kind
-use Rattle.flt_code.specs.declared.elementary.Elementary.{Elementary}
+use Rattle.flt_emit.specs.declared.elementary.FrameKind.{FrameKind}
+use Rattle.flt_emit.specs.declared.elementary.FrameKind.TheVariants as kind
+use Rattle.flt_emit.specs.declared.elementary.Elementary.{Elementary}
 use Rattle.flt_gen.specs.declared.wanted.Hosts.TheVariants as hosts
 use Rattle.flt_gen.specs.declared.wanted.Ports.{Ports}
 use Rattle.flt_gen.specs.declared.wanted.Ports.TheVariants.{One, Several}
-use Rattle.flt_code.specs.declared.elementary.Sides.{Sides}
+use Rattle.flt_emit.specs.declared.elementary.Sides.{Sides}
 use Rattle.flt_gen.specs.declared.wanted.Transport.{Transport}
-use Rattle.flt_code.specs.Elementary.{Reading, Yes, No, Rejected, reading_of, with, field_at, compares_at, kind_test, elementary_reads}
-use Rattle.flt_code.specs.Formula.{Formula, is_one_of, both, either, sides, reads}
+use Rattle.flt_emit.specs.Elementary.{Reading, Yes, No, Rejected, reading_of, with, field_at, compares_at, kind_test, elementary_reads}
+use Rattle.flt_emit.specs.Formula.{Formula, is_one_of, both, either, sides, reads}
 use Rattle.flt_gen.specs.Primitives.{address_places, net_test, net_formula, hosts_formula, port_places, port_sides, transport, following, transport_ports, ip_transport, ip6_transport, port_test, port_formula}
-use Rattle.flt_code.specs.Formula.{remaining, any_sides}
+use Rattle.flt_emit.specs.Formula.{remaining, any_sides}
 use Rattle.flt_gen.specs.inside.Group.{insert_ascending, one_formula, several_formula}
 use Rattle.flt_gen.proofs.Ascending.{one_of_inserted, one_of_others}
 use Rattle.flt_gen.proofs.Exclusive.{ip_no_ip6, ip_no_arp, ip_no_rarp, arp_no_rarp}

@@ -3,9 +3,9 @@ use Rattle.std.proofs.Common.{◌≡◌, ℕ, ◌-◌, ◌≤◌, List, [], ◌�
 use Rattle.std.specs.Prelude.{reverse}
 use Rattle.std.proofs.Math.Seq.{take-suc}
 use Rattle.std.proofs.lemmas.List.{reverse-append}
-use Rattle.flt_tree.specs.declared.node.Node.{Node}
-use Rattle.flt_tree.specs.Tree.{Expression}
-use Rattle.flt_tree.specs.inside.Nodes.{expr_onto}
+use Rattle.flt_ast.specs.declared.node.Node.{Node}
+use Rattle.flt_ast.specs.Tree.{Expression}
+use Rattle.flt_ast.specs.inside.Nodes.{expr_onto}
 use Rattle.cap_octet.specs.declared.link.Link.{Link}
 use Rattle.flt_gen.specs.inside.ProgramCode.{expression_code, program_code}
 use Rattle.flt_gen.specs.inside.Walk.{Walk, emit_node, emit_both_nodes, emit_nodes, start_walk, insns_of}

@@ -4,25 +4,25 @@ use Rattle.std.proofs.Common.{◌≡◌, ℕ, List, [], ◌∷◌, Bool, true, f
 use Rattle.flt_bpf.specs.declared.insn.Insn.{Insn}
 use Rattle.flt_words.specs.declared.token.Join.TheVariants.{And, Or}
 use Rattle.flt_words.specs.declared.token.Comparison.{Comparison}
-use Rattle.flt_tree.specs.declared.qualifiers.CompleteQualifiers.{CompleteQualifiers}
-use Rattle.flt_tree.specs.declared.value.Value.{Value}
-use Rattle.flt_tree.specs.declared.node.Node.{Node}
-use Rattle.flt_tree.specs.declared.node.Node.TheVariants.{Apply, Compare, Literal, Not}
+use Rattle.flt_ast.specs.declared.qualifiers.CompleteQualifiers.{CompleteQualifiers}
+use Rattle.flt_ast.specs.declared.value.Value.{Value}
+use Rattle.flt_ast.specs.declared.node.Node.{Node}
+use Rattle.flt_ast.specs.declared.node.Node.TheVariants.{Apply, Compare, Literal, Not}
 use Rattle.flt_bpf.specs.declared.operation.Operand.TheVariants.{Constant, IndexRegister}
 use Rattle.flt_words.specs.declared.token.Operator.{Operator}
-use Rattle.flt_code.specs.declared.elementary.Elementary.TheVariants.{Outcome}
+use Rattle.flt_emit.specs.declared.elementary.Elementary.TheVariants.{Outcome}
 use Rattle.flt_gen.specs.Primitives.{check_formula, cast_formula, sized_formula}
 use Rattle.flt_gen.specs.inside.Group.{Group, no_group, larger_group, truth_member, choice, or_any, or_group, group_formula, grouped_formula}
-use Rattle.flt_tree.specs.Tree.{NumberTree, literal, len, named, load, negated, applied, TruthTree, check, cast, sized, bare, valued, qualified, compared, denied, joined, Expression, empty, truth}
-use Rattle.flt_tree.specs.inside.Nodes.{number_onto, truth_onto, expr_onto}
+use Rattle.flt_ast.specs.Tree.{NumberTree, literal, len, named, load, negated, applied, TruthTree, check, cast, sized, bare, valued, qualified, compared, denied, joined, Expression, empty, truth}
+use Rattle.flt_ast.specs.inside.Nodes.{number_onto, truth_onto, expr_onto}
 use Rattle.cap_octet.specs.declared.link.Link.{Link}
-use Rattle.flt_code.specs.declared.code.Targets.{Targets}
+use Rattle.flt_emit.specs.declared.code.Targets.{Targets}
 use Rattle.flt_gen.specs.declared.waiting.LeftTruth.{LeftTruth}
 use Rattle.flt_gen.specs.declared.waiting.Pending.TheVariants as next
 use Rattle.flt_gen.specs.inside.Emitted.{protocols_of, relation_formula, qualified_needed}
-use Rattle.flt_code.specs.Formula.{Formula, Single, Both, Either, Except, Compare as compare}
-use Rattle.flt_code.specs.inside.Follow.{nothing}
-use Rattle.flt_code.specs.inside.Code.{plain, computation, takes, emit_comparison, emit_operands, emit_right, emit_number, Block, emit_formula}
+use Rattle.flt_emit.specs.Formula.{Formula, Single, Both, Either, Except, Compare as compare}
+use Rattle.flt_emit.specs.inside.Follow.{nothing}
+use Rattle.flt_emit.specs.inside.Code.{plain, computation, takes, emit_comparison, emit_operands, emit_right, emit_number, Block, emit_formula}
 use Rattle.flt_gen.specs.inside.ProgramCode.{emit_accessors, expression_code}
 use Rattle.flt_gen.specs.inside.Walk.{Walk, targets, finish_truth, finish_number, with_insns, finish_formula, flush_members, flush_group, emit_value, emit_truth_node, emit_node, or_walk, start_walk, emit_nodes}
 use Rattle.flt_gen.proofs.Joined.{checked_emitted}

@@ -8,20 +8,20 @@ use Rattle.flt_bpf.specs.Instructions.{operation_of}
 use Rattle.flt_bpf.specs.Machine.{step, start}
 use Rattle.flt_bpf.specs.Check.{fault_of, ends_in_return, IsFaultless}
 use Rattle.flt_bpf.specs.Valid.{IsValid}
-use Rattle.flt_tree.specs.Tree.{TruthTree, Expression, empty, truth}
-use Rattle.flt_tree.specs.Counts.{words_of, bound_of, truth_tests, truth_size}
-use Rattle.flt_tree.specs.Resolved.{is_unfilled, any_primitive, some_primitive}
+use Rattle.flt_ast.specs.Tree.{TruthTree, Expression, empty, truth}
+use Rattle.flt_ast.specs.Counts.{words_of, bound_of, truth_tests, truth_size}
+use Rattle.flt_ast.specs.Resolved.{is_unfilled, any_primitive, some_primitive}
 use Rattle.flt_short.specs.Alike.{Shortens}
 use Rattle.flt_passes.specs.Betters.{Betters}
 use Rattle.cap_octet.specs.declared.link.Link.{Link}
-use Rattle.flt_code.specs.declared.elementary.Elementary.TheVariants.{Outcome}
-use Rattle.flt_code.specs.Elementary.{Reading, Yes, No, Rejected}
-use Rattle.flt_code.specs.Formula.{Formula, Single, reads}
+use Rattle.flt_emit.specs.declared.elementary.Elementary.TheVariants.{Outcome}
+use Rattle.flt_emit.specs.Elementary.{Reading, Yes, No, Rejected}
+use Rattle.flt_emit.specs.Formula.{Formula, Single, reads}
 use Rattle.flt_gen.specs.Reading.{holds}
 use Rattle.flt_gen.specs.Counts.{short_bound_of}
 use Rattle.flt_gen.specs.inside.Counts.{words, tests, nodes}
-use Rattle.flt_code.specs.inside.Follow.{nothing}
-use Rattle.flt_code.specs.inside.Code.{plain, emit_formula, Block}
+use Rattle.flt_emit.specs.inside.Follow.{nothing}
+use Rattle.flt_emit.specs.inside.Code.{plain, emit_formula, Block}
 use Rattle.flt_gen.specs.inside.ProgramCode.{returns_code, expression_code, from_entry, program_code}
 use Rattle.flt_gen.specs.Correct.{Decides, IsProgramOf}
 use Rattle.flt_bpf.specs.Layout.{JUMP, JumpsAreNeeded, IsShort}

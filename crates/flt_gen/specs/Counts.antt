@@ -1,8 +1,8 @@
 -- How many tests, nodes of arithmetic and words of memory a formula has, and the bound of a program
 -- without jumps.
 use Rattle.std.specs.Prelude.{ℕ, ◌+◌, ◌*◌}
-use Rattle.flt_tree.specs.Tree.{Expression}
-use Rattle.flt_tree.specs.Counts.{tests_of, nodes_of}
+use Rattle.flt_ast.specs.Tree.{Expression}
+use Rattle.flt_ast.specs.Counts.{tests_of, nodes_of}
 
 -- the most instructions of an expression's program where no jump is needed
 abbrev pub short_bound_of : Expression → ℕ

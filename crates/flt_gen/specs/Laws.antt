@@ -1,18 +1,18 @@
 -- Laws of the table of primitives.
 use Rattle.std.specs.Prelude.{◌≡◌, ◌↔◌, ℕ, ◌-◌, ◌^◌, ◌<◌, Bool, true, false, List, All, map, Option, None, unwrap_or}
 use Rattle.std.specs.Int.Digits.{number_from_digits}
-use Rattle.flt_tree.specs.Nets.{ip6_mask}
+use Rattle.flt_ast.specs.Nets.{ip6_mask}
 use Rattle.cap_octet.specs.NetworkHeader.{network_header}
 use Rattle.cap_octet.specs.declared.network.NetworkHeader.TheVariants.{Known, Short}
 use Rattle.cap_octet.specs.declared.network.NetworkKind.{NetworkKind}
 use Rattle.cap_octet.specs.declared.network.NetworkKind.TheVariants as network
-use Rattle.flt_code.specs.declared.elementary.Elementary.{Elementary}
-use Rattle.flt_code.specs.declared.elementary.FrameKind.{FrameKind}
-use Rattle.flt_code.specs.declared.elementary.FrameKind.TheVariants as frame
+use Rattle.flt_emit.specs.declared.elementary.Elementary.{Elementary}
+use Rattle.flt_emit.specs.declared.elementary.FrameKind.{FrameKind}
+use Rattle.flt_emit.specs.declared.elementary.FrameKind.TheVariants as frame
 use Rattle.cap_octet.specs.declared.link.Link.{Link}
-use Rattle.flt_code.specs.Elementary.{Yes, Rejected, elementary_reads, kind_test}
+use Rattle.flt_emit.specs.Elementary.{Yes, Rejected, elementary_reads, kind_test}
 use Rattle.cap_octet.specs.Link.{link_type, type_offset}
-use Rattle.flt_code.specs.declared.elementary.Elementary.TheVariants.{Outcome, Field}
+use Rattle.flt_emit.specs.declared.elementary.Elementary.TheVariants.{Outcome, Field}
 use Rattle.flt_gen.specs.Primitives.{ip6_tests}
 
 -- the bits of a word that a test looks at

@@ -12,32 +12,32 @@ use Rattle.flt_words.specs.declared.token.Size.{Size}
 use Rattle.flt_words.specs.declared.token.Size.TheVariants as size
 use Rattle.flt_words.specs.declared.token.Cast.{Cast}
 use Rattle.flt_words.specs.declared.token.Cast.TheVariants.{Broadcast, Multicast}
-use Rattle.flt_tree.specs.declared.qualifiers.Direction.{Direction}
-use Rattle.flt_tree.specs.declared.qualifiers.Direction.TheVariants as direction
-use Rattle.flt_tree.specs.declared.qualifiers.CompleteQualifiers.{CompleteQualifiers}
-use Rattle.flt_tree.specs.declared.value.Value.{Value}
-use Rattle.flt_tree.specs.declared.value.Value.TheVariants as value
-use Rattle.flt_tree.specs.declared.net.Ip4Net.{Ip4Net}
-use Rattle.flt_tree.specs.Nets.{first_bits, ip4_net}
-use Rattle.flt_tree.specs.Tree.{literal, len}
+use Rattle.flt_ast.specs.declared.qualifiers.Direction.{Direction}
+use Rattle.flt_ast.specs.declared.qualifiers.Direction.TheVariants as direction
+use Rattle.flt_ast.specs.declared.qualifiers.CompleteQualifiers.{CompleteQualifiers}
+use Rattle.flt_ast.specs.declared.value.Value.{Value}
+use Rattle.flt_ast.specs.declared.value.Value.TheVariants as value
+use Rattle.flt_ast.specs.declared.net.Ip4Net.{Ip4Net}
+use Rattle.flt_ast.specs.Nets.{first_bits, ip4_net}
+use Rattle.flt_ast.specs.Tree.{literal, len}
 use Rattle.cap_octet.specs.declared.link.Link.{Link}
-use Rattle.flt_code.specs.declared.elementary.FrameKind.{FrameKind}
-use Rattle.flt_code.specs.declared.elementary.FrameKind.TheVariants.{Ethernet, Ip, Ip6, Arp, Rarp}
-use Rattle.flt_code.specs.declared.elementary.Offset.{Offset}
-use Rattle.flt_code.specs.declared.elementary.Offset.TheVariants.{Fixed, AfterHeader}
-use Rattle.flt_code.specs.declared.elementary.Elementary.{Elementary}
-use Rattle.flt_code.specs.declared.elementary.Elementary.TheVariants.{Outcome, Field}
+use Rattle.flt_emit.specs.declared.elementary.FrameKind.{FrameKind}
+use Rattle.flt_emit.specs.declared.elementary.FrameKind.TheVariants.{Ethernet, Ip, Ip6, Arp, Rarp}
+use Rattle.flt_emit.specs.declared.elementary.Offset.{Offset}
+use Rattle.flt_emit.specs.declared.elementary.Offset.TheVariants.{Fixed, AfterHeader}
+use Rattle.flt_emit.specs.declared.elementary.Elementary.{Elementary}
+use Rattle.flt_emit.specs.declared.elementary.Elementary.TheVariants.{Outcome, Field}
 use Rattle.flt_gen.specs.declared.wanted.Ports.{Ports}
-use Rattle.flt_code.specs.declared.elementary.Sides.{Sides}
+use Rattle.flt_emit.specs.declared.elementary.Sides.{Sides}
 use Rattle.flt_gen.specs.declared.wanted.NetTest.{NetTest}
 use Rattle.flt_gen.specs.declared.wanted.Hosts.{Hosts}
 use Rattle.flt_gen.specs.declared.wanted.Hosts.TheVariants as hosts
 use Rattle.flt_gen.specs.declared.wanted.PortTest.{PortTest}
 use Rattle.flt_gen.specs.declared.wanted.Transport.{Transport}
 use Rattle.flt_gen.specs.declared.wanted.Ports.TheVariants.{One, Between, Several}
-use Rattle.flt_code.specs.Elementary.{with, is_at, compares_at, has_type, kind_test, first_fragment, has_ip_proto, has_ip6_proto}
+use Rattle.flt_emit.specs.Elementary.{with, is_at, compares_at, has_type, kind_test, first_fragment, has_ip_proto, has_ip6_proto}
 use Rattle.cap_octet.specs.Link.{network_offset}
-use Rattle.flt_code.specs.Formula.{Formula, Single, Compare, Guard, Fork, Choose, all_of, guarded_formula, sides, any_sides}
+use Rattle.flt_emit.specs.Formula.{Formula, Single, Compare, Guard, Fork, Choose, all_of, guarded_formula, sides, any_sides}
 
 -- protocols; of the kinds of frames at most one is yes
 

@@ -2,23 +2,23 @@
 
 ghost use Rattle.std.specs.Prelude.{◌≡◌, ◌+◌, ◌*◌, ◌≤◌, length};
 ghost use Rattle.cap_octet.specs.Link.{longest_header};
-ghost use Rattle.flt_tree.specs.Nets.{first_bits};
-ghost use Rattle.flt_code.specs.Elementary.{kind_test};
-ghost use Rattle.flt_code.specs.inside.Emits.{HasRoom, Emits, EmitsFormula, EmitsAfter};
+ghost use Rattle.flt_ast.specs.Nets.{first_bits};
+ghost use Rattle.flt_emit.specs.Elementary.{kind_test};
+ghost use Rattle.flt_emit.specs.inside.Emits.{HasRoom, Emits, EmitsFormula, EmitsAfter};
 ghost use Rattle.flt_gen.specs.Primitives.{address_test, address_places, net_formula};
 ghost use Rattle.flt_gen.specs.Primitives.{hosts_sides, any_hosts, hosts_formula};
 ghost use Rattle.flt_gen.specs.Primitives.{ip6_test, ip6_tests};
 ghost use Rattle.flt_gen.specs.inside.Emitted.{is_idle, last_test, needed_tests, needed_sides, ip6_needed};
-ghost use Rattle.flt_code.specs.inside.Code.{emit_all};
+ghost use Rattle.flt_emit.specs.inside.Code.{emit_all};
 
 use crate::wanted::{Hosts, NetTest, partial_mask};
 use cap_octet::Link;
 use flt_bpf::operation::Width;
-use flt_code::{
+use flt_emit::{
     Code, Context, Elementary, FieldTest, FrameKind, Offset, Sides, emit_any_sides,
     emit_elementary, emit_sides, kind_test, network_offset,
 };
-use flt_tree::Direction;
+use flt_ast::Direction;
 use flt_words::{Comparison, Join, Protocol, Side};
 use std::alloc::{AllocError, Allocator};
 
@@ -216,7 +216,7 @@ fn last_test(test: Elementary) -> Elementary
 
 /// All of some tests of words, each after the one before. One of which no bit counts is left out
 /// in front of another: where its word isn't captured, no later one is.
-#[tactic(auto, using(flt_code::proofs::Joined::all_emitted))]
+#[tactic(auto, using(flt_emit::proofs::Joined::all_emitted))]
 fn emit_words<A: Allocator>(
     code: &mut Code<A>,
     context: Context,
@@ -241,7 +241,7 @@ fn emit_words<A: Allocator>(
 }
 
 /// The words of the source and of the destination, as a direction asks for them.
-#[tactic(auto, using(flt_code::proofs::Joined::all_emitted))]
+#[tactic(auto, using(flt_emit::proofs::Joined::all_emitted))]
 fn emit_word_sides<A: Allocator>(
     code: &mut Code<A>,
     context: Context,

@@ -5,7 +5,7 @@ ghost use Rattle.std.specs.List.{insert};
 ghost use Rattle.flt_gen.specs.inside.Group.{no_group, insert_ascending, same_type, same_protocol};
 ghost use Rattle.flt_gen.specs.inside.Group.{same_direction, goes_with, member_number, larger_group};
 
-use flt_tree::{CompleteQualifiers, Direction, Value};
+use flt_ast::{CompleteQualifiers, Direction, Value};
 use flt_words::{Join, Protocol, Side, ValueType};
 use std::alloc::{AllocError, Allocator};
 use std::marker::Model;

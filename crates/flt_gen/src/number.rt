@@ -1,18 +1,18 @@
 //! The code of arithmetic and of the tests that accessors ask for.
 
 ghost use Rattle.std.specs.Prelude.{◌≡◌, ◌^◌, ◌<◌, length, OnOk, IfOk, reverse};
-ghost use Rattle.flt_code.specs.inside.Code.{block, emit_base, emit_transport, emit_accessor};
-ghost use Rattle.flt_code.specs.inside.Code.{alu_operation, computation, takes, emit_operands};
-ghost use Rattle.flt_code.specs.inside.Code.{emit_all};
+ghost use Rattle.flt_emit.specs.inside.Code.{block, emit_base, emit_transport, emit_accessor};
+ghost use Rattle.flt_emit.specs.inside.Code.{alu_operation, computation, takes, emit_operands};
+ghost use Rattle.flt_emit.specs.inside.Code.{emit_all};
 ghost use Rattle.flt_gen.specs.inside.ProgramCode.{emit_accessors};
-ghost use Rattle.flt_code.specs.inside.Follow.{nothing};
-ghost use Rattle.flt_code.specs.Numbers.{accessor_tests, width_of};
-ghost use Rattle.flt_code.specs.inside.Emits.{HasRoom, Emits};
+ghost use Rattle.flt_emit.specs.inside.Follow.{nothing};
+ghost use Rattle.flt_emit.specs.Numbers.{accessor_tests, width_of};
+ghost use Rattle.flt_emit.specs.inside.Emits.{HasRoom, Emits};
 
 use cap_octet::Link;
 use cap_octet::assigned::{IPPROTO_ICMP, IPPROTO_TCP, IPPROTO_UDP};
 use flt_bpf::operation::{AluOperation, Operand, Operation, Register, Source, Width};
-use flt_code::{
+use flt_emit::{
     Code, Context, FrameKind, Targets, emit_all, first_fragment, has_ip_proto, kind_test,
     network_offset,
 };

@@ -3,7 +3,7 @@
 //! (`emit_port_sides`).
 
 ghost use Rattle.std.specs.Prelude.{◌≡◌, ◌+◌, ◌*◌, length};
-ghost use Rattle.flt_code.specs.inside.Emits.{HasRoom, EmitsFormula, EmitsAfter};
+ghost use Rattle.flt_emit.specs.inside.Emits.{HasRoom, EmitsFormula, EmitsAfter};
 ghost use Rattle.flt_gen.specs.Primitives.{port_is, port_between, port_places, port_sides};
 ghost use Rattle.flt_gen.specs.Primitives.{ports_after, transport_ports, ip_transport};
 ghost use Rattle.flt_gen.specs.Primitives.{ip6_transport, port_formula};
@@ -12,7 +12,7 @@ use crate::wanted::{PortTest, Ports, Transport};
 use cap_octet::Link;
 use cap_octet::assigned::{IPPROTO_TCP, IPPROTO_UDP};
 use flt_bpf::operation::Width;
-use flt_code::{
+use flt_emit::{
     Code, Context, Elementary, FrameKind, Offset, Sides, compares_at, emit_any_sides,
     emit_elementary, emit_fork, emit_sides, first_fragment, has_ip_proto, has_ip6_proto, kind_test,
     network_offset,

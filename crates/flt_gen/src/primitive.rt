@@ -1,20 +1,20 @@
 //! The code of primitives, row by row of their table.
 
 ghost use Rattle.std.specs.Prelude.{◌≡◌, ◌≤◌};
-ghost use Rattle.flt_code.specs.Elementary.{kind_test};
-ghost use Rattle.flt_code.specs.Formula.{Single};
-ghost use Rattle.flt_code.specs.inside.Emits.{HasRoom, EmitsFormula, EmitsAfter};
+ghost use Rattle.flt_emit.specs.Elementary.{kind_test};
+ghost use Rattle.flt_emit.specs.Formula.{Single};
+ghost use Rattle.flt_emit.specs.inside.Emits.{HasRoom, EmitsFormula, EmitsAfter};
 ghost use Rattle.flt_gen.specs.Primitives.{ether_proto, check_formula, proto_formula};
 ghost use Rattle.flt_gen.specs.Primitives.{ether_host, mac_tests, is_group_address, cast_formula};
 
 use cap_octet::assigned::{IPPROTO_ICMP, IPPROTO_ICMPV6, IPPROTO_TCP, IPPROTO_UDP};
 use flt_bpf::operation::Width;
-use flt_code::{
+use flt_emit::{
     Code, Context, Elementary, FieldTest, FrameKind, Offset, compares_at, emit_all,
     emit_elementary, emit_sides, has_ip_proto, has_ip6_proto, has_type, is_at, kind_test,
     network_offset,
 };
-use flt_tree::Direction;
+use flt_ast::Direction;
 use flt_words::{Cast, Comparison, Protocol, Side};
 use std::alloc::{AllocError, Allocator};
 

@@ -13,7 +13,7 @@ use flt_bpf::insn::Insn;
 use flt_bpf::program::{Program, check};
 use flt_passes::best_of;
 use flt_short::{pass_loads, shortened};
-use flt_tree::{Checked, Node};
+use flt_ast::{Checked, Node};
 use std::alloc::{AllocError, Allocator};
 
 /// The instructions of a program for the tree with these nodes.

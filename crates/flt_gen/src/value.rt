@@ -1,7 +1,7 @@
 //! The code of values with their qualifiers.
 
 ghost use Rattle.std.specs.Prelude.{◌+◌, ◌*◌, length};
-ghost use Rattle.flt_code.specs.inside.Emits.{HasRoom, EmitsFormula};
+ghost use Rattle.flt_emit.specs.inside.Emits.{HasRoom, EmitsFormula};
 ghost use Rattle.flt_gen.specs.Primitives.{host_formula};
 ghost use Rattle.flt_gen.specs.Primitives.{sized_formula};
 ghost use Rattle.flt_gen.specs.inside.Emitted.{net_needed, qualified_needed};
@@ -13,8 +13,8 @@ use crate::port::emit_ports;
 use crate::primitive::{emit_ether_host, emit_proto};
 use crate::wanted::{Hosts, NetTest, PortTest, Ports, partial_mask};
 use flt_bpf::operation::{Operand, Operation, Register, Source};
-use flt_code::{Code, Context, emit_comparison};
-use flt_tree::{CompleteQualifiers, Direction, Value};
+use flt_emit::{Code, Context, emit_comparison};
+use flt_ast::{CompleteQualifiers, Direction, Value};
 use flt_words::{Comparison, Protocol, Size, ValueType};
 use std::alloc::{AllocError, Allocator};
 

@@ -3,7 +3,7 @@
 ghost use Rattle.std.specs.Prelude.{◌≡◌, List, [], ◌∷◌, reverse, OnOk, MatchOption};
 ghost use Rattle.flt_gen.specs.inside.Emitted.{equals, without_protocol, with_accessor};
 
-use flt_code::Targets;
+use flt_emit::Targets;
 use flt_words::{Join, Protocol};
 use std::alloc::{AllocError, Allocator};
 use std::marker::Model;

@@ -1,13 +1,13 @@
 -- A division by 0 stands right after the 0.
 use Rattle.std.proofs.Common.{◌≡◌, List, [], ◌∷◌, refl, sym, ap, ◌∙◌, Bool, false, ◌||◌}
-use Rattle.flt_tree.specs.declared.node.Node.{Node}
-use Rattle.flt_tree.specs.declared.node.Node.TheVariants as node
-use Rattle.flt_tree.specs.Tree.{NumberTree, literal, len, named, load, negated, applied, TruthTree, check, cast, sized, bare, valued, qualified, compared, denied, joined, Expression, empty, truth}
-use Rattle.flt_tree.specs.Nodes.{number_nodes, truth_nodes, expr_nodes, tree_of}
-use Rattle.flt_tree.specs.inside.Nodes.{IsTree}
-use Rattle.flt_tree.specs.Resolved.{any_primitive, some_primitive}
-use Rattle.flt_tree.specs.Checks.{is_zero, has_zero_divisor, divides_by_zero}
-use Rattle.flt_tree.specs.inside.Checks.{zero_divided}
+use Rattle.flt_ast.specs.declared.node.Node.{Node}
+use Rattle.flt_ast.specs.declared.node.Node.TheVariants as node
+use Rattle.flt_ast.specs.Tree.{NumberTree, literal, len, named, load, negated, applied, TruthTree, check, cast, sized, bare, valued, qualified, compared, denied, joined, Expression, empty, truth}
+use Rattle.flt_ast.specs.Nodes.{number_nodes, truth_nodes, expr_nodes, tree_of}
+use Rattle.flt_ast.specs.inside.Nodes.{IsTree}
+use Rattle.flt_ast.specs.Resolved.{any_primitive, some_primitive}
+use Rattle.flt_ast.specs.Checks.{is_zero, has_zero_divisor, divides_by_zero}
+use Rattle.flt_ast.specs.inside.Checks.{zero_divided}
 use Rattle.flt_lang.proofs.Primitives.{or_assoc, or_false}
 
 number_zero : (a : NumberTree) (q : Bool) (rest : List Node) → zero_divided q (number_nodes a rest) ≡ (has_zero_divisor a || zero_divided (is_zero a) rest)

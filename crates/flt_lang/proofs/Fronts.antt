@@ -2,7 +2,7 @@
 use Rattle.std.proofs.Common.{◌≡◌, ℕ, ◌+◌, ◌-◌, ◌<◌, List, [], ◌∷◌, length, take, drop, get_or, ap, arith, Some, None, one-add}
 use Rattle.std.proofs.lemmas.List.{take_rest}
 use Rattle.flt_words.specs.declared.token.Token.{Token}
-use Rattle.flt_tree.specs.declared.value.Value.{Value}
+use Rattle.flt_ast.specs.declared.value.Value.{Value}
 use Rattle.flt_lang.specs.Grammar.{kinds_of}
 use Rattle.flt_lang.specs.inside.Values.{value_of}
 

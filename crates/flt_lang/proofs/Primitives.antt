@@ -4,13 +4,13 @@ use Rattle.std.specs.List.{list_any}
 use Rattle.flt_words.specs.declared.token.Protocol.{Protocol}
 use Rattle.flt_words.specs.declared.token.Operator.{Operator}
 use Rattle.flt_words.specs.declared.token.Join.{Join}
-use Rattle.flt_tree.specs.declared.node.Node.{Node}
-use Rattle.flt_tree.specs.declared.node.Node.TheVariants as node
-use Rattle.flt_tree.specs.Tree.{NumberTree, literal, len, named, load, negated, applied, TruthTree, check, cast, sized, bare, valued, qualified, compared, denied, joined, Expression, empty, truth}
-use Rattle.flt_tree.specs.Nodes.{number_nodes, truth_nodes, expr_nodes}
-use Rattle.flt_tree.specs.Fits.{is_size}
-use Rattle.flt_tree.specs.Resolved.{has_wrong_size, is_misfit, is_out_of_range, has_past_bits, any_primitive, some_primitive, tree_fault, is_misfit_node, is_out_of_range_node, has_past_bits_node}
-use Rattle.flt_tree.specs.inside.Resolved.{nodes_fault}
+use Rattle.flt_ast.specs.declared.node.Node.{Node}
+use Rattle.flt_ast.specs.declared.node.Node.TheVariants as node
+use Rattle.flt_ast.specs.Tree.{NumberTree, literal, len, named, load, negated, applied, TruthTree, check, cast, sized, bare, valued, qualified, compared, denied, joined, Expression, empty, truth}
+use Rattle.flt_ast.specs.Nodes.{number_nodes, truth_nodes, expr_nodes}
+use Rattle.flt_ast.specs.Fits.{is_size}
+use Rattle.flt_ast.specs.Resolved.{has_wrong_size, is_misfit, is_out_of_range, has_past_bits, any_primitive, some_primitive, tree_fault, is_misfit_node, is_out_of_range_node, has_past_bits_node}
+use Rattle.flt_ast.specs.inside.Resolved.{nodes_fault}
 
 pub or_assoc : (a b c : Bool) → ((a || b) || c) ≡ (a || (b || c))
 or_assoc true b c = refl

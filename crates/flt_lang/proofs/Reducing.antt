@@ -2,7 +2,7 @@
 use Rattle.std.proofs.Common.{◌≡◌, ℕ, ◌≤◌, ◌<◌, List, [], ◌∷◌, refl, Some, None, true, false, nat_le, arith}
 use Rattle.std.proofs.lemmas.Bool.{le-leb}
 use Rattle.std.proofs.lemmas.Bool.Decides.{nat_tests}
-use Rattle.flt_tree.specs.declared.node.Node.{Node}
+use Rattle.flt_ast.specs.declared.node.Node.{Node}
 use Rattle.flt_lang.specs.declared.frame.Frame.{Frame}
 use Rattle.flt_lang.specs.declared.frame.Operand.{Operand}
 use Rattle.flt_lang.specs.inside.Parser.{precedence, fill, reduce, IsLoose}

@@ -2,7 +2,7 @@
 use Rattle.std.proofs.Common.{◌≡◌, ℕ, ◌+◌, ◌-◌, ◌<◌, List, [], ◌∷◌, length, take, drop, get_or, sym, ap, ◌∙◌, arith, Option, Some, None, one-add}
 use Rattle.std.proofs.lemmas.List.{drop-map, drop-drop, take_rest}
 use Rattle.flt_words.specs.declared.token.Token.{Token}
-use Rattle.flt_tree.specs.declared.node.Node.{Node}
+use Rattle.flt_ast.specs.declared.node.Node.{Node}
 use Rattle.flt_lang.specs.declared.frame.Frame.{Frame}
 use Rattle.flt_lang.specs.declared.frame.Operand.{Operand}
 use Rattle.flt_lang.specs.Grammar.{kinds_of}

@@ -8,13 +8,13 @@ use Rattle.flt_words.specs.declared.token.Side.TheVariants.{Source, Destination}
 use Rattle.flt_words.specs.declared.token.ValueType.{ValueType}
 use Rattle.flt_words.specs.declared.token.TokenKind.{TokenKind}
 use Rattle.flt_words.specs.declared.token.TokenKind.TheVariants as token
-use Rattle.flt_tree.specs.declared.qualifiers.Direction.{Direction}
-use Rattle.flt_tree.specs.declared.qualifiers.Qualifiers.{Qualifiers}
-use Rattle.flt_tree.specs.declared.value.NetMask.{NetMask}
-use Rattle.flt_tree.specs.declared.value.Value.{Value}
-use Rattle.flt_tree.specs.declared.value.Value.TheVariants as value
-use Rattle.flt_tree.specs.declared.node.Node.{Node}
-use Rattle.flt_tree.specs.declared.node.Node.TheVariants as node
+use Rattle.flt_ast.specs.declared.qualifiers.Direction.{Direction}
+use Rattle.flt_ast.specs.declared.qualifiers.Qualifiers.{Qualifiers}
+use Rattle.flt_ast.specs.declared.value.NetMask.{NetMask}
+use Rattle.flt_ast.specs.declared.value.Value.{Value}
+use Rattle.flt_ast.specs.declared.value.Value.TheVariants as value
+use Rattle.flt_ast.specs.declared.node.Node.{Node}
+use Rattle.flt_ast.specs.declared.node.Node.TheVariants as node
 use Rattle.flt_lang.specs.declared.frame.Frame.{Frame}
 use Rattle.flt_lang.specs.declared.frame.Operand.{Operand}
 use Rattle.flt_lang.specs.declared.frame.Operand.TheVariants as operand

@@ -6,12 +6,12 @@ use Rattle.flt_words.specs.declared.token.Token.{Token}
 use Rattle.flt_words.specs.declared.token.TokenKind.{TokenKind}
 use Rattle.flt_words.specs.declared.token.ValueType.{ValueType}
 use Rattle.flt_words.specs.Tokens.{Tokens}
-use Rattle.flt_tree.specs.declared.qualifiers.Direction.{Direction}
-use Rattle.flt_tree.specs.declared.qualifiers.Qualifiers.{Qualifiers}
-use Rattle.flt_tree.specs.declared.value.NetMask.{NetMask}
-use Rattle.flt_tree.specs.declared.value.Value.{Value}
-use Rattle.flt_tree.specs.Tree.{NumberTree, TruthTree, check, cast, sized, bare, valued, qualified, compared, denied, joined, Expression, empty, truth}
-use Rattle.flt_tree.specs.Filled.{latest, with_inherited, complete, only_host, fill_expression}
+use Rattle.flt_ast.specs.declared.qualifiers.Direction.{Direction}
+use Rattle.flt_ast.specs.declared.qualifiers.Qualifiers.{Qualifiers}
+use Rattle.flt_ast.specs.declared.value.NetMask.{NetMask}
+use Rattle.flt_ast.specs.declared.value.Value.{Value}
+use Rattle.flt_ast.specs.Tree.{NumberTree, TruthTree, check, cast, sized, bare, valued, qualified, compared, denied, joined, Expression, empty, truth}
+use Rattle.flt_ast.specs.Filled.{latest, with_inherited, complete, only_host, fill_expression}
 use Rattle.flt_lang.specs.Values.{ReadsProtocol, no_protocol, protocol, ReadsDirection, no_direction, one_side, source_first, destination_first, ReadsType, no_type, of_type, ReadsQualifiers, qualifiers, ReadsMask, no_mask, prefix, dotted_mask, ReadsValue, number, dotted, ip6, ip6_prefix, mac, range}
 use Rattle.flt_lang.specs.Grammar.{Number, of_literal, of_len, of_name, enclosed, of_load, of_sized_load, minus, single, chain, Truth, of_check, of_cast, of_protocol_cast, of_sized, of_valued, of_bare, relation, denial, enclosed_truth, term, terms, IsReadAs, no_tokens, all_tokens, kinds_of}
 use Rattle.flt_lang.specs.Writable.{IsWritable, IsWritableMask, IsWritableNumber, IsWritableTruth, IsWritableValue}

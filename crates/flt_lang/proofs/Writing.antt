@@ -3,10 +3,10 @@ use Rattle.std.proofs.Common.{◌≡◌, ℕ, ◌+◌, ◌-◌, ◌<◌, ◌≤�
 use Rattle.std.proofs.lemmas.Bool.Decides.{nat_tests}
 use Rattle.std.proofs.lemmas.List.{drop_more, length-drop}
 use Rattle.flt_words.specs.declared.token.TokenKind.{TokenKind}
-use Rattle.flt_tree.specs.declared.node.Node.{Node}
-use Rattle.flt_tree.specs.declared.node.Node.TheVariants as node
-use Rattle.flt_tree.specs.Tree.{NumberTree, literal, len, named, load, negated, applied, TruthTree, check, cast, sized, bare, valued, qualified, compared, denied, joined, Expression, empty, truth}
-use Rattle.flt_tree.specs.Nodes.{number_nodes, truth_nodes, expr_nodes}
+use Rattle.flt_ast.specs.declared.node.Node.{Node}
+use Rattle.flt_ast.specs.declared.node.Node.TheVariants as node
+use Rattle.flt_ast.specs.Tree.{NumberTree, literal, len, named, load, negated, applied, TruthTree, check, cast, sized, bare, valued, qualified, compared, denied, joined, Expression, empty, truth}
+use Rattle.flt_ast.specs.Nodes.{number_nodes, truth_nodes, expr_nodes}
 use Rattle.flt_lang.specs.declared.backward.Pending.{Pending}
 use Rattle.flt_lang.specs.Explained.{number_tokens, truth_tokens, explained_tokens, open_operand}
 use Rattle.flt_lang.specs.inside.Backward.{WriterState, settle, parenthesis_before, is_more, write_nodes, write_node}

@@ -11,10 +11,10 @@ use Rattle.flt_words.specs.declared.token.Size.{Size}
 use Rattle.flt_words.specs.declared.token.Token.{Token}
 use Rattle.flt_words.specs.declared.token.TokenKind.{TokenKind}
 use Rattle.flt_words.specs.declared.token.TokenKind.TheVariants as token
-use Rattle.flt_tree.specs.declared.value.Value.{Value}
-use Rattle.flt_tree.specs.declared.qualifiers.Qualifiers.{Qualifiers}
+use Rattle.flt_ast.specs.declared.value.Value.{Value}
+use Rattle.flt_ast.specs.declared.qualifiers.Qualifiers.{Qualifiers}
 use Rattle.flt_lang.specs.Values.{ReadsQualifiers, is_written, ReadsValue}
-use Rattle.flt_tree.specs.Tree.{NumberTree, literal, len, named, load, negated, applied, TruthTree, check, cast, sized, bare, valued, compared, denied, joined, Expression, empty, truth}
+use Rattle.flt_ast.specs.Tree.{NumberTree, literal, len, named, load, negated, applied, TruthTree, check, cast, sized, bare, valued, compared, denied, joined, Expression, empty, truth}
 
 -- the level of an operator, as libpcap's grammar has it and not as C: `|`, `&` and `^` are equal and
 -- bind most loosely; its chains are of operands of this level

@@ -9,13 +9,13 @@ use Rattle.flt_words.specs.declared.token.Join.{Join}
 use Rattle.flt_words.specs.declared.token.Operator.TheVariants.{Divide}
 use Rattle.flt_words.specs.declared.token.TokenKind.{TokenKind}
 use Rattle.flt_words.specs.declared.token.TokenKind.TheVariants as token
-use Rattle.flt_tree.specs.declared.qualifiers.Direction.{Direction}
-use Rattle.flt_tree.specs.declared.qualifiers.Direction.TheVariants as direction
-use Rattle.flt_tree.specs.declared.qualifiers.Qualifiers.{Qualifiers}
-use Rattle.flt_tree.specs.declared.value.NetMask.{NetMask}
-use Rattle.flt_tree.specs.declared.value.NetMask.TheVariants as mask
-use Rattle.flt_tree.specs.declared.value.Value.{Value}
-use Rattle.flt_tree.specs.declared.value.Value.TheVariants as value
+use Rattle.flt_ast.specs.declared.qualifiers.Direction.{Direction}
+use Rattle.flt_ast.specs.declared.qualifiers.Direction.TheVariants as direction
+use Rattle.flt_ast.specs.declared.qualifiers.Qualifiers.{Qualifiers}
+use Rattle.flt_ast.specs.declared.value.NetMask.{NetMask}
+use Rattle.flt_ast.specs.declared.value.NetMask.TheVariants as mask
+use Rattle.flt_ast.specs.declared.value.Value.{Value}
+use Rattle.flt_ast.specs.declared.value.Value.TheVariants as value
 
 pub data ReadsProtocol : List TokenKind → Option Protocol → List TokenKind → Type 0 where
   no_protocol : {ts : List TokenKind} → ReadsProtocol ts None ts

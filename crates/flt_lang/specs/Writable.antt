@@ -2,14 +2,14 @@
 use Rattle.std.specs.Prelude.{◌≡◌, ℕ, ◌<◌, ◌≤◌, ◌-◌, ◌%◌, ◌^◌, ◌==◌, Bool, true, ◌||◌, List, Option, Some, None, Ok}
 use Rattle.flt_words.specs.declared.token.Token.{Token}
 use Rattle.flt_words.specs.Tokens.{Tokens}
-use Rattle.flt_tree.specs.declared.value.Dotted.{Dotted}
-use Rattle.flt_tree.specs.declared.value.NetMask.{NetMask}
-use Rattle.flt_tree.specs.declared.value.NetMask.TheVariants as mask
-use Rattle.flt_tree.specs.declared.value.Value.{Value}
-use Rattle.flt_tree.specs.declared.value.Value.TheVariants as value
-use Rattle.flt_tree.specs.Tree.{NumberTree, literal, len, named, load, negated, applied, TruthTree, check, cast, sized, bare, valued, qualified, compared, denied, joined, Expression, empty, truth}
-use Rattle.flt_tree.specs.Filled.{fill_expression}
-use Rattle.flt_tree.specs.Resolved.{fill_fault}
+use Rattle.flt_ast.specs.declared.value.Dotted.{Dotted}
+use Rattle.flt_ast.specs.declared.value.NetMask.{NetMask}
+use Rattle.flt_ast.specs.declared.value.NetMask.TheVariants as mask
+use Rattle.flt_ast.specs.declared.value.Value.{Value}
+use Rattle.flt_ast.specs.declared.value.Value.TheVariants as value
+use Rattle.flt_ast.specs.Tree.{NumberTree, literal, len, named, load, negated, applied, TruthTree, check, cast, sized, bare, valued, qualified, compared, denied, joined, Expression, empty, truth}
+use Rattle.flt_ast.specs.Filled.{fill_expression}
+use Rattle.flt_ast.specs.Resolved.{fill_fault}
 use Rattle.flt_lang.specs.Grammar.{IsReadAs, has_casts, is_accessor, is_check, kinds_of}
 
 -- the numbers that have names

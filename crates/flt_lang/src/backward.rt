@@ -2,13 +2,13 @@
 //! until they are written, so nothing recurses and each token is written once.
 
 ghost use Rattle.std.specs.Prelude.{◌≡◌, [], ◌∷◌, IfNone, IfOk, IfSome, OnOk, true};
-ghost use Rattle.flt_tree.specs.declared.node.Node.TheVariants as node;
+ghost use Rattle.flt_ast.specs.declared.node.Node.TheVariants as node;
 ghost use Rattle.flt_lang.specs.Explained.{close_operand, open_operand, mask_tokens, prefix_tokens};
 ghost use Rattle.flt_lang.specs.Explained.{value_tokens, protocol_tokens, direction_tokens};
 ghost use Rattle.flt_lang.specs.Explained.{written_tokens, qualifier_tokens};
 ghost use Rattle.flt_lang.specs.inside.Backward.{settle, around, write_node};
 
-use flt_tree::{CompleteQualifiers, Direction, NetMask, Node, Qualifiers, Value};
+use flt_ast::{CompleteQualifiers, Direction, NetMask, Node, Qualifiers, Value};
 use flt_words::{Cast, Operator, Protocol, Side, TokenKind, ValueType};
 use std::alloc::{AllocError, Allocator};
 use std::marker::Model;

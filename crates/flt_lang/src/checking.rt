@@ -1,11 +1,11 @@
 //! Which expressions code can be made of.
 
 ghost use Rattle.std.specs.Prelude.{◌≡◌, IfOk, IfErr, Some, None};
-ghost use Rattle.flt_tree.specs.Resolved.{IsResolved};
-ghost use Rattle.flt_tree.specs.Checks.{check_fault};
+ghost use Rattle.flt_ast.specs.Resolved.{IsResolved};
+ghost use Rattle.flt_ast.specs.Checks.{check_fault};
 
 use crate::sums;
-use flt_tree::{Checked, Expr};
+use flt_ast::{Checked, Expr};
 use flt_words::ExprFault;
 use std::alloc::Allocator;
 

@@ -1,10 +1,10 @@
 //! The counts of a checked expression.
 
 ghost use Rattle.std.specs.Prelude.{◌≡◌};
-ghost use Rattle.flt_tree.specs.Counts.{tests_of, nodes_of, words_of, bound_of};
+ghost use Rattle.flt_ast.specs.Counts.{tests_of, nodes_of, words_of, bound_of};
 
 use crate::sums;
-use flt_tree::Checked;
+use flt_ast::Checked;
 use std::alloc::Allocator;
 
 /// How many elementary tests the formulas of its primitives have.

@@ -6,7 +6,7 @@ ghost use Rattle.flt_lang.specs.Explained.{explained_text, explained_tokens};
 
 use crate::backward::Writer;
 use crate::spelling::push_tokens;
-use flt_tree::Expr;
+use flt_ast::Expr;
 use flt_words::TokenKind;
 use std::alloc::{AllocError, Allocator};
 

@@ -8,7 +8,7 @@ ghost use Rattle.flt_lang.specs.inside.Parser.{precedence, operand_precedence, t
 ghost use Rattle.flt_lang.specs.inside.Parser.{enclosed_operand};
 ghost use Rattle.flt_lang.specs.inside.Parser.{sort_of, node_of};
 
-use flt_tree::Node;
+use flt_ast::Node;
 use flt_words::{Comparison, Join, Operator, Protocol, TokenKind};
 
 /// What waits for an operand on its right, or for its closing token.

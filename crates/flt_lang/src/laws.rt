@@ -4,9 +4,9 @@ ghost use Rattle.std.specs.Prelude.{◌≡◌, ◌≤◌, ℕ, List, Ok, length}
 ghost use Rattle.flt_words.specs.declared.token.Token.{Token};
 ghost use Rattle.flt_words.specs.declared.token.TokenKind.{TokenKind};
 ghost use Rattle.flt_words.specs.Tokens.{Tokens};
-ghost use Rattle.flt_tree.specs.Tree.{Expression};
-ghost use Rattle.flt_tree.specs.Filled.{fill_expression};
-ghost use Rattle.flt_tree.specs.Resolved.{IsResolved};
+ghost use Rattle.flt_ast.specs.Tree.{Expression};
+ghost use Rattle.flt_ast.specs.Filled.{fill_expression};
+ghost use Rattle.flt_ast.specs.Resolved.{IsResolved};
 ghost use Rattle.flt_lang.specs.Grammar.{IsReadAs, kinds_of};
 ghost use Rattle.flt_lang.specs.Explained.{explained_text};
 ghost use Rattle.flt_lang.specs.Writable.{IsReadBack, IsWritable};

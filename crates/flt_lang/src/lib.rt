@@ -20,7 +20,7 @@ mod sums;
 pub use checking::check;
 pub use counts::{bound, nodes, tests, words};
 pub use explaining::explain;
-pub use flt_tree::{
+pub use flt_ast::{
     Checked, CompleteQualifiers, Direction, Dotted, Expr, Ip4Net, NetMask, Node, Qualifiers, Value,
 };
 pub use parser::parse;

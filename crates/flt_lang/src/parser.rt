@@ -1,14 +1,14 @@
 //! Tokens become a tree: the loop over `Reader`, and what it refuses.
 
 ghost use Rattle.std.specs.Prelude.{◌≡◌, ◌↔◌, ◌⊎◌, Err, IfOk, IfErr};
-ghost use Rattle.flt_tree.specs.Tree.{Expression};
+ghost use Rattle.flt_ast.specs.Tree.{Expression};
 ghost use Rattle.flt_lang.specs.Grammar.{IsReadAs, kinds_of};
 ghost use Rattle.flt_lang.specs.inside.Parser.{IsReadFault};
 ghost use Rattle.flt_lang.specs.Nesting.{IsTooDeep};
 
 use crate::nesting::is_nested_too_deep;
 use crate::reader::Reader;
-use flt_tree::Expr;
+use flt_ast::Expr;
 use flt_words::{ExprFault, Token};
 use std::alloc::Allocator;
 

@@ -4,14 +4,14 @@
 ghost use Rattle.std.specs.Prelude.{◌≡◌, ◌∷◌, List, IsTrue, IfSome, IfNone};
 ghost use Rattle.std.specs.Prelude.{Some, None, length, slice_get, drop, ◌<◌, ◌≤◌};
 ghost use Rattle.flt_words.specs.declared.token.TokenKind.{TokenKind};
-ghost use Rattle.flt_tree.specs.declared.qualifiers.Qualifiers.{Qualifiers};
+ghost use Rattle.flt_ast.specs.declared.qualifiers.Qualifiers.{Qualifiers};
 ghost use Rattle.flt_lang.specs.Grammar.{kinds_of};
 ghost use Rattle.flt_lang.specs.inside.Values.{qualifiers_of, protocol_of, direction_of, type_of};
 ghost use Rattle.flt_lang.specs.inside.Values.{is_opposite, both_of};
 ghost use Rattle.flt_lang.specs.inside.Values.{mask_of, prefix_of, value_of};
 ghost use Rattle.flt_lang.specs.inside.Parser.{valued_of};
 
-use flt_tree::{Direction, Dotted, NetMask, Qualifiers, Value};
+use flt_ast::{Direction, Dotted, NetMask, Qualifiers, Value};
 use flt_words::{Join, Operator, Protocol, Side, Token, TokenKind, ValueType};
 
 /// The kind of the token at an index, if there is one.

@@ -11,16 +11,16 @@ ghost use Rattle.flt_lang.specs.inside.Parser.{as_number, as_truth, as_sort, pre
 ghost use Rattle.flt_lang.specs.inside.Parser.{after_operator, after_load, accessor_size, after_close};
 ghost use Rattle.flt_lang.specs.inside.Parser.{after_token_at, prefix_len, after_operand, run, finish};
 ghost use Rattle.flt_lang.specs.inside.Parser.{all_run};
-ghost use Rattle.flt_tree.specs.Nodes.{tree_of};
-ghost use Rattle.flt_tree.specs.inside.Nodes.{IsTree};
+ghost use Rattle.flt_ast.specs.Nodes.{tree_of};
+ghost use Rattle.flt_ast.specs.inside.Nodes.{IsTree};
 ghost use Rattle.flt_words.specs.declared.token.TokenKind.{TokenKind};
-ghost use Rattle.flt_tree.specs.declared.node.Node.{Node};
+ghost use Rattle.flt_ast.specs.declared.node.Node.{Node};
 ghost use Rattle.flt_lang.specs.Grammar.{kinds_of};
 
 use crate::frame::{Frame, Operand, Sort, operand_precedence, token_precedence};
 use crate::primitive::{kind_at, read_value, read_valued};
 use crate::protocols::{Opening, has_casts, is_accessor, is_check, read_opening};
-use flt_tree::{Expr, NetMask, Node, Value};
+use flt_ast::{Expr, NetMask, Node, Value};
 use flt_words::{ExprFault, Operator, Protocol, Token, TokenKind};
 use std::alloc::{AllocError, Allocator};
 use std::marker::Model;

@@ -2,14 +2,14 @@
 
 ghost use Rattle.std.specs.Prelude.{◌≡◌, map, IfOk, IfErr, Some, None};
 ghost use Rattle.std.specs.List.{list_any};
-ghost use Rattle.flt_tree.specs.Filled.{fill_expression, completed_node};
-ghost use Rattle.flt_tree.specs.inside.Filled.{inherited_nodes};
-ghost use Rattle.flt_tree.specs.Filled.{only_host};
-ghost use Rattle.flt_tree.specs.Resolved.{fill_fault, IsResolved, is_misfit_node};
-ghost use Rattle.flt_tree.specs.inside.Resolved.{nodes_fault};
-ghost use Rattle.flt_tree.specs.Resolved.{is_out_of_range_node, has_past_bits_node};
+ghost use Rattle.flt_ast.specs.Filled.{fill_expression, completed_node};
+ghost use Rattle.flt_ast.specs.inside.Filled.{inherited_nodes};
+ghost use Rattle.flt_ast.specs.Filled.{only_host};
+ghost use Rattle.flt_ast.specs.Resolved.{fill_fault, IsResolved, is_misfit_node};
+ghost use Rattle.flt_ast.specs.inside.Resolved.{nodes_fault};
+ghost use Rattle.flt_ast.specs.Resolved.{is_out_of_range_node, has_past_bits_node};
 
-use flt_tree::{Expr, Node, Qualifiers};
+use flt_ast::{Expr, Node, Qualifiers};
 use flt_words::{ExprFault, ValueType};
 use std::alloc::Allocator;
 

@@ -1,15 +1,15 @@
 //! The counts of an expression, each in one pass over its nodes.
 
 ghost use Rattle.std.specs.Prelude.{◌≡◌, ◌≤◌, ◌*◌, ◌^◌, sum_by, fold, false};
-ghost use Rattle.flt_tree.specs.Counts.{tests_of, nodes_of, words_of, bound_of};
-ghost use Rattle.flt_tree.specs.Counts.{node_tests, node_size};
-ghost use Rattle.flt_tree.specs.inside.Heights.{climb};
-ghost use Rattle.flt_tree.specs.Resolved.{some_primitive};
-ghost use Rattle.flt_tree.specs.Checks.{divides_by_zero};
-ghost use Rattle.flt_tree.specs.inside.Checks.{is_division_node, is_zero_node};
-ghost use Rattle.flt_tree.specs.inside.Checks.{zero_divided};
+ghost use Rattle.flt_ast.specs.Counts.{tests_of, nodes_of, words_of, bound_of};
+ghost use Rattle.flt_ast.specs.Counts.{node_tests, node_size};
+ghost use Rattle.flt_ast.specs.inside.Heights.{climb};
+ghost use Rattle.flt_ast.specs.Resolved.{some_primitive};
+ghost use Rattle.flt_ast.specs.Checks.{divides_by_zero};
+ghost use Rattle.flt_ast.specs.inside.Checks.{is_division_node, is_zero_node};
+ghost use Rattle.flt_ast.specs.inside.Checks.{zero_divided};
 
-use flt_tree::{Expr, Node};
+use flt_ast::{Expr, Node};
 use flt_words::Operator;
 use std::alloc::Allocator;
 

@@ -2,11 +2,11 @@
 use Rattle.std.specs.Prelude.{List}
 use Rattle.std.specs.Coded.{Coded, code_by, coded_list}
 use Rattle.flt_bpf.specs.Content.{Content}
-use Rattle.flt_tree.specs.Tree.{Expression, empty, truth}
-use Rattle.flt_tree.specs.declared.node.Node.{Node}
-use Rattle.flt_tree.specs.contracts.node.Node as stored
-use Rattle.flt_tree.specs.Nodes.{expr_nodes, tree_of}
-use Rattle.flt_tree.specs.inside.Nodes.{tree_back}
+use Rattle.flt_ast.specs.Tree.{Expression, empty, truth}
+use Rattle.flt_ast.specs.declared.node.Node.{Node}
+use Rattle.flt_ast.specs.contracts.node.Node as stored
+use Rattle.flt_ast.specs.Nodes.{expr_nodes, tree_of}
+use Rattle.flt_ast.specs.inside.Nodes.{tree_back}
 use Rattle.cap_octet.specs.Link.{all_links}
 use Rattle.cap_filter.specs.Programs.{AreMade}
 

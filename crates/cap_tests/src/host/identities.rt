@@ -1,10 +1,10 @@
 //! Files that are known again under other names.
 
 use super::folder::{CAPTURE, enter, leave, line_of, words_of};
-use cap_streams::files::{Identify, Identity, is_plain};
-use cap_streams::overwrites::overwrites_input;
-use cap_streams::waiting::may_wait;
-use cap_streams::words;
+use capkit_host::files::{Identify, Identity, is_plain};
+use capkit_host::overwrites::overwrites_input;
+use capkit_host::waiting::may_wait;
+use capkit_host::words;
 use capkit::Usage;
 use std::alloc::Global;
 use std::os::unix::fs::symlink;

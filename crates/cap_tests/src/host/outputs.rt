@@ -3,10 +3,10 @@ ghost use Rattle.std.specs.Prelude.{◌≤◌};
 
 use super::folder::{enter, leave};
 use cap_octet::{Output, StdOutput};
-use cap_streams::ending::{finish, settle};
-use cap_streams::opening::{Target, create, target};
-use cap_streams::stop::Stop;
-use cap_streams::streams::Created;
+use capkit_host::ending::{finish, settle};
+use capkit_host::opening::{Target, create, target};
+use capkit_host::stop::Stop;
+use capkit_host::streams::Created;
 use std::fs;
 use std::io::{self, BufWriter, Error, ErrorKind, IsTerminal, Write};
 

@@ -2,8 +2,8 @@
 
 use super::folder::{CAPTURE, LISTING, enter, leave, line_of, words_of};
 use super::streams::Streams;
-use cap_streams::progress::{Progress, can_write_over, is_in_foreground, start_of, total_size};
-use cap_streams::runner::run_command;
+use capkit_host::progress::{Progress, can_write_over, is_in_foreground, start_of, total_size};
+use capkit_host::runner::run_command;
 use capkit::Line;
 use capkit_engine::Jobs;
 use std::alloc::{AllocError, Global};

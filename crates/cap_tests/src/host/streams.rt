@@ -1,6 +1,6 @@
 //! Standard streams that keep what is written to them.
 
-use cap_streams::message::Errors;
+use capkit_host::message::Errors;
 use std::alloc::Global;
 use std::cell::RefCell;
 use std::fmt::Display;

@@ -3,7 +3,7 @@ use Rattle.std.specs.Prelude.{◌≡◌, ◌+◌, ◌≤◌, true, Option, None,
 use Rattle.cap_tools.specs.declared.job.Turn.{Turn}
 use Rattle.cap_tools.specs.declared.job.Turn.TheVariants as turn
 use Rattle.cap_tools.specs.Start.{Preparing, ReadsFilter, Compiles}
-use Rattle.cap_packets.specs.Selector.{HavePrograms}
+use Rattle.cap_process.specs.Selector.{HavePrograms}
 use Rattle.cap_tools.specs.Bounds.{IsLight, most_turns}
 use Rattle.cap_tools.specs.Jobs.{JobView, IsStatus, done_by}
 use Rattle.cap_tools.specs.inside.FirstStep.{IsFresh, is_text}

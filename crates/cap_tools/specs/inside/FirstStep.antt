@@ -3,7 +3,7 @@ use Rattle.std.specs.Prelude.{◌≡◌, ◌<◌, Bool, true, false, List, [], N
 use Rattle.flt_bpf.specs.declared.insn.Insn.{Insn}
 use Rattle.cap_tools.specs.declared.job.Turn.{Turn}
 use Rattle.cap_tools.specs.declared.job.Turn.TheVariants as turn
-use Rattle.cap_packets.specs.Output.{Target, Capture, Text, Lines}
+use Rattle.cap_process.specs.Output.{Target, Capture, Text, Lines}
 use Rattle.cap_inputs.specs.Inputs.{steps_left}
 use Rattle.cap_inputs.specs.inside.Inputs.{most_steps}
 use Rattle.cap_tools.specs.Bounds.{most_turns}

@@ -6,17 +6,17 @@ use Rattle.cap_octet.specs.declared.fault.Fault.{Fault}
 use Rattle.cap_octet.specs.declared.fault.Fault.TheVariants.{WriteFailed}
 use Rattle.cap_octet.specs.declared.device.DeviceFault.{DeviceFault}
 use Rattle.cap_filter.specs.Programs.{spent_in}
-use Rattle.cap_packets.specs.declared.selector.Verdict as code
-use Rattle.cap_packets.specs.declared.selector.Verdict.TheVariants as code_verdict
+use Rattle.cap_process.specs.declared.selector.Verdict as code
+use Rattle.cap_process.specs.declared.selector.Verdict.TheVariants as code_verdict
 use Rattle.cap_tools.specs.declared.step.JobEnd.{JobEnd}
 use Rattle.cap_tools.specs.declared.step.JobEnd.TheVariants as end
-use Rattle.cap_packets.specs.Reports.{report_text}
-use Rattle.cap_packets.specs.Output.{JobOutputView, Target}
-use Rattle.cap_packets.specs.inside.Output.{PutsIntoOutput, Reports}
-use Rattle.cap_packets.specs.Verdict.{judge}
-use Rattle.cap_packets.specs.Selector.{SelectorView, most_spent, spent_by_verdict}
-use Rattle.cap_packets.specs.inside.Selector.{PolicyState, with_empty_tally}
-use Rattle.cap_packets.specs.inside.Selector as selecting_inside
+use Rattle.cap_process.specs.Reports.{report_text}
+use Rattle.cap_process.specs.Output.{JobOutputView, Target}
+use Rattle.cap_process.specs.inside.Output.{PutsIntoOutput, Reports}
+use Rattle.cap_process.specs.Verdict.{judge}
+use Rattle.cap_process.specs.Selector.{SelectorView, most_spent, spent_by_verdict}
+use Rattle.cap_process.specs.inside.Selector.{PolicyState, with_empty_tally}
+use Rattle.cap_process.specs.inside.Selector as selecting_inside
 use Rattle.cap_inputs.specs.Inputs.{InputsView, InputView}
 use Rattle.cap_tools.specs.Packets.{asks_report, report_at}
 

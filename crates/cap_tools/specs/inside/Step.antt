@@ -3,7 +3,7 @@ use Rattle.std.specs.Prelude.{◌≡◌, ◌+◌, ◌<◌, Bool, IsTrue, Some, O
 use Rattle.cap_octet.specs.Views.{OutputView}
 use Rattle.cap_tools.specs.declared.step.JobEnd.{JobEnd}
 use Rattle.cap_inputs.specs.Inputs.{steps_left}
-use Rattle.cap_packets.specs.Selector.{HavePrograms}
+use Rattle.cap_process.specs.Selector.{HavePrograms}
 use Rattle.cap_tools.specs.Packets.{StepGives}
 use Rattle.cap_tools.specs.Jobs.{JobView, end_status}
 use Rattle.cap_tools.specs.Bounds.{IsLight, StepReads}

@@ -1,7 +1,7 @@
 -- The counts of a tree's nodes.
 use Rattle.std.specs.Prelude.{ℕ, ◌+◌, max, length}
-use Rattle.flt_tree.specs.Counts.{number_words, number_size}
-use Rattle.flt_code.specs.Formula.{Formula, Single, Compare, Both, Either, Except, Guard, Fork, Choose, Among}
+use Rattle.flt_ast.specs.Counts.{number_words, number_size}
+use Rattle.flt_emit.specs.Formula.{Formula, Single, Compare, Both, Either, Except, Guard, Fork, Choose, Among}
 
 abbrev pub words : Formula → ℕ
 words (Single t) = 0

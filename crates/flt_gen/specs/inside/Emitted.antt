@@ -6,18 +6,18 @@ use Rattle.flt_words.specs.declared.token.ValueType.{ValueType}
 use Rattle.flt_words.specs.declared.token.ValueType.TheVariants.{Net}
 use Rattle.flt_words.specs.declared.token.Protocol.{Protocol}
 use Rattle.flt_words.specs.declared.token.Protocol.TheVariants.{Ether, Ip, Ip6, Arp, Rarp, Tcp, Udp, Icmp, Icmp6}
-use Rattle.flt_tree.specs.declared.qualifiers.Direction.{Direction}
-use Rattle.flt_tree.specs.declared.qualifiers.CompleteQualifiers.{CompleteQualifiers}
-use Rattle.flt_tree.specs.declared.value.Value.{Value}
-use Rattle.flt_tree.specs.declared.value.Value.TheVariants as value
-use Rattle.flt_tree.specs.Tree.{NumberTree, literal, len, named, load, negated, applied}
+use Rattle.flt_ast.specs.declared.qualifiers.Direction.{Direction}
+use Rattle.flt_ast.specs.declared.qualifiers.CompleteQualifiers.{CompleteQualifiers}
+use Rattle.flt_ast.specs.declared.value.Value.{Value}
+use Rattle.flt_ast.specs.declared.value.Value.TheVariants as value
+use Rattle.flt_ast.specs.Tree.{NumberTree, literal, len, named, load, negated, applied}
 use Rattle.cap_octet.specs.declared.link.Link.{Link}
-use Rattle.flt_code.specs.declared.elementary.FrameKind.TheVariants as kind
-use Rattle.flt_code.specs.declared.elementary.Elementary.{Elementary}
-use Rattle.flt_code.specs.declared.elementary.Elementary.TheVariants.{Outcome, Field}
-use Rattle.flt_code.specs.Elementary.{kind_test}
+use Rattle.flt_emit.specs.declared.elementary.FrameKind.TheVariants as kind
+use Rattle.flt_emit.specs.declared.elementary.Elementary.{Elementary}
+use Rattle.flt_emit.specs.declared.elementary.Elementary.TheVariants.{Outcome, Field}
+use Rattle.flt_emit.specs.Elementary.{kind_test}
 use Rattle.cap_octet.specs.Link.{network_offset}
-use Rattle.flt_code.specs.Formula.{Formula, Compare, Guard, checked_formula, sides}
+use Rattle.flt_emit.specs.Formula.{Formula, Compare, Guard, checked_formula, sides}
 use Rattle.flt_gen.specs.Primitives.{ip6_tests, net_value_formula, value_formula}
 
 -- ---- the tests of a protocol's accessors stand once in front of a comparison

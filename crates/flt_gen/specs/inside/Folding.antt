@@ -1,12 +1,12 @@
 -- Arithmetic of numbers alone is one number, where it has a value.
 use Rattle.std.specs.Prelude.{ℕ, ◌-◌, ◌%◌, ◌^◌, List, [], ◌∷◌, Option, Some, None}
 use Rattle.flt_words.specs.declared.token.Operator.{Operator}
-use Rattle.flt_tree.specs.declared.node.Node.{Node}
-use Rattle.flt_tree.specs.declared.node.Node.TheVariants as node
-use Rattle.flt_tree.specs.Tree.{NumberTree, literal, load, negated, applied, TruthTree, compared, denied, joined, Expression, empty, truth}
-use Rattle.flt_code.specs.Elementary.{with}
-use Rattle.flt_code.specs.Numbers.{result_of}
-use Rattle.flt_code.specs.inside.Code.{constant}
+use Rattle.flt_ast.specs.declared.node.Node.{Node}
+use Rattle.flt_ast.specs.declared.node.Node.TheVariants as node
+use Rattle.flt_ast.specs.Tree.{NumberTree, literal, load, negated, applied, TruthTree, compared, denied, joined, Expression, empty, truth}
+use Rattle.flt_emit.specs.Elementary.{with}
+use Rattle.flt_emit.specs.Numbers.{result_of}
+use Rattle.flt_emit.specs.inside.Code.{constant}
 
 -- the number that is made of one or two, if there are such
 abbrev pub negated_constant : Option ℕ → Option ℕ

@@ -6,17 +6,17 @@ use Rattle.flt_words.specs.declared.token.Side.TheVariants.{Source, Destination}
 use Rattle.flt_words.specs.declared.token.Join.TheVariants.{And, Or}
 use Rattle.flt_words.specs.declared.token.ValueType.{ValueType}
 use Rattle.flt_words.specs.declared.token.ValueType.TheVariants.{Host, Port}
-use Rattle.flt_tree.specs.declared.qualifiers.Direction.{Direction}
-use Rattle.flt_tree.specs.declared.qualifiers.Direction.TheVariants as direction
-use Rattle.flt_tree.specs.declared.qualifiers.CompleteQualifiers.{CompleteQualifiers}
-use Rattle.flt_tree.specs.declared.value.Value.{Value}
-use Rattle.flt_tree.specs.declared.value.Value.TheVariants as value
-use Rattle.flt_tree.specs.Tree.{TruthTree, qualified, compared, denied, joined}
+use Rattle.flt_ast.specs.declared.qualifiers.Direction.{Direction}
+use Rattle.flt_ast.specs.declared.qualifiers.Direction.TheVariants as direction
+use Rattle.flt_ast.specs.declared.qualifiers.CompleteQualifiers.{CompleteQualifiers}
+use Rattle.flt_ast.specs.declared.value.Value.{Value}
+use Rattle.flt_ast.specs.declared.value.Value.TheVariants as value
+use Rattle.flt_ast.specs.Tree.{TruthTree, qualified, compared, denied, joined}
 use Rattle.cap_octet.specs.declared.link.Link.{Link}
 use Rattle.flt_gen.specs.declared.wanted.Ports.TheVariants.{One, Several}
 use Rattle.flt_gen.specs.declared.wanted.Hosts.TheVariants as hosts
-use Rattle.flt_code.specs.declared.elementary.Elementary.TheVariants.{Outcome}
-use Rattle.flt_code.specs.Formula.{Formula, Single, Both, Either, Except}
+use Rattle.flt_emit.specs.declared.elementary.Elementary.TheVariants.{Outcome}
+use Rattle.flt_emit.specs.Formula.{Formula, Single, Both, Either, Except}
 use Rattle.flt_gen.specs.Primitives.{net_test, net_formula, hosts_formula, port_test, port_formula}
 use Rattle.flt_gen.specs.inside.Emitted.{relation_formula, qualified_needed}
 use Rattle.flt_gen.specs.Reading.{formula}

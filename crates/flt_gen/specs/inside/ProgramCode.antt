@@ -2,11 +2,11 @@
 use Rattle.std.specs.Prelude.{ℕ, ◌-◌, List, [], ◌∷◌, length, drop}
 use Rattle.flt_bpf.specs.declared.insn.Insn.{Insn}
 use Rattle.flt_words.specs.declared.token.Protocol.{Protocol}
-use Rattle.flt_tree.specs.Tree.{Expression, empty, truth}
+use Rattle.flt_ast.specs.Tree.{Expression, empty, truth}
 use Rattle.cap_octet.specs.declared.link.Link.{Link}
-use Rattle.flt_code.specs.inside.Follow.{nothing}
-use Rattle.flt_code.specs.Numbers.{accessor_tests}
-use Rattle.flt_code.specs.inside.Code.{plain, Block, emit_formula, emit_all}
+use Rattle.flt_emit.specs.inside.Follow.{nothing}
+use Rattle.flt_emit.specs.Numbers.{accessor_tests}
+use Rattle.flt_emit.specs.inside.Code.{plain, Block, emit_formula, emit_all}
 use Rattle.flt_gen.specs.inside.Group.{no_group, grouped_formula}
 use Rattle.flt_bpf.specs.declared.operation.Operation.TheVariants.{ReturnConstant}
 

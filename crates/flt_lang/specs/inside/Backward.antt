@@ -4,9 +4,9 @@ use Rattle.std.specs.Prelude.{Bool, true, false, List, [], ◌∷◌}
 use Rattle.flt_words.specs.declared.token.Operator.TheVariants.{Subtract}
 use Rattle.flt_words.specs.declared.token.TokenKind.{TokenKind}
 use Rattle.flt_words.specs.declared.token.TokenKind.TheVariants as token
-use Rattle.flt_tree.specs.declared.node.Node.{Node}
-use Rattle.flt_tree.specs.declared.node.Node.TheVariants as node
-use Rattle.flt_tree.specs.Tree.{check, cast, sized, bare, valued, qualified, TruthTree}
+use Rattle.flt_ast.specs.declared.node.Node.{Node}
+use Rattle.flt_ast.specs.declared.node.Node.TheVariants as node
+use Rattle.flt_ast.specs.Tree.{check, cast, sized, bare, valued, qualified, TruthTree}
 use Rattle.flt_lang.specs.declared.backward.Pending.{Pending}
 use Rattle.flt_lang.specs.declared.backward.Pending.TheVariants.{Front, Between}
 use Rattle.flt_lang.specs.Explained.{close_operand, truth_tokens}

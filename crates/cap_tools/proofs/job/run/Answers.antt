@@ -1,5 +1,5 @@
 use Rattle.std.proofs.Common.{map, refl, ap, subst, string_bytes}
-use Rattle.cap_packets.specs.Messages.{IsTold, no_memory_message}
+use Rattle.cap_process.specs.Messages.{IsTold, no_memory_message}
 use Rattle.cap_octet.specs.Views.{OutputView, fresh_input, fresh_output, output_view}
 use Rattle.cap_command.specs.Call.{Call, call_of}
 use Rattle.cap_tools.specs.declared.job.Turn.TheVariants as turn

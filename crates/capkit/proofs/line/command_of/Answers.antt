@@ -2,7 +2,7 @@ use Rattle.std.proofs.Common.{◌≡◌, sym, map, string_bytes, subst, List, St
 use Rattle.std.specs.Global.{Global}
 use Rattle.clap.specs.Words.{found_of, rows_of, subcommand_rows_of}
 use Rattle.clap.specs.declared.parser.matches.ArgMatches.{ArgMatches}
-use Rattle.cap_arguments.specs.Arguments.{TakesWords}
+use Rattle.capkit_args.specs.Arguments.{TakesWords}
 use Rattle.capkit.specs.Line.{Asks}
 use Rattle.capkit.proofs.Enters.{always_enters, asks_of}
 use Rattle.capkit.proofs.Saying.{says_fault, says_line}

@@ -1,7 +1,7 @@
 -- The tests of the accessors so far are in front.
 use Rattle.std.proofs.Common.{◌≡◌, take}
 use Rattle.std.specs.Prelude.{reverse}
-use Rattle.flt_code.specs.inside.Code.{block}
+use Rattle.flt_emit.specs.inside.Code.{block}
 use Rattle.flt_gen.specs.inside.ProgramCode.{emit_accessors}
 use Rattle.flt_gen.proofs.number.emit_accessors.Given as goal
 

@@ -2,10 +2,10 @@
 use Rattle.std.proofs.Common.{◌≡◌, ◌≤◌, ◌∙◌, sym, ap, subst, List, [], length, arith, fold}
 use Rattle.std.specs.Prelude.{reverse}
 use Rattle.flt_bpf.specs.Valid.{IsValid}
-use Rattle.flt_tree.specs.declared.node.Node.{Node}
-use Rattle.flt_tree.specs.Tree.{Expression}
-use Rattle.flt_tree.specs.Nodes.{expr_nodes}
-use Rattle.flt_tree.specs.Counts.{words_of, bound_of}
+use Rattle.flt_ast.specs.declared.node.Node.{Node}
+use Rattle.flt_ast.specs.Tree.{Expression}
+use Rattle.flt_ast.specs.Nodes.{expr_nodes}
+use Rattle.flt_ast.specs.Counts.{words_of, bound_of}
 use Rattle.flt_gen.specs.Correct.{IsProgramOf}
 use Rattle.flt_gen.specs.Counts.{short_bound_of}
 use Rattle.flt_bpf.specs.Layout.{JumpsAreNeeded, IsShort}

@@ -1,6 +1,6 @@
 -- The front is complete.
 use Rattle.std.proofs.Common.{◌≡◌, ◌++◌, length, take, drop, map}
-use Rattle.flt_tree.specs.Filled.{completed_node}
+use Rattle.flt_ast.specs.Filled.{completed_node}
 use Rattle.flt_lang.proofs.resolving.complete.Given as goal
 
 abbrev pub invariant-loop-node : goal.invariant-loop-node

@@ -1,6 +1,6 @@
 -- What is left decides.
 use Rattle.std.proofs.Common.{◌≡◌, drop, false}
-use Rattle.flt_tree.specs.inside.Checks.{zero_divided}
+use Rattle.flt_ast.specs.inside.Checks.{zero_divided}
 use Rattle.flt_lang.proofs.sums.has_divided_zero.Given as goal
 
 abbrev pub invariant-loop-next : goal.invariant-loop-next

@@ -1,6 +1,6 @@
 -- The height and the greatest height so far.
 use Rattle.std.proofs.Common.{◌≡◌, ◌≤◌, fold, take}
-use Rattle.flt_tree.specs.inside.Heights.{climb}
+use Rattle.flt_ast.specs.inside.Heights.{climb}
 use Rattle.flt_lang.proofs.sums.highest.Given as goal
 
 abbrev pub invariant-loop-node : goal.invariant-loop-node

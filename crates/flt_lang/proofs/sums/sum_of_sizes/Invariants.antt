@@ -1,6 +1,6 @@
 -- The sum so far, and that it fits.
 use Rattle.std.proofs.Common.{◌≡◌, ◌*◌, ◌≤◌, sum_by, take}
-use Rattle.flt_tree.specs.Counts.{node_size}
+use Rattle.flt_ast.specs.Counts.{node_size}
 use Rattle.flt_lang.proofs.sums.sum_of_sizes.Given as goal
 
 abbrev pub invariant-loop-node : goal.invariant-loop-node

@@ -1,7 +1,7 @@
 -- The greatest height is one more than the words.
 use Rattle.std.proofs.Common.{◌≡◌, ◌+◌, ap, ◌∙◌, arith, fold}
-use Rattle.flt_tree.specs.Counts.{words_of}
-use Rattle.flt_tree.specs.inside.Heights.{climb}
+use Rattle.flt_ast.specs.Counts.{words_of}
+use Rattle.flt_ast.specs.inside.Heights.{climb}
 use Rattle.flt_lang.proofs.Counting.{climb_whole}
 use Rattle.flt_lang.proofs.sums.words_in.Given as given
 use Rattle.flt_lang.proofs.sums.words_in.Goals as goal

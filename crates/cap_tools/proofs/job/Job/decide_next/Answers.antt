@@ -1,14 +1,14 @@
 use Rattle.std.proofs.Common.{◌≡◌, ◌+◌, Ok, Err, IsTrue, List, ℕ, subst, sym, ◌∙◌, ap, arith, Bool, refl, Option, None, Some}
 use Rattle.cap_octet.specs.Views.{OutputView}
 use Rattle.cap_tools.specs.declared.step.JobEnd.{JobEnd}
-use Rattle.cap_packets.specs.Output.{output_at}
+use Rattle.cap_process.specs.Output.{output_at}
 use Rattle.cap_inputs.specs.declared.inputs.Next.TheVariants as next
 use Rattle.cap_tools.specs.declared.step.JobEnd.TheVariants as end
 use Rattle.cap_inputs.specs.Inputs.{InputsView, InputView, InputPast, input_after_decided, with_cursor}
 use Rattle.cap_inputs.specs.Inputs as input_spec
-use Rattle.cap_packets.specs.Verdict.{Policy}
-use Rattle.cap_packets.specs.Selector.{SelectorView}
-use Rattle.cap_packets.specs.inside.Selector.{policy_state}
+use Rattle.cap_process.specs.Verdict.{Policy}
+use Rattle.cap_process.specs.Selector.{SelectorView}
+use Rattle.cap_process.specs.inside.Selector.{policy_state}
 use Rattle.cap_tools.specs.Packets.{JobState, PacketsDecided, EndLeaves, StepGives}
 use Rattle.cap_tools.specs.inside.Packets.{end_of_failed_write}
 use Rattle.cap_tools.specs.Start.{Preparing, preparing_of}

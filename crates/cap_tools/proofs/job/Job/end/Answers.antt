@@ -1,6 +1,6 @@
 use Rattle.std.proofs.Common.{◌≡◌, ℕ, ◌+◌, List, Some, ap, ap₂, subst, Option}
-use Rattle.cap_packets.specs.Messages.{IsTold}
-use Rattle.cap_packets.specs.Output.{output_at}
+use Rattle.cap_process.specs.Messages.{IsTold}
+use Rattle.cap_process.specs.Output.{output_at}
 use Rattle.cap_tools.specs.Messages.{MessagesView}
 use Rattle.cap_tools.specs.Start.{Preparing, preparing_of}
 use Rattle.std.specs.Option.{option_map}

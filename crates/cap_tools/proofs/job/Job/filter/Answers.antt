@@ -1,7 +1,7 @@
 use Rattle.std.proofs.Common.{arith, subst, sym}
-use Rattle.cap_packets.specs.Output.{output_at}
-use Rattle.cap_packets.specs.Selector.{SelectorView}
-use Rattle.cap_packets.specs.inside.Selector.{HasFewMarks}
+use Rattle.cap_process.specs.Output.{output_at}
+use Rattle.cap_process.specs.Selector.{SelectorView}
+use Rattle.cap_process.specs.inside.Selector.{HasFewMarks}
 use Rattle.cap_tools.proofs.Weights.{is-light}
 use Rattle.cap_tools.proofs.job.Job.filter.Goals as goal
 

@@ -4,8 +4,8 @@ use Rattle.cap_octet.specs.Views.{OutputView}
 use Rattle.cap_inputs.specs.declared.inputs.Next.TheVariants as next
 use Rattle.cap_tools.specs.declared.step.JobEnd.{JobEnd}
 use Rattle.cap_tools.specs.declared.step.JobEnd.TheVariants as end
-use Rattle.cap_packets.specs.Output.{output_at}
-use Rattle.cap_packets.specs.inside.Output.{EndsOutput}
+use Rattle.cap_process.specs.Output.{output_at}
+use Rattle.cap_process.specs.inside.Output.{EndsOutput}
 use Rattle.cap_inputs.specs.Inputs.{InputPast}
 use Rattle.cap_inputs.specs.Inputs as input_spec
 use Rattle.cap_tools.specs.Packets.{JobState, PacketsDecided, EndLeaves}

@@ -1,6 +1,6 @@
 use Rattle.std.proofs.Common.{◌≡◌, true, refl, subst, sym, Option}
 use Rattle.cap_octet.specs.Views.{OutputView}
-use Rattle.cap_packets.specs.Output.{output_at}
+use Rattle.cap_process.specs.Output.{output_at}
 use Rattle.cap_tools.specs.declared.job.Turn.TheVariants as turn
 use Rattle.cap_tools.specs.Start.{Preparing, preparing_of}
 use Rattle.std.specs.Option.{option_map}

@@ -5,11 +5,11 @@ use Rattle.std.specs.Option.{option_map}
 use Rattle.flt_bpf.specs.Content.{Content}
 use Rattle.cap_tools.specs.Bounds.{IsSmall, most_turns}
 use Rattle.cap_tools.specs.inside.Bounds.{steps_owed_in_all}
-use Rattle.cap_packets.specs.Output.{HasFewOutputInterfaces, Target}
-use Rattle.cap_packets.specs.Reports.{nothing_counted}
+use Rattle.cap_process.specs.Output.{HasFewOutputInterfaces, Target}
+use Rattle.cap_process.specs.Reports.{nothing_counted}
 use Rattle.cap_inputs.specs.Inputs.{InputsView, steps_left}
-use Rattle.cap_packets.specs.Selector.{HavePrograms, SelectorView, policy_of, state_with}
-use Rattle.cap_packets.specs.inside.Selector.{HasFewMarks}
+use Rattle.cap_process.specs.Selector.{HavePrograms, SelectorView, policy_of, state_with}
+use Rattle.cap_process.specs.inside.Selector.{HasFewMarks}
 use Rattle.cap_io.specs.Sequence.{PacketOrder, order_of}
 use Rattle.cap_tools.specs.Start.{Assignment, preparing_of}
 use Rattle.cap_command.specs.Call.{Call, call_of}

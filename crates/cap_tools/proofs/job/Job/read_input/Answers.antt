@@ -1,14 +1,14 @@
 use Rattle.std.proofs.Common.{◌≡◌, ◌∙◌, ◌&&◌, Bool, true, false, Result, Ok, Some, refl, sym, ap, arith, subst, Option, None}
 use Rattle.cap_octet.specs.declared.fault.Fault.{Fault}
 use Rattle.cap_octet.specs.Views.{OutputView}
-use Rattle.cap_packets.specs.Output.{output_at}
+use Rattle.cap_process.specs.Output.{output_at}
 use Rattle.cap_inputs.specs.declared.inputs.Next.TheVariants as next
 use Rattle.cap_tools.specs.declared.step.JobEnd.TheVariants as end
 use Rattle.cap_inputs.specs.Inputs.{InputsView, is_clean_end}
 use Rattle.cap_inputs.specs.Inputs as input_spec
-use Rattle.cap_packets.specs.Verdict.{Policy}
-use Rattle.cap_packets.specs.Selector.{SelectorView}
-use Rattle.cap_packets.specs.inside.Selector.{policy_state}
+use Rattle.cap_process.specs.Verdict.{Policy}
+use Rattle.cap_process.specs.Selector.{SelectorView}
+use Rattle.cap_process.specs.inside.Selector.{policy_state}
 use Rattle.cap_tools.specs.Packets.{JobState, StepLeaves, asks_report}
 use Rattle.cap_tools.specs.Start.{Preparing, preparing_of}
 use Rattle.std.specs.Option.{option_map}

@@ -1,7 +1,7 @@
 use Rattle.std.proofs.Common.{Option, Some, refl, subst, sym}
 use Rattle.std.specs.Option.{option_map}
 use Rattle.cap_octet.specs.Views.{OutputView}
-use Rattle.cap_packets.specs.Output.{output_at}
+use Rattle.cap_process.specs.Output.{output_at}
 use Rattle.cap_tools.specs.declared.step.JobEnd.TheVariants as end
 use Rattle.cap_tools.specs.Bounds.{reads_nothing}
 use Rattle.cap_tools.specs.Jobs.{JobView, state_at}

@@ -1,7 +1,7 @@
 use Rattle.std.proofs.Common.{◌≡◌, ◌∙◌, ℕ, ◌+◌, List, Option, None, Some, refl, ap, ap₂, subst}
 use Rattle.std.specs.Option.{option_map}
 use Rattle.cap_filter.specs.Refusals.{refusal_status}
-use Rattle.cap_packets.specs.Output.{output_at}
+use Rattle.cap_process.specs.Output.{output_at}
 use Rattle.cap_tools.specs.Start.{Preparing, preparing_of}
 use Rattle.cap_tools.specs.Jobs.{JobView, state_at}
 use Rattle.cap_tools.specs.FirstStep.{RefusesStart}

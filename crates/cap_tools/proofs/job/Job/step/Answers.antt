@@ -1,6 +1,6 @@
 use Rattle.std.proofs.Common.{◌≡◌, Option, None, Some, string_bytes, sym, ◌∙◌, ap, subst, arith}
 use Rattle.std.specs.Option.{option_map}
-use Rattle.cap_packets.specs.Output.{output_at}
+use Rattle.cap_process.specs.Output.{output_at}
 use Rattle.cap_tools.specs.Start.{Preparing, ReadsFilter, Compiles, asked_by, preparing_of}
 use Rattle.cap_tools.specs.Jobs.{JobView, state_at, turn_goes_on}
 use Rattle.cap_tools.specs.Commands.{PreparesBy, StepKeeps, StepReadsBy, preparing_left}

@@ -1,5 +1,5 @@
 use Rattle.std.proofs.Common.{subst}
-use Rattle.cap_packets.specs.Messages.{IsTold}
+use Rattle.cap_process.specs.Messages.{IsTold}
 use Rattle.cap_octet.specs.Views.{output_view}
 use Rattle.cap_tools.specs.Messages.{MessagesView}
 use Rattle.cap_tools.specs.Jobs.{end_message}

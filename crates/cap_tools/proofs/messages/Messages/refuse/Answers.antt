@@ -1,6 +1,6 @@
 use Rattle.std.proofs.Common.{subst}
-use Rattle.cap_packets.specs.Messages.{refusal_message}
-use Rattle.cap_packets.specs.Messages.{IsTold}
+use Rattle.cap_process.specs.Messages.{refusal_message}
+use Rattle.cap_process.specs.Messages.{IsTold}
 use Rattle.cap_octet.specs.Views.{output_view}
 use Rattle.cap_tools.specs.Messages.{MessagesView}
 use Rattle.cap_tools.proofs.messages.Messages.refuse.Goals as goal

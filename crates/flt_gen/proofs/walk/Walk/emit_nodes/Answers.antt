@@ -2,7 +2,7 @@
 use Rattle.std.proofs.Common.{◌≡◌, ◌-◌, Some, None, ◌∙◌, sym, ap, subst, length, get_or, arith}
 use Rattle.std.specs.Prelude.{if◌then◌else◌}
 use Rattle.flt_words.specs.declared.token.Protocol.TheVariants.{Ether}
-use Rattle.flt_tree.specs.declared.node.Node.TheVariants.{Check}
+use Rattle.flt_ast.specs.declared.node.Node.TheVariants.{Check}
 use Rattle.flt_gen.specs.inside.Walk.{Walk, emit_node}
 use Rattle.flt_gen.proofs.Turned.{Stands, stands, first_stands, node_stands, both_stand}
 use Rattle.flt_gen.proofs.walk.Walk.emit_nodes.Goals as goal

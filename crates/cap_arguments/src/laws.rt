@@ -1,9 +1,0 @@
-//! Laws of the definitions: each is the contract of a function that does nothing.
-ghost use Rattle.cap_arguments.specs.Arguments.{LineIsFree, LineIsSimple};
-
-/// What clap states of a parse of simple commands it states of the line's, whatever the names of
-/// its formats and link types.
-pub fn simple_line()
-    ensures simple { LineIsSimple }
-    ensures free { LineIsFree }
-{}

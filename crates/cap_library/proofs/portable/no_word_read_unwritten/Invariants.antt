@@ -1,6 +1,0 @@
-use Rattle.std.proofs.Common.{◌≡◌}
-use Rattle.cap_library.specs.Portable.{none_read_unwritten}
-use Rattle.cap_library.proofs.portable.no_word_read_unwritten.Given as goal
-
-abbrev pub invariant-loop-word : goal.invariant-loop-word
-invariant-loop-word l = l.all ≡ none_read_unwritten l.word l.insns

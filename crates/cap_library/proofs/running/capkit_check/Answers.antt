@@ -1,9 +1,0 @@
--- A program that passes is valid, and of another the first broken rule is told by its number.
-use Rattle.cap_library.specs.Running.{passes, breaks}
-use Rattle.cap_library.proofs.running.capkit_check.Goals as goal
-
-pub returns-in-Ok : goal.returns-in-Ok
-returns-in-Ok c = passes c.in-Ok.ensures.valid
-
-pub returns-in-Err : goal.returns-in-Err
-returns-in-Err c = breaks c.in-Err.fault c.rule_number.ensures c.in-Err.ensures.refused

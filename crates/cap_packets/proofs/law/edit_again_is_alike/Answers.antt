@@ -1,5 +1,0 @@
-use Rattle.cap_packets.proofs.Wholes.{edits_alike}
-use Rattle.cap_packets.proofs.law.edit_again_is_alike.Goals as goal
-
-pub returns : goal.returns
-returns c = edits_alike c.items_back.ensures

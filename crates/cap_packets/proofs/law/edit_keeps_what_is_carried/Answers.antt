@@ -1,5 +1,0 @@
-use Rattle.cap_packets.proofs.Wholes.{edit_keeps}
-use Rattle.cap_packets.proofs.law.edit_keeps_what_is_carried.Goals as goal
-
-pub returns : goal.returns
-returns c = edit_keeps c.items_back.ensures

@@ -1,5 +1,0 @@
-use Rattle.cap_packets.proofs.Wholes.{infos_reports}
-use Rattle.cap_packets.proofs.law.infos_has_each_report.Goals as goal
-
-pub returns : goal.returns
-returns c = infos_reports

@@ -1,0 +1,23 @@
+-- Lines that are written in parts.
+use Rattle.std.proofs.Common.{◌≡◌, refl, ℕ, List, [], ◌∷◌, ◌++◌, codes, Option, Err}
+use Rattle.std.proofs.lemmas.List.{append_assoc}
+use Rattle.cap_octet.specs.Device.{Stops}
+use Rattle.cap_io.proofs.Parts.{appends-following}
+use Rattle.cap_io.specs.declared.source.Kind.{Kind}
+use Rattle.cap_process.specs.Reports.{Tally, lines, size_lines, time_lines, file_report}
+
+lines-append : (xs ys : List (List ℕ × List ℕ)) (following : List ℕ) → lines xs [] ++ lines ys following ≡ lines (xs ++ ys) following
+lines-append [] ys following = refl
+lines-append ((label, value) ∷ xs) ys following =
+    rw (append_assoc label (58 ∷ 32 ∷ (value ++ 10 ∷ lines xs [])) (lines ys following), append_assoc value (10 ∷ lines xs []) (lines ys following), lines-append xs ys following) refl
+
+-- a report is its name's line, and then two groups of lines
+pub report-joined : (name : List ℕ) (kind : Option Kind) (size : ℕ) (t : Tally)
+    → lines ((codes "File", name) ∷ []) [] ++ (lines (size_lines kind size t) [] ++ lines (time_lines t) (10 ∷ [])) ≡ file_report name kind size t
+unfolding file_report
+report-joined name kind size t =
+    rw (lines-append (size_lines kind size t) (time_lines t) (10 ∷ [])) (lines-append ((codes "File", name) ∷ []) (size_lines kind size t ++ time_lines t) (10 ∷ []))
+
+-- a prefix of a part after one that was written
+pub stops-following : (written done part mid written' : List ℕ) → mid ≡ written ++ done → Stops mid part written' → Stops written (done ++ part) written'
+stops-following written done part mid written' first stops = appends-following {E = ℕ} (Err 0) written done part mid written' first stops

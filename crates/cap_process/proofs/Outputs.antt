@@ -1,0 +1,182 @@
+-- Where a job writes, from one call to the next.
+use Rattle.std.proofs.Common.{◌≡◌, inl, inr, ℕ, ◌+◌, Bool, List, [], ◌∷◌, ◌++◌, length, Option, None, Some, Ok, Err, refl, sym, ◌∙◌, ap, add-zero, true}
+use Rattle.std.proofs.lemmas.List.{append_assoc, append-nil}
+use Rattle.cap_octet.specs.Device.{Stops}
+use Rattle.cap_octet.specs.Packet.{Captured}
+use Rattle.cap_octet.specs.declared.fault.Fault.{Fault}
+use Rattle.cap_octet.specs.declared.fault.Fault.TheVariants.{NoMemory, WriteFailed}
+use Rattle.cap_octet.specs.declared.format.Format.{Format}
+use Rattle.std.proofs.lemmas.Grind.{flat_map-append}
+use Rattle.cap_print.specs.declared.print.Options.{Options}
+use Rattle.cap_print.specs.Rendering.{printed_text}
+use Rattle.cap_io.specs.Sink as sinks
+use Rattle.cap_io.specs.Sink.{SinkView, HasPackets, IsPutAnswer, PutWrites, WritesPacket, takes_memory}
+use Rattle.cap_io.specs.Text.{added_text, refusal_of}
+use Rattle.cap_io.proofs.Texts.{put-next, put-answer, put-writes, put-taken, HasPackets-put, refused-write_failed, refused-no_memory}
+use Rattle.cap_process.specs.Reports.{Report}
+use Rattle.cap_io.specs.Sequence.{Complete}
+use Rattle.cap_process.specs.Verdict.{SelectorState}
+use Rattle.cap_process.specs.Outcome.{Form, AsCapture, AsReports, AsLines, closing_text, lines_text, final_text, form_refuses, output_text}
+use Rattle.cap_process.specs.Output.{Target, Capture, Text, Lines, HasWrittenTo, form_to, written_to, failures_to}
+use Rattle.cap_process.specs.inside.Output.{PutsIntoOutput, Reports}
+use Rattle.cap_process.specs.Reports.{report_text, reports_text}
+
+-- what is written is the form's
+pub drained-text : (before : List ℕ) (names : List (List ℕ)) (t : Target) (ps : List Captured) (rs : List Report) → HasWrittenTo before names t ps rs
+    → written_to t ≡ before ++ output_text (form_to names t) ps rs
+drained-text before names (Capture sink) ps rs has = has.written
+drained-text before names (Text bytes failures room) ps rs has = has
+drained-text before names (Lines options bytes failures room) ps rs has = has
+
+-- ---- lines
+
+-- a packet adds its line after those before it
+pub lines-more : (options : Options) (ps : List Captured) (q : Captured) (qs : List Captured)
+    → lines_text options ((ps ++ q ∷ []) ++ qs) ≡ lines_text options ps ++ (printed_text options q ++ lines_text options qs)
+lines-more options ps q qs = ap (lines_text options) (append_assoc ps (q ∷ []) qs) ∙ flat_map-append (printed_text options) ps (q ∷ qs)
+
+pub lines-one : (options : Options) (ps : List Captured) (q : Captured) → lines_text options (ps ++ q ∷ []) ≡ lines_text options ps ++ printed_text options q
+lines-one options ps q =
+    flat_map-append (printed_text options) ps (q ∷ [])
+    ∙ ap (λ (l : List ℕ). lines_text options ps ++ l) (append-nil (printed_text options q))
+
+-- ---- a packet is put
+
+pub record PutOk (before : List ℕ) (ps : List Captured) (rs : List Report) (q : Captured) (names names' : List (List ℕ)) (old new : Target) : Type 0 where
+  pub none : form_refuses (form_to names old) ps q ≡ None
+  pub output : HasWrittenTo before names' new (ps ++ q ∷ []) rs
+  pub form : form_to names' new ≡ form_to names old
+  pub failures : failures_to new ≡ failures_to old
+
+pub put-ok : (before : List ℕ) (ps : List Captured) (rs : List Report) (q : Captured) (names names' : List (List ℕ)) (old new : Target) → names' ≡ names → HasWrittenTo before names old ps rs
+    → PutsIntoOutput q old (Ok tt) new → PutOk before ps rs q names names' old new
+put-ok before ps rs q names names' (Capture sink) new same has puts =
+    let next = put-next ps sink q (Ok tt) puts.sink has.put puts.puts in
+    rw puts.is (record {
+      none = put-taken _ _ (put-answer ps sink q (Ok tt) puts.sink has.put next);
+      output = HasPackets-put before ps sink q puts.sink has puts.puts puts.writes;
+      form = ap AsCapture next.adds.format;
+      failures = next.adds.failures ∙ add-zero sink.failures;
+    })
+put-ok before ps rs q names names' (Text bytes failures room) new same has puts =
+    rw (puts.1, same) (record { none = refl; output = has; form = refl; failures = refl })
+put-ok before ps rs q names names' (Lines options bytes failures room) new same has puts =
+    rw puts.is (record {
+      none = refl;
+      output =
+          puts.appends
+          ∙ ap (λ (l : List ℕ). l ++ printed_text options q) has
+          ∙ append_assoc before (lines_text options ps) (printed_text options q)
+          ∙ ap (λ (l : List ℕ). before ++ l) (sym (lines-one options ps q));
+      form = refl;
+      failures = add-zero failures;
+    })
+
+-- ---- it is not put
+
+refusal-is : (refusal : Option Fault) (takes : Bool) (fault : Fault) → IsPutAnswer refusal takes (Err fault) → (fault ≡ WriteFailed → ⊥) → (fault ≡ NoMemory → ⊥) → refusal ≡ Some fault
+refusal-is None takes fault answer output_text memory = elim answer [ inl e ↦ absurd (output_text e) | inr e ↦ absurd (memory e.0) ]
+refusal-is (Some refusal) takes fault answer output_text memory = ap Some (sym answer)
+
+stays-written : (refusal : Option Fault) (fault : Fault) (bytes output_text output_text' : List ℕ) → refusal ≡ Some fault → WritesPacket refusal bytes output_text (Err fault) output_text' → output_text' ≡ output_text
+stays-written None fault bytes output_text output_text' is writes = (cc)
+stays-written (Some refusal) fault bytes output_text output_text' is writes = writes
+
+not-refused : (format : Format) (ps : List Captured) (p : Captured) (fault : Fault) → (refusal_of format ps p ≡ Some fault → ⊥) → IsPutAnswer (refusal_of format ps p) (takes_memory format ps p) (Err fault) → refusal_of format ps p ≡ None
+not-refused format ps p fault none answer = by_refusal (refusal_of format ps p) refl answer
+  where
+    by_refusal : (refusal : Option Fault) → refusal_of format ps p ≡ refusal → IsPutAnswer refusal (takes_memory format ps p) (Err fault) → refusal_of format ps p ≡ None
+    by_refusal None is answer = is
+    by_refusal (Some refusal) is answer = absurd (none (is ∙ ap Some (sym answer)))
+
+-- there is no memory only where some is taken
+memory-taken : (refusal : Option Fault) (takes : Bool) → refusal ≡ None → IsPutAnswer refusal takes (Err NoMemory) → takes ≡ true
+memory-taken None takes is answer = elim answer [ inl failed ↦ (cc) | inr memory ↦ memory.1 ]
+memory-taken (Some refusal) takes is answer = (cc)
+
+stopped-within : (refusal : Option Fault) (bytes output_text output_text' : List ℕ) → refusal ≡ None → WritesPacket refusal bytes output_text (Err WriteFailed) output_text' → Stops output_text bytes output_text'
+stopped-within None bytes output_text output_text' is writes = writes
+stopped-within (Some fault) bytes output_text output_text' is writes = (cc)
+
+stayed-written : (refusal : Option Fault) (bytes output_text output_text' : List ℕ) → refusal ≡ None → WritesPacket refusal bytes output_text (Err NoMemory) output_text' → output_text' ≡ output_text
+stayed-written None bytes output_text output_text' is writes = writes
+stayed-written (Some fault) bytes output_text output_text' is writes = writes
+
+-- why a packet that passes isn't put into a capture: the format refuses it; there was no memory; or the device failed
+abbrev pub WhyUnput : Fault → SinkView → List Captured → Captured → SinkView → Type 0
+WhyUnput WriteFailed old ps q new = (refusal_of old.format ps q ≡ None) × (new.failures ≡ old.failures + 1) × Stops old.written (added_text old.format ps q) new.written
+WhyUnput NoMemory old ps q new = (refusal_of old.format ps q ≡ None) × (takes_memory old.format ps q ≡ true) × (new.written ≡ old.written) × (new.failures ≡ old.failures)
+WhyUnput fault old ps q new = (refusal_of old.format ps q ≡ Some fault) × (new.written ≡ old.written) × (new.failures ≡ old.failures)
+
+pub unput : (before : List ℕ) (ps : List Captured) (q : Captured) (old new : SinkView) (fault : Fault) → HasPackets before old ps
+    → sinks.PutsPacket old.state old q (Err fault) new → PutWrites old.state old q (Err fault) new → WhyUnput fault old ps q new
+unput before ps q old new WriteFailed has puts writes =
+    let next = put-next ps old q (Err WriteFailed) new has.put puts in
+    let answer = put-answer ps old q (Err WriteFailed) new has.put next in
+    let bytes = put-writes ps old q (Err WriteFailed) new has.put writes in
+    let none = not-refused old.format ps q WriteFailed (refused-write_failed old.format ps q) answer in
+    (none, next.adds.failures, stopped-within (refusal_of old.format ps q) (added_text old.format ps q) old.written new.written none bytes)
+unput before ps q old new NoMemory has puts writes =
+    let next = put-next ps old q (Err NoMemory) new has.put puts in
+    let answer = put-answer ps old q (Err NoMemory) new has.put next in
+    let bytes = put-writes ps old q (Err NoMemory) new has.put writes in
+    let none = not-refused old.format ps q NoMemory (refused-no_memory old.format ps q) answer in
+    (none, memory-taken (refusal_of old.format ps q) (takes_memory old.format ps q) none answer, stayed-written (refusal_of old.format ps q) (added_text old.format ps q) old.written new.written none bytes, next.adds.failures ∙ add-zero old.failures)
+unput before ps q old new fault has puts writes =
+    let next = put-next ps old q (Err fault) new has.put puts in
+    let answer = put-answer ps old q (Err fault) new has.put next in
+    let bytes = put-writes ps old q (Err fault) new has.put writes in
+    let is = refusal-is (refusal_of old.format ps q) (takes_memory old.format ps q) fault answer (λ same. (cc)) (λ same. (cc)) in
+    (is, stays-written (refusal_of old.format ps q) fault (added_text old.format ps q) old.written new.written is bytes, next.adds.failures ∙ add-zero old.failures)
+
+-- ---- the clean end
+
+-- where a packet passed, nothing is added at a clean end
+pub closing-none : (form : Form) (link : Option ℕ) (ps : List Captured) → (0 ≡ length ps → ⊥) → closing_text form link ps ≡ []
+closing-none (AsCapture format) link [] some = absurd (some refl)
+closing-none (AsCapture format) link (p ∷ ps) some = refl
+closing-none (AsReports names) link ps some = refl
+closing-none (AsLines options) link ps some = refl
+
+pub closing-some : (before : List ℕ) (names : List (List ℕ)) (form : Form) (t : Target) (link : Option ℕ) (ps : List Captured) (rs : List Report) (n : ℕ) (state : SelectorState) → HasWrittenTo before names t ps rs → form_to names t ≡ form → (0 ≡ length ps → ⊥)
+    → written_to t ≡ before ++ final_text form link (record { decided = n; state = state; packets = ps; reports = rs; end = Some Complete })
+closing-some before names form t link ps rs n state has same some =
+    drained-text before names t ps rs has
+    ∙ ap (λ (f : Form). before ++ output_text f ps rs) same
+    ∙ ap (λ (l : List ℕ). before ++ l) (sym (append-nil (output_text form ps rs)) ∙ ap (λ (l : List ℕ). output_text form ps rs ++ l) (sym (closing-none form link ps some)))
+
+-- ---- a report
+
+reports-append : (names : List (List ℕ)) (rs qs : List Report) → reports_text names (rs ++ qs) ≡ reports_text names rs ++ reports_text names qs
+reports-append names [] qs = refl
+reports-append names (r ∷ rs) qs =
+    ap (λ (l : List ℕ). report_text names r ++ l) (reports-append names rs qs)
+    ∙ sym (append_assoc (report_text names r) (reports_text names rs) (reports_text names qs))
+
+-- a report adds its text after those before it
+pub reports-more : (names : List (List ℕ)) (rs : List Report) (r : Report) (qs : List Report)
+    → reports_text names ((rs ++ r ∷ []) ++ qs) ≡ reports_text names rs ++ (report_text names r ++ reports_text names qs)
+reports-more names rs r qs =
+    ap (reports_text names) (append_assoc rs (r ∷ []) qs)
+    ∙ reports-append names rs (r ∷ qs)
+
+pub record ReportOk (before : List ℕ) (ps : List Captured) (rs : List Report) (report : Report) (names names' : List (List ℕ)) (old new : Target) : Type 0 where
+  pub output : HasWrittenTo before names' new ps (rs ++ report ∷ [])
+  pub form : form_to names' new ≡ form_to names old
+  pub failures : failures_to new ≡ failures_to old
+
+pub report-ok : (before : List ℕ) (ps : List Captured) (rs : List Report) (report : Report) (names names' : List (List ℕ)) (old new : Target) → names' ≡ names → HasWrittenTo before names old ps rs
+    → Reports (report_text names report) old (Ok tt) new → ReportOk before ps rs report names names' old new
+report-ok before ps rs report names names' (Capture sink) new same has puts = rw puts.1 (record { output = has; form = refl; failures = refl })
+report-ok before ps rs report names names' (Lines options bytes failures room) new same has puts = rw puts.1 (record { output = has; form = refl; failures = refl })
+report-ok before ps rs report names names' (Text bytes failures room) new same has puts =
+    rw (puts.is, same) (record {
+      output =
+          puts.appends
+          ∙ ap (λ (l : List ℕ). l ++ report_text names report) has
+          ∙ append_assoc before (reports_text names rs) (report_text names report)
+          ∙ ap (λ (l : List ℕ). before ++ (reports_text names rs ++ l)) (sym (append-nil (report_text names report)))
+          ∙ ap (λ (l : List ℕ). before ++ l) (sym (reports-more names rs report []) ∙ ap (reports_text names) (append-nil (rs ++ report ∷ [])));
+      form = refl;
+      failures = add-zero failures;
+    })

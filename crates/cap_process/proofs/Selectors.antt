@@ -1,0 +1,95 @@
+-- What a selector returns.
+use Rattle.std.proofs.Common.{◌≡◌, ℕ, ◌+◌, ◌^◌, ◌<◌, ◌≤◌, nat_le, Bool, true, false, length, if◌then◌else◌, List, Option, None, Some, Ok, refl, sym, ◌∙◌, ap, arith}
+use Rattle.std.proofs.lemmas.Bool.Decides.{nat_tests}
+use Rattle.cap_octet.specs.Packet.{Captured}
+use Rattle.cap_octet.specs.declared.fault.Fault.TheVariants.{TooManyPackets}
+use Rattle.flt_bpf.specs.Content.{Content}
+use Rattle.cap_window.specs.View.{WindowView}
+use Rattle.cap_window.specs.declared.mark.Mark.{Mark}
+use Rattle.cap_process.specs.declared.selector.Verdict as code
+use Rattle.cap_process.specs.Verdict.{Policy, Edit, Filter, KeepAll, Count, SelectorState, Judgement, Pass, PassLast, Skip, judge, judge_by, refuses, is_last}
+use Rattle.cap_process.specs.Reports.{Tally, tally_with}
+use Rattle.cap_process.specs.Selector.{is_count, spent_by, spent_by_verdict, marks_in, places, state_of}
+use Rattle.cap_process.specs.inside.Selector.{PolicyState, IsWindowFor, ReturnsVerdict, count_limit, TakesTally, verdict_if, verdict_of, IsVerdict}
+
+nat_le-true : (a b : ℕ) → a ≤ b → nat_le a b ≡ true
+nat_le-true a b h = grind (arith, nat_tests, h)
+
+nat_le-false : (a b : ℕ) → b < a → nat_le a b ≡ false
+nat_le-false a b h = grind (arith, nat_tests, h)
+
+pub too-many : (policy : Policy) (state : SelectorState) (number : ℕ) (p : Captured) → is_count policy ≡ false → 2 ^ 63 ≤ number → judge policy state number p ≡ refuses state TooManyPackets
+too-many (Edit s) state number p judges h = rw (nat_le-true (2 ^ 63) number h) refl
+too-many (Filter rule count) state number p judges h = rw (nat_le-true (2 ^ 63) number h) refl
+too-many KeepAll state number p judges h = rw (nat_le-true (2 ^ 63) number h) refl
+too-many Count state number p judges h = (cc)
+
+pub upper_bound : (policy : Policy) (state : SelectorState) (number : ℕ) (p : Captured) → is_count policy ≡ false → number < 2 ^ 63 → judge policy state number p ≡ judge_by policy state number p
+upper_bound (Edit s) state number p judges h = rw (nat_le-false (2 ^ 63) number h) refl
+upper_bound (Filter rule count) state number p judges h = rw (nat_le-false (2 ^ 63) number h) refl
+upper_bound KeepAll state number p judges h = rw (nat_le-false (2 ^ 63) number h) refl
+upper_bound Count state number p judges h = (cc)
+
+-- ---- what judging costs
+
+pub counted-spends : (policy : Policy) (number : ℕ) (p : Captured) (programs : List Content) → is_count policy ≡ true → programs ≡ spent_by_verdict policy number p programs
+counted-spends (Edit s) number p programs is = (cc)
+counted-spends (Filter rule count) number p programs is = (cc)
+counted-spends KeepAll number p programs is = (cc)
+counted-spends Count number p programs is = refl
+
+pub refused-spends : (policy : Policy) (number : ℕ) (p : Captured) (programs : List Content) → is_count policy ≡ false → 2 ^ 63 ≤ number → programs ≡ spent_by_verdict policy number p programs
+refused-spends (Edit s) number p programs judges h = rw (nat_le-true (2 ^ 63) number h) refl
+refused-spends (Filter rule count) number p programs judges h = rw (nat_le-true (2 ^ 63) number h) refl
+refused-spends KeepAll number p programs judges h = rw (nat_le-true (2 ^ 63) number h) refl
+refused-spends Count number p programs judges h = (cc)
+
+pub judged-spends : (policy : Policy) (number : ℕ) (p : Captured) (programs : List Content) → is_count policy ≡ false → number < 2 ^ 63 → spent_by policy p programs ≡ spent_by_verdict policy number p programs
+judged-spends (Edit s) number p programs judges h = rw (nat_le-false (2 ^ 63) number h) refl
+judged-spends (Filter rule count) number p programs judges h = rw (nat_le-false (2 ^ 63) number h) refl
+judged-spends KeepAll number p programs judges h = rw (nat_le-false (2 ^ 63) number h) refl
+judged-spends Count number p programs judges h = (cc)
+
+-- ---- what is returned
+
+pub tells-none : (count : Option ℕ) (j : Judgement) (state : SelectorState) (p : Captured) (v : code.Verdict) → ReturnsVerdict count j (Ok false) p state → verdict_of v p ≡ Skip → IsVerdict j (Ok v) p state
+tells-none count j state p v keeps is = (is ∙ sym keeps.0, sym keeps.1)
+
+passing-as : (p : Captured) (b : Bool) → verdict_if p b ≡ (if b then PassLast p else Pass p)
+passing-as p true = refl
+passing-as p false = refl
+
+pub tells-some : (count : Option ℕ) (j : Judgement) (state : SelectorState) (p : Captured) (v : code.Verdict) → ReturnsVerdict count j (Ok true) p state
+    → verdict_of v p ≡ verdict_if p (is_last count (state.passed + 1)) → IsVerdict j (Ok v) p (state_of (state.passed + 1) state.window state.tally)
+tells-some count j state p v keeps is =
+    (is ∙ passing-as p (is_last count (state.passed + 1)) ∙ sym (ap (λ (x : Judgement). x.verdict) keeps), sym (ap (λ (x : Judgement). x.state) keeps))
+
+pub tells-passed : (policy policy' : Policy) (state after : SelectorState) (number : ℕ) (p q : Captured) (v : code.Verdict) → is_count policy ≡ false → number < 2 ^ 63
+    → ReturnsVerdict (count_limit policy) (judge_by policy state number p) (Ok true) q after → policy' ≡ policy → verdict_of v q ≡ verdict_if q (is_last (count_limit policy') (after.passed + 1))
+    → IsVerdict (judge policy state number p) (Ok v) q (state_of (after.passed + 1) after.window after.tally)
+tells-passed policy policy' state after number p q v judges less keeps same is =
+    rw (upper_bound policy state number p judges less) (tells-some (count_limit policy) (judge_by policy state number p) after q v keeps
+    (is ∙ ap (λ (a : Policy). verdict_if q (is_last (count_limit a) (after.passed + 1))) same))
+
+-- ---- the window
+
+pub window-few : (n : Option ℕ) (w : Option WindowView) → IsWindowFor n w → length (marks_in w) ≤ places n
+window-few None None is = omega arith
+window-few None (Some w) is = absurd is
+window-few (Some n) None is = absurd is
+window-few (Some n) (Some w) is = is.1
+
+-- ---- packets are counted
+
+pub tells-count : (policy : Policy) (passed : ℕ) (marks : List Mark) (tally tally' : Tally) (number : ℕ) (p : Captured) (v : code.Verdict) → is_count policy ≡ true → verdict_of v p ≡ Skip → tally' ≡ tally_with tally p
+    → IsVerdict (judge policy (state_of passed marks tally) number p) (Ok v) p (state_of passed marks tally')
+tells-count Count passed marks tally tally' number p v is skips more = (skips, ap (state_of passed marks) more)
+tells-count (Edit s) passed marks tally tally' number p v is skips more = (cc)
+tells-count (Filter rule count) passed marks tally tally' number p v is skips more = (cc)
+tells-count KeepAll passed marks tally tally' number p v is skips more = (cc)
+
+-- ---- what was counted is taken
+
+pub closes-policy : (b : Bool) (old new : PolicyState) (r : Option Tally) → TakesTally b old r new → new.policy ≡ old.policy
+closes-policy false old new r c = ap (λ (v : PolicyState). v.policy) c.1
+closes-policy true old new r c = ap (λ (v : PolicyState). v.policy) c.1

@@ -1,0 +1,5 @@
+use Rattle.cap_process.proofs.Wholes.{infos_reports}
+use Rattle.cap_process.proofs.law.infos_has_each_report.Goals as goal
+
+pub returns : goal.returns
+returns c = infos_reports

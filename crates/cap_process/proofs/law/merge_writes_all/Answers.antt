@@ -1,0 +1,5 @@
+use Rattle.cap_process.proofs.Wholes.{merge_writes}
+use Rattle.cap_process.proofs.law.merge_writes_all.Goals as goal
+
+pub returns : goal.returns
+returns c = merge_writes

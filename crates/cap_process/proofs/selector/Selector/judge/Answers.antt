@@ -1,0 +1,205 @@
+use Rattle.std.proofs.Common.{◌≡◌, ℕ, ◌+◌, ◌<◌, ◌≤◌, Bool, true, false, Option, Ok, refl, ap, sym, ◌∙◌, subst, arith}
+use Rattle.cap_octet.specs.Packet.{Captured, captured}
+use Rattle.cap_octet.specs.declared.fault.Fault.TheVariants.{TooManyPackets}
+use Rattle.cap_process.specs.declared.selector.Verdict.TheVariants as code
+use Rattle.cap_filter.specs.Programs.{spent_in}
+use Rattle.cap_process.specs.inside.Reports.{FitsTally}
+use Rattle.cap_process.specs.Verdict.{Judgement, SelectorState, is_last, judge_by, refuses, judge}
+use Rattle.cap_process.specs.Selector.{SelectorView, most_spent, policy_of, programs_in, spent_by_verdict, window_of, is_count, marks_in, state_of}
+use Rattle.cap_process.specs.inside.Selector.{GrowsByOne, HasFewMarks, ReturnsVerdict, IsVerdict, count_limit, verdict_if, verdict_of}
+use Rattle.cap_process.proofs.Selectors.{counted-spends, judged-spends, refused-spends, upper_bound, too-many, tells-count, tells-none, tells-passed, window-few}
+use Rattle.cap_process.proofs.selector.Selector.judge.Goals as goal
+use Rattle.cap_process.proofs.selector.Selector.judge.Goals.{then-passed-number, else-passed-number}
+
+pub returns-then-counts-clause-exact : goal.returns-then-counts-clause-exact
+returns-then-counts-clause-exact g c = λ within counted.
+    let P : SelectorView → Type 0 = λ v. FitsTally v.state.tally → IsVerdict (judge v.policy v.state c.args.number (captured c.args.packet.now)) (Ok code.Skip) (captured c.args.packet.now) (state_of c.self.inside.passed (marks_in c.self.inside.window) c.counted-self-inside.result) in
+    subst P c.self.view_is
+    (λ upper_bound. tells-count (policy_of c.self.inside.policy) c.self.inside.passed (marks_in c.self.inside.window) c.self.inside.tally c.counted-self-inside.result c.args.number (captured c.args.packet.now) code.Skip
+    (sym c.counts.ensures ∙ c.if-counts.true) refl (c.counted-self-inside.ensures.counted upper_bound))
+    counted
+
+pub returns-then-number-ge-MOST_PACKETS-clause-exact : goal.returns-then-number-ge-MOST_PACKETS-clause-exact
+returns-then-number-ge-MOST_PACKETS-clause-exact g c = λ within counted.
+    let P : SelectorView → Type 0 = λ v. judge v.policy v.state c.args.number (captured c.args.packet.now) ≡ refuses v.state TooManyPackets in
+    ap (λ (j : Judgement). j.verdict) (subst P c.self.view_is (too-many (policy_of c.self.inside.policy) _ c.args.number (captured c.args.packet.now)
+    (sym c.counts.ensures ∙ c.if-counts.false) c.if-number-ge-MOST_PACKETS.true))
+
+pub returns-then-not-branch-clause-exact : goal.returns-then-not-branch-clause-exact
+returns-then-not-branch-clause-exact g c = λ within counted.
+    let w = c.self.inside in
+    let p : Captured = captured c.args.packet.now in
+    let q : Captured = captured c.keeps.new.packet in
+    let judges : is_count (policy_of w.policy) ≡ false = sym c.counts.ensures ∙ c.if-counts.false in
+    let state : SelectorState = state_of w.passed (marks_in w.window) w.tally in
+    let after : SelectorState = state_of w.passed (marks_in c.keeps.new.window) w.tally in
+    let K : Bool → Type 0 = λ b. ReturnsVerdict (count_limit (policy_of w.policy)) (judge_by (policy_of w.policy) state c.args.number p) (Ok b) q after in
+    let keeps : K false = subst K c.if-not-branch.true (c.in_ok-keeps.ensures.exact w.passed w.tally judges) in
+    let P : SelectorView → Type 0 = λ v. IsVerdict (judge v.policy v.state c.args.number p) (Ok code.Skip) q after in
+    subst P c.self.view_is (rw (upper_bound (policy_of w.policy) state c.args.number p judges c.if-number-ge-MOST_PACKETS.false)
+    (tells-none (count_limit (policy_of w.policy)) (judge_by (policy_of w.policy) state c.args.number p) after q code.Skip keeps refl))
+
+pub returns-clause-exact : goal.returns-clause-exact
+returns-clause-exact g c = λ within counted.
+    let w = c.self.inside in
+    let p : Captured = captured c.args.packet.now in
+    let q : Captured = captured c.keeps.new.packet in
+    let judges : is_count (policy_of w.policy) ≡ false = sym c.counts.ensures ∙ c.if-counts.false in
+    let state : SelectorState = state_of w.passed (marks_in w.window) w.tally in
+    let after : SelectorState = state_of w.passed (marks_in c.keeps.new.window) w.tally in
+    let K : Bool → Type 0 = λ b. ReturnsVerdict (count_limit (policy_of w.policy)) (judge_by (policy_of w.policy) state c.args.number p) (Ok b) q after in
+    let keeps : K true = subst K c.if-not-branch.false (c.in_ok-keeps.ensures.exact w.passed w.tally judges) in
+    let is : verdict_of c.passing.result q ≡ verdict_if q (is_last (count_limit (policy_of c.if-passed-number.self-inside.policy)) c.if-passed-number.self-inside.passed) =
+    c.passing.ensures q ∙ ap (verdict_if q) (c.is_last-last.ensures ∙ ap (λ (n : Option ℕ). is_last n c.if-passed-number.self-inside.passed) c.count.ensures) in
+    let few_before : w.passed < c.args.number = (let N : SelectorView → Type 0 = λ v. v.state.passed < c.args.number in subst N (sym c.self.view_is) within) in
+    elim c.if-passed-number.branch [
+      | then-passed-number b ↦ (let last = rw b.self-inside-is at is in
+          let P : SelectorView → Type 0 = λ v. IsVerdict (judge v.policy v.state c.args.number p) (Ok c.passing.result) q (state_of (w.passed + 1) (marks_in c.keeps.new.window) w.tally) in
+          rw b.self-inside-is (subst P c.self.view_is
+          (tells-passed (policy_of w.policy) (policy_of c.keeps.new.self) state after c.args.number p q c.passing.result judges c.if-number-ge-MOST_PACKETS.false keeps c.keeps.ensures.policy last)))
+      | else-passed-number b ↦ absurd (omega arith)
+    ]
+
+pub returns-then-counts-clause-policy : goal.returns-then-counts-clause-policy
+returns-then-counts-clause-policy g c = ap (λ (v : SelectorView). v.policy) c.self.view_is
+
+pub returns-then-counts-clause-passed : goal.returns-then-counts-clause-passed
+returns-then-counts-clause-passed g c =
+    let P : SelectorView → Type 0 = λ v. v.state.passed ≤ c.args.number → c.self.inside.passed ≤ c.args.number in
+    subst P c.self.view_is (λ few. few)
+
+pub returns-then-counts-clause-counted : goal.returns-then-counts-clause-counted
+returns-then-counts-clause-counted g c =
+    let few = c.requires in
+    let bytes = c.counted-self-inside.ensures.bytes in
+    let P : SelectorView → Type 0 = λ v. GrowsByOne v.state.tally c.counted-self-inside.result in
+    subst P c.self.view_is (c.counted-self-inside.ensures.count, c.counted-self-inside.ensures.data, omega (arith, bytes, few))
+
+pub returns-then-counts-clause-spends : goal.returns-then-counts-clause-spends
+returns-then-counts-clause-spends g c =
+    let P : SelectorView → Type 0 = λ v. programs_in c.self.inside.policy ≡ spent_by_verdict v.policy c.args.number (captured c.args.packet.now) v.programs in
+    subst P c.self.view_is (counted-spends (policy_of c.self.inside.policy) c.args.number (captured c.args.packet.now) (programs_in c.self.inside.policy) (sym c.counts.ensures ∙ c.if-counts.true))
+
+pub returns-then-counts-clause-bounded : goal.returns-then-counts-clause-bounded
+returns-then-counts-clause-bounded g c =
+    let P : SelectorView → Type 0 = λ v. spent_in (programs_in c.self.inside.policy) ≤ spent_in v.programs + most_spent v.policy in
+    subst P c.self.view_is (omega arith)
+
+pub returns-then-counts-clause-upper_bound : goal.returns-then-counts-clause-upper_bound
+returns-then-counts-clause-upper_bound g c = window-few (window_of (policy_of c.self.inside.policy)) c.self.inside.window c.self.invariant
+
+pub returns-then-number-ge-MOST_PACKETS-clause-policy : goal.returns-then-number-ge-MOST_PACKETS-clause-policy
+returns-then-number-ge-MOST_PACKETS-clause-policy g c = refl
+
+pub returns-then-number-ge-MOST_PACKETS-clause-passed : goal.returns-then-number-ge-MOST_PACKETS-clause-passed
+returns-then-number-ge-MOST_PACKETS-clause-passed g c = λ few. few
+
+pub returns-then-number-ge-MOST_PACKETS-clause-counted : goal.returns-then-number-ge-MOST_PACKETS-clause-counted
+returns-then-number-ge-MOST_PACKETS-clause-counted g c = (omega arith, omega arith, omega arith)
+
+pub returns-then-number-ge-MOST_PACKETS-clause-spends : goal.returns-then-number-ge-MOST_PACKETS-clause-spends
+returns-then-number-ge-MOST_PACKETS-clause-spends g c =
+    let P : SelectorView → Type 0 = λ v. v.programs ≡ spent_by_verdict v.policy c.args.number (captured c.args.packet.now) v.programs in
+    subst P c.self.view_is (refused-spends (policy_of c.self.inside.policy) c.args.number (captured c.args.packet.now) (programs_in c.self.inside.policy) (sym c.counts.ensures ∙ c.if-counts.false) c.if-number-ge-MOST_PACKETS.true)
+
+pub returns-then-number-ge-MOST_PACKETS-clause-bounded : goal.returns-then-number-ge-MOST_PACKETS-clause-bounded
+returns-then-number-ge-MOST_PACKETS-clause-bounded g c = omega arith
+
+pub returns-then-number-ge-MOST_PACKETS-clause-upper_bound : goal.returns-then-number-ge-MOST_PACKETS-clause-upper_bound
+returns-then-number-ge-MOST_PACKETS-clause-upper_bound g c =
+    let P : SelectorView → Type 0 = λ v. HasFewMarks v.policy v.state in
+    subst P c.self.view_is (window-few (window_of (policy_of c.self.inside.policy)) c.self.inside.window c.self.invariant)
+
+pub returns-in_err-keeps-clause-policy : goal.returns-in_err-keeps-clause-policy
+returns-in_err-keeps-clause-policy g c = c.keeps.ensures.policy ∙ ap (λ (v : SelectorView). v.policy) c.self.view_is
+
+pub returns-in_err-keeps-clause-passed : goal.returns-in_err-keeps-clause-passed
+returns-in_err-keeps-clause-passed g c =
+    let P : SelectorView → Type 0 = λ v. v.state.passed ≤ c.args.number → c.self.inside.passed ≤ c.args.number in
+    subst P c.self.view_is (λ few. few)
+
+pub returns-in_err-keeps-clause-counted : goal.returns-in_err-keeps-clause-counted
+returns-in_err-keeps-clause-counted g c =
+    let P : SelectorView → Type 0 = λ v. GrowsByOne v.state.tally c.self.inside.tally in
+    subst P c.self.view_is (omega arith, omega arith, omega arith)
+
+pub returns-in_err-keeps-clause-spends : goal.returns-in_err-keeps-clause-spends
+returns-in_err-keeps-clause-spends g c =
+    let P : SelectorView → Type 0 = λ v. programs_in c.keeps.new.self ≡ spent_by_verdict v.policy c.args.number (captured c.args.packet.now) v.programs in
+    subst P c.self.view_is (c.keeps.ensures.spends ∙ judged-spends (policy_of c.self.inside.policy) c.args.number (captured c.args.packet.now) (programs_in c.self.inside.policy) (sym c.counts.ensures ∙ c.if-counts.false) c.if-number-ge-MOST_PACKETS.false)
+
+pub returns-in_err-keeps-clause-bounded : goal.returns-in_err-keeps-clause-bounded
+returns-in_err-keeps-clause-bounded g c =
+    let P : SelectorView → Type 0 = λ v. spent_in (programs_in c.keeps.new.self) ≤ spent_in v.programs + most_spent v.policy in
+    subst P c.self.view_is (c.keeps.ensures.bounded)
+
+pub returns-in_err-keeps-clause-upper_bound : goal.returns-in_err-keeps-clause-upper_bound
+returns-in_err-keeps-clause-upper_bound g c = rw c.keeps.ensures.policy (window-few (window_of (policy_of c.self.inside.policy)) c.keeps.new.window c.keeps.ensures.window)
+
+pub returns-then-not-branch-clause-policy : goal.returns-then-not-branch-clause-policy
+returns-then-not-branch-clause-policy g c = c.keeps.ensures.policy ∙ ap (λ (v : SelectorView). v.policy) c.self.view_is
+
+pub returns-then-not-branch-clause-passed : goal.returns-then-not-branch-clause-passed
+returns-then-not-branch-clause-passed g c =
+    let P : SelectorView → Type 0 = λ v. v.state.passed ≤ c.args.number → c.self.inside.passed ≤ c.args.number in
+    subst P c.self.view_is (λ few. few)
+
+pub returns-then-not-branch-clause-counted : goal.returns-then-not-branch-clause-counted
+returns-then-not-branch-clause-counted g c =
+    let P : SelectorView → Type 0 = λ v. GrowsByOne v.state.tally c.self.inside.tally in
+    subst P c.self.view_is (omega arith, omega arith, omega arith)
+
+pub returns-then-not-branch-clause-spends : goal.returns-then-not-branch-clause-spends
+returns-then-not-branch-clause-spends g c =
+    let P : SelectorView → Type 0 = λ v. programs_in c.keeps.new.self ≡ spent_by_verdict v.policy c.args.number (captured c.args.packet.now) v.programs in
+    subst P c.self.view_is (c.keeps.ensures.spends ∙ judged-spends (policy_of c.self.inside.policy) c.args.number (captured c.args.packet.now) (programs_in c.self.inside.policy) (sym c.counts.ensures ∙ c.if-counts.false) c.if-number-ge-MOST_PACKETS.false)
+
+pub returns-then-not-branch-clause-bounded : goal.returns-then-not-branch-clause-bounded
+returns-then-not-branch-clause-bounded g c =
+    let P : SelectorView → Type 0 = λ v. spent_in (programs_in c.keeps.new.self) ≤ spent_in v.programs + most_spent v.policy in
+    subst P c.self.view_is (c.keeps.ensures.bounded)
+
+pub returns-then-not-branch-clause-upper_bound : goal.returns-then-not-branch-clause-upper_bound
+returns-then-not-branch-clause-upper_bound g c = rw c.keeps.ensures.policy (window-few (window_of (policy_of c.self.inside.policy)) c.keeps.new.window c.keeps.ensures.window)
+
+pub returns-clause-policy : goal.returns-clause-policy
+returns-clause-policy g c =
+    elim c.if-passed-number.branch [
+      | then-passed-number b ↦ rw b.self-inside-is (c.keeps.ensures.policy ∙ ap (λ (v : SelectorView). v.policy) c.self.view_is)
+      | else-passed-number b ↦ rw b.self-inside-is (c.keeps.ensures.policy ∙ ap (λ (v : SelectorView). v.policy) c.self.view_is)
+    ]
+
+pub returns-clause-passed : goal.returns-clause-passed
+returns-clause-passed g c =
+    elim c.if-passed-number.branch [
+      | then-passed-number b ↦ rw b.self-inside-is (let P : SelectorView → Type 0 = λ v. v.state.passed ≤ c.args.number → c.self.inside.passed + 1 ≤ c.args.number in subst P c.self.view_is (λ few. (let less = b.if-passed-number.true in omega (arith, less))))
+      | else-passed-number b ↦ rw b.self-inside-is (let P : SelectorView → Type 0 = λ v. v.state.passed ≤ c.args.number → c.self.inside.passed ≤ c.args.number in subst P c.self.view_is (λ few. few))
+    ]
+
+pub returns-clause-counted : goal.returns-clause-counted
+returns-clause-counted g c =
+    elim c.if-passed-number.branch [
+      | then-passed-number b ↦ rw b.self-inside-is (let P : SelectorView → Type 0 = λ v. GrowsByOne v.state.tally c.self.inside.tally in subst P c.self.view_is (omega arith, omega arith, omega arith))
+      | else-passed-number b ↦ rw b.self-inside-is (let P : SelectorView → Type 0 = λ v. GrowsByOne v.state.tally c.self.inside.tally in subst P c.self.view_is (omega arith, omega arith, omega arith))
+    ]
+
+pub returns-clause-spends : goal.returns-clause-spends
+returns-clause-spends g c =
+    elim c.if-passed-number.branch [
+      | then-passed-number b ↦ rw b.self-inside-is (let P : SelectorView → Type 0 = λ v. programs_in c.keeps.new.self ≡ spent_by_verdict v.policy c.args.number (captured c.args.packet.now) v.programs in subst P c.self.view_is (c.keeps.ensures.spends ∙ judged-spends (policy_of c.self.inside.policy) c.args.number (captured c.args.packet.now) (programs_in c.self.inside.policy) (sym c.counts.ensures ∙ c.if-counts.false) c.if-number-ge-MOST_PACKETS.false))
+      | else-passed-number b ↦ rw b.self-inside-is (let P : SelectorView → Type 0 = λ v. programs_in c.keeps.new.self ≡ spent_by_verdict v.policy c.args.number (captured c.args.packet.now) v.programs in subst P c.self.view_is (c.keeps.ensures.spends ∙ judged-spends (policy_of c.self.inside.policy) c.args.number (captured c.args.packet.now) (programs_in c.self.inside.policy) (sym c.counts.ensures ∙ c.if-counts.false) c.if-number-ge-MOST_PACKETS.false))
+    ]
+
+pub returns-clause-bounded : goal.returns-clause-bounded
+returns-clause-bounded g c =
+    elim c.if-passed-number.branch [
+      | then-passed-number b ↦ rw b.self-inside-is (let P : SelectorView → Type 0 = λ v. spent_in (programs_in c.keeps.new.self) ≤ spent_in v.programs + most_spent v.policy in subst P c.self.view_is (c.keeps.ensures.bounded))
+      | else-passed-number b ↦ rw b.self-inside-is (let P : SelectorView → Type 0 = λ v. spent_in (programs_in c.keeps.new.self) ≤ spent_in v.programs + most_spent v.policy in subst P c.self.view_is (c.keeps.ensures.bounded))
+    ]
+
+pub returns-clause-upper_bound : goal.returns-clause-upper_bound
+returns-clause-upper_bound g c =
+    elim c.if-passed-number.branch [
+      | then-passed-number b ↦ rw b.self-inside-is (rw c.keeps.ensures.policy (window-few (window_of (policy_of c.self.inside.policy)) c.keeps.new.window c.keeps.ensures.window))
+      | else-passed-number b ↦ rw b.self-inside-is (rw c.keeps.ensures.policy (window-few (window_of (policy_of c.self.inside.policy)) c.keeps.new.window c.keeps.ensures.window))
+    ]

@@ -1,0 +1,37 @@
+-- What an edit makes of packets that come one after another: what is unique of what is selected.
+use Rattle.std.specs.Prelude.{ℕ, ◌+◌, ◌-◌, Bool, false, if◌then◌else◌, List, [], ◌∷◌, ◌++◌, Option, None, Some}
+use Rattle.cap_octet.specs.Packet.{Captured}
+use Rattle.cap_window.specs.declared.mark.Mark.{Mark}
+use Rattle.cap_window.specs.Marks.{mark_of, has_same, last}
+use Rattle.cap_io.specs.Sequence.{Event, Packet}
+use Rattle.cap_process.specs.Verdict.{EditRule, edited_packet_with, is_selected, shifted_time}
+
+abbrev pub selected_at : EditRule → Captured → Option ℕ → List Captured → List Captured
+selected_at s p None rest = []
+selected_at s p (Some time) rest = edited_packet_with s p time ∷ rest
+
+-- the packets that are selected, the first with this number, as they are changed; up to the first
+-- whose time leaves its range
+abbrev pub packets_selected : EditRule → ℕ → List Captured → List Captured
+packets_selected s number [] = []
+packets_selected s number (p ∷ ps) =
+    if is_selected s number p then selected_at s p (shifted_time s.shift p.time)
+    (packets_selected s (number + 1) ps) else packets_selected s (number + 1) ps
+
+-- whether one of the n - 1 marks just before is the same
+abbrev pub is_repeated : Option ℕ → List Mark → Mark → Bool
+is_repeated None before m = false
+is_repeated (Some n) before m = has_same (last (n - 1) before) m
+
+-- the packets that have no equal among the n - 1 just before them, where these marks came before
+abbrev pub unique_after : Option ℕ → List Mark → List Captured → List Captured
+unique_after n before [] = []
+unique_after n before (p ∷ ps) =
+    if is_repeated n before (mark_of p.bytes) then unique_after n
+    (before ++ mark_of p.bytes ∷ []) ps else p
+    ∷ unique_after n (before ++ mark_of p.bytes ∷ []) ps
+
+-- packets that come one after another
+abbrev pub coming : List Captured → List Event
+coming [] = []
+coming (p ∷ ps) = Packet 0 (record { offset = 0; packet = p }) ∷ coming ps

@@ -1,0 +1,138 @@
+-- What is counted, kept and searched of packets that come one after another, as lists.
+use Rattle.std.specs.Prelude.{◌≡◌, ℕ, ◌+◌, ◌-◌, ◌^◌, ◌<◌, ◌&&◌, Bool, true, if◌then◌else◌, nat_le, min, max, List, [], ◌∷◌, length, map, take, Option, None, Some, IfSome}
+use Rattle.std.specs.List.{sum_by}
+use Rattle.std.specs.Option.{is_none}
+use Rattle.cap_octet.specs.Packet.{Captured}
+use Rattle.cap_octet.specs.declared.fault.Fault.TheVariants.{TimeOutOfRange}
+use Rattle.cap_io.specs.Capture.{Placed}
+use Rattle.cap_filter.specs.Decisions.{Decision, Keep, Skip, Refuse}
+use Rattle.cap_filter.specs.FilterRules.{Rule, rule_decides}
+use Rattle.cap_window.specs.declared.mark.Mark.{Mark}
+use Rattle.cap_window.specs.Marks.{mark_of, last}
+use Rattle.cap_io.specs.Sequence.{Event, Packet, SequenceEnd, FaultIn}
+use Rattle.cap_process.specs.Verdict.{Count, Filter, Edit, EditRule, is_selected, shifted_time}
+use Rattle.cap_process.specs.Reports.{Tally}
+use Rattle.cap_process.specs.Outcome.{AsReports, no_progress, apply_events}
+use Rattle.cap_process.specs.Edits.{coming, packets_selected, unique_after}
+
+-- ---- what is counted
+
+-- the times, in the order of the packets
+abbrev pub times : List Captured → List ℕ
+times ps = map (λ (p : Captured). p.time) ps
+
+-- the least number, 0 of none
+abbrev pub least : List ℕ → ℕ
+least [] = 0
+least (a ∷ []) = a
+least (a ∷ b ∷ ns) = min a (least (b ∷ ns))
+
+-- the greatest number, 0 of none
+abbrev pub greatest : List ℕ → ℕ
+greatest [] = 0
+greatest (a ∷ ns) = max a (greatest ns)
+
+-- the last number, 0 of none
+abbrev pub final : List ℕ → ℕ
+final [] = 0
+final (a ∷ []) = a
+final (a ∷ b ∷ ns) = final (b ∷ ns)
+
+-- whether no number is less than the one before it
+abbrev pub ascends : List ℕ → Bool
+ascends [] = true
+ascends (a ∷ []) = true
+ascends (a ∷ b ∷ ns) = nat_le a b && ascends (b ∷ ns)
+
+-- how many packets there are, the sums of their lengths, and their times
+abbrev pub tally_of : List Captured → Tally
+tally_of ps = record {
+  count = length ps;
+  data_size = sum_by (λ (p : Captured). p.orig) ps;
+  captured_size = sum_by (λ (p : Captured). length p.bytes) ps;
+  least = least (times ps);
+  greatest = greatest (times ps);
+  last = final (times ps);
+  strict = ascends (times ps);
+}
+
+-- what is counted of packets is their tally, however many they are
+abbrev pub CountsAll : Type 0
+CountsAll =
+    (names : List (List ℕ)) (ps : List Captured)
+    → (apply_events Count (AsReports names) no_progress (coming ps)).state.tally ≡ tally_of ps
+
+-- ---- what a filter keeps
+
+-- by the decision on the packet, before these
+abbrev pub kept_by : Decision → Captured → List Captured → List Captured
+kept_by Keep p rest = p ∷ rest
+kept_by Skip p rest = rest
+kept_by (Refuse fault) p rest = []
+
+-- the packets that a rule keeps, up to the first that it refuses
+abbrev pub packets_kept : Rule → List Captured → List Captured
+packets_kept rule [] = []
+packets_kept rule (p ∷ ps) = kept_by (rule_decides rule p) p (packets_kept rule ps)
+
+-- the first n, or all
+abbrev pub at_most : Option ℕ → List Captured → List Captured
+at_most None ps = ps
+at_most (Some n) ps = take n ps
+
+-- of fewer than 2^63 packets those pass that the rule keeps, the first of them where a count is
+-- given
+abbrev pub PassesFiltered : Type 0
+PassesFiltered =
+    (rule : Rule) (count : Option ℕ) (ps : List Captured) → IfSome count (λ (n : ℕ). 0 < n)
+    → length ps < 2 ^ 63
+    → (apply_events (Filter rule count) (AsReports []) no_progress (coming ps)).packets
+    ≡ at_most count (packets_kept rule ps)
+
+-- ---- the window of an edit
+
+-- the marks of packets
+abbrev pub marks : List Captured → List Mark
+marks ps = map (λ (p : Captured). mark_of p.bytes) ps
+
+-- after fewer than 2^63 packets the window has the marks of the last n - 1 that were selected
+abbrev pub HasLastMarks : Type 0
+HasLastMarks = (s : EditRule) (n : ℕ) (ps : List Captured) → s.window ≡ Some n → length ps < 2 ^ 63
+    → (apply_events (Edit s) (AsReports []) no_progress (coming ps)).state.window
+    ≡ last (n - 1) (marks (packets_selected s 1 ps))
+
+-- ---- how an edit ends
+
+-- packets with places of their own come one after another
+abbrev pub arriving : List Placed → List Event
+arriving [] = []
+arriving (p ∷ ps) = Packet 0 p ∷ arriving ps
+
+-- the packets without their places
+abbrev pub packets_of : List Placed → List Captured
+packets_of ps = map (λ (p : Placed). p.packet) ps
+
+-- whether the packet with this number is selected, and its moved time isn't from 0 to 2^63 - 1
+-- nanoseconds
+abbrev pub has_no_time_after_shift : EditRule → ℕ → Captured → Bool
+has_no_time_after_shift s number p = is_selected s number p && is_none (shifted_time s.shift p.time)
+
+-- where the first lies that does, the first of all having this number
+abbrev pub first_without_time : EditRule → ℕ → List Placed → Option ℕ
+first_without_time s number [] = None
+first_without_time s number (p ∷ ps) =
+    if has_no_time_after_shift s number p.packet then Some p.offset else first_without_time s (number + 1) ps
+
+-- the job goes on where there is none, and else it ends there, for its time
+abbrev pub end_at_time : Option ℕ → Option SequenceEnd
+end_at_time None = None
+end_at_time (Some offset) = Some (FaultIn 0 TimeOutOfRange offset)
+
+-- An edit of fewer than 2^63 packets ends at the first that is selected and whose moved time is
+-- below 0 or above 2^63 - 1 nanoseconds; what passes is what is unique of what is selected before it.
+abbrev pub EndsWithoutTime : Type 0
+EndsWithoutTime = (s : EditRule) (ps : List Placed) → length ps < 2 ^ 63
+    → ((apply_events (Edit s) (AsReports []) no_progress (arriving ps)).end
+    ≡ end_at_time (first_without_time s 1 ps))
+    × ((apply_events (Edit s) (AsReports []) no_progress (arriving ps)).packets
+    ≡ unique_after s.window [] (packets_selected s 1 (packets_of ps)))

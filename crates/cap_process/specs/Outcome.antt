@@ -1,0 +1,245 @@
+-- What a job makes of the packets that come: the output, the message and the status.
+use Rattle.std.specs.Prelude.{◌≡◌, ℕ, zero, suc, ◌+◌, List, [], ◌∷◌, ◌++◌, Option, None, Some, unwrap_or, Bool, false}
+use Rattle.std.specs.List.{flat_map}
+use Rattle.std.specs.Option.{option_or}
+use Rattle.cap_octet.specs.Packet.{Captured}
+use Rattle.cap_octet.specs.declared.fault.Fault.{Fault}
+use Rattle.cap_octet.specs.declared.format.Format.{Format}
+use Rattle.cap_io.specs.declared.source.Kind.{Kind}
+use Rattle.cap_io.specs.Capture.{Placed, Items, first_link_of}
+use Rattle.cap_io.specs.Sink.{takes_memory}
+use Rattle.cap_io.specs.Text.{added_text, file_start, text, refusal_of}
+use Rattle.cap_print.specs.declared.print.Options.{Options}
+use Rattle.cap_print.specs.Rendering.{printed_text}
+use Rattle.cap_io.specs.Sequence.{Event, Packet, InputEnd, SequenceEnd, Complete, FaultIn, Sequence, InputItems, PacketOrder, sequence_of, with_front}
+use Rattle.cap_process.specs.Messages.{fault_message}
+use Rattle.cap_process.specs.Verdict.{Policy, Count, SelectorState, initial_state, Verdict, Pass, PassLast, Skip, Refuse, judge}
+use Rattle.cap_process.specs.Reports.{Report, nothing_counted, report_text, reports_text, name_at}
+
+-- ---- forms
+
+-- in which form packets and reports are written
+pub data Form : Type 0 where
+  AsCapture : (format : Format) → Form
+  -- each report, by the names of the inputs
+  AsReports : (names : List (List ℕ)) → Form
+  -- a line for each packet, and its bytes where they are asked for
+  AsLines : (options : Options) → Form
+
+-- why a packet that comes after these isn't written
+abbrev pub form_refuses : Form → List Captured → Captured → Option Fault
+form_refuses (AsCapture format) ps p = refusal_of format ps p
+form_refuses (AsReports names) ps p = None
+form_refuses (AsLines options) ps p = None
+
+-- whether memory is taken to write a packet that comes after these: that of an interface which a
+-- pcapng file hasn't had yet
+abbrev pub form_takes_memory : Form → List Captured → Captured → Bool
+form_takes_memory (AsCapture format) ps p = takes_memory format ps p
+form_takes_memory (AsReports names) ps p = false
+form_takes_memory (AsLines options) ps p = false
+
+-- ---- the fold
+
+-- How far a job is: how many packets are decided, what was met, the packets that passed, the
+-- reports, and how it ended, where it did.
+pub record JobProgress : Type 0 where
+  pub decided : ℕ
+  pub state : SelectorState
+  pub packets : List Captured
+  pub reports : List Report
+  pub end : Option SequenceEnd
+
+abbrev pub no_progress : JobProgress
+no_progress = record { decided = 0; state = initial_state; packets = []; reports = []; end = None }
+
+-- one packet is decided
+abbrev pub decide : JobProgress → SelectorState → List Captured → Option SequenceEnd → JobProgress
+decide w state new end = record {
+  decided = w.decided + 1;
+  state = state;
+  packets = w.packets ++ new;
+  reports = w.reports;
+  end = end;
+}
+
+-- a packet isn't decided: the job ends at it
+abbrev pub end_with : JobProgress → SequenceEnd → JobProgress
+end_with w close =
+    record {
+      decided = w.decided;
+      state = w.state;
+      packets = w.packets;
+      reports = w.reports;
+      end = Some close;
+    }
+
+-- a packet that passes is written, which leaves `decided`; or the form refuses it
+abbrev pub decide_unless : Option Fault → JobProgress → ℕ → Placed → (decided : JobProgress)
+    → JobProgress
+decide_unless None w input p decided = decided
+decide_unless (Some fault) w input p decided = end_with w (FaultIn input fault p.offset)
+
+abbrev pub apply_verdict : Form → JobProgress → ℕ → Placed → Verdict → SelectorState → JobProgress
+apply_verdict form w input p (Pass q) state =
+    decide_unless (form_refuses form w.packets q) w input p (decide w state (q ∷ []) None)
+apply_verdict form w input p (PassLast q) state =
+    decide_unless (form_refuses form w.packets q) w input p
+    (decide w state (q ∷ []) (Some Complete))
+apply_verdict form w input p Skip state = decide w state [] None
+apply_verdict form w input p (Refuse fault) state = end_with w (FaultIn input fault p.offset)
+
+-- an input that was read to its end is reported, where reports are asked
+abbrev pub end_input : Policy → JobProgress → ℕ → Option Kind → ℕ → JobProgress
+end_input Count w input kind size = record {
+  decided = w.decided;
+  state = record { passed = w.state.passed; window = w.state.window; tally = nothing_counted };
+  packets = w.packets;
+  reports =
+      w.reports ++ record { input = input; kind = kind; size = size; tally = w.state.tally } ∷ [];
+  end = w.end;
+}
+end_input policy w input kind size = w
+
+abbrev pub apply_event : Policy → Form → JobProgress → Event → JobProgress
+apply_event policy form w (Packet input p) =
+    apply_verdict form w input p (judge policy w.state (w.decided + 1) p.packet).verdict
+    (judge policy w.state (w.decided + 1) p.packet).state
+apply_event policy form w (InputEnd input kind size) = end_input policy w input kind size
+
+-- what ended stays
+abbrev pub unless_ended : Option SequenceEnd → JobProgress → JobProgress → JobProgress
+unless_ended None w next = next
+unless_ended (Some close) w next = w
+
+-- how far a job is after an event
+abbrev pub next_progress : Policy → Form → JobProgress → Event → JobProgress
+next_progress policy form w e = unless_ended w.end w (apply_event policy form w e)
+
+-- and after events
+abbrev pub apply_events : Policy → Form → JobProgress → List Event → JobProgress
+apply_events policy form w [] = w
+apply_events policy form w (e ∷ es) = apply_events policy form (next_progress policy form w e) es
+
+abbrev pub end_unless_ended : JobProgress → SequenceEnd → JobProgress
+end_unless_ended w close = unless_ended w.end w (end_with w close)
+
+-- how far a job comes over a whole sequence
+abbrev pub final_progress : Policy → Form → Sequence → JobProgress
+final_progress policy form s =
+    end_unless_ended (apply_events policy form no_progress s.events) s.end
+
+-- ---- what comes of it
+
+-- what is printed of packets, one after another
+abbrev pub lines_text : Options → List Captured → List ℕ
+lines_text options ps = flat_map (printed_text options) ps
+
+-- the bytes for packets and reports
+abbrev pub output_text : Form → List Captured → List Report → List ℕ
+output_text (AsCapture format) ps rs = text format ps
+output_text (AsReports names) ps rs = reports_text names rs
+output_text (AsLines options) ps rs = lines_text options ps
+
+-- what a packet that passes adds after those before it
+abbrev pub packet_bytes : Form → List Captured → Captured → List ℕ
+packet_bytes (AsCapture format) ps p = added_text format ps p
+packet_bytes (AsReports names) ps p = []
+packet_bytes (AsLines options) ps p = printed_text options p
+
+-- what a report adds
+abbrev pub report_bytes : Form → Report → List ℕ
+report_bytes (AsCapture format) r = []
+report_bytes (AsReports names) r = report_text names r
+report_bytes (AsLines options) r = []
+
+-- the first link type that the inputs declare, in their order
+abbrev pub first_link : List InputItems → Option ℕ
+first_link [] = None
+first_link (r ∷ rs) = option_or (first_link_of r.items.declared) (first_link rs)
+
+-- what a clean end adds: a capture without packets has its file header or section header
+abbrev pub closing_text : Form → Option ℕ → List Captured → List ℕ
+closing_text (AsCapture format) link [] = file_start format (unwrap_or link 1)
+closing_text (AsCapture format) link (p ∷ ps) = []
+closing_text (AsReports names) link ps = []
+closing_text (AsLines options) link ps = []
+
+-- What the end adds. After a fault that is nothing: where no packet was kept, the output has no file
+-- header either.
+abbrev pub text_at_end : Option SequenceEnd → Form → Option ℕ → List Captured → List ℕ
+text_at_end (Some Complete) form link ps = closing_text form link ps
+text_at_end end form link ps = []
+
+abbrev pub final_text : Form → Option ℕ → JobProgress → List ℕ
+final_text form link w =
+    output_text form w.packets w.reports ++ text_at_end w.end form link w.packets
+
+abbrev pub message : List (List ℕ) → Option SequenceEnd → List ℕ
+message names (Some (FaultIn input fault offset)) = fault_message (name_at names input) offset fault
+message names end = []
+
+abbrev pub status : Option SequenceEnd → ℕ
+status (Some (FaultIn input fault offset)) = 1
+status end = 0
+
+-- the bytes of the output and of the messages, and the status
+pub record Outcome : Type 0 where
+  pub output : List ℕ
+  pub messages : List ℕ
+  pub status : ℕ
+
+-- the work of a job whose filter isn't refused
+pub record Work : Type 0 where
+  pub order : PacketOrder
+  pub policy : Policy
+  pub form : Form
+
+abbrev pub outcome_at : Work → List (List ℕ) → List InputItems → JobProgress → Outcome
+outcome_at work names rs w = record {
+  output = final_text work.form (first_link rs) w;
+  messages = message names w.end;
+  status = status w.end;
+}
+
+-- what comes of inputs with these items
+abbrev pub outcome : Work → List (List ℕ) → List InputItems → Outcome
+outcome work names rs =
+    outcome_at work names rs (final_progress work.policy work.form (sequence_of work.order rs))
+
+-- these items in place of one input's
+abbrev pub cut_at : List InputItems → ℕ → Items → List InputItems
+cut_at [] i items = []
+cut_at (r ∷ rs) zero items = record { greatest = r.greatest; items = items; size = r.size } ∷ rs
+cut_at (r ∷ rs) (suc i) items = r ∷ cut_at rs i items
+
+-- ---- what comes next
+
+-- these events are the first of an order
+pub record ComeFirst (order : Sequence) (es : List Event) : Type 0 where
+  pub later : Sequence
+  pub is : order ≡ with_front es later
+
+-- how far a job with this work is after these events, and what is written then
+abbrev pub job_progress_after : Work → List Event → JobProgress
+job_progress_after work es = apply_events work.policy work.form no_progress es
+
+abbrev pub text_of_progress : Form → JobProgress → List ℕ
+text_of_progress form w = output_text form w.packets w.reports
+
+abbrev pub text_after : Work → List Event → List ℕ
+text_after work es = text_of_progress work.form (job_progress_after work es)
+
+-- These events come first in the job's order over inputs with these items, and it didn't end with
+-- them; this one is next.
+pub record IsNextEvent (work : Work) (rs : List InputItems) (es : List Event)
+    (e : Event) : Type 0 where
+  pub later : List Event
+  pub is : (sequence_of work.order rs).events ≡ es ++ e ∷ later
+  pub goes : (job_progress_after work es).end ≡ None
+
+-- These events are all of the job's order over inputs with these items, and it didn't end with
+-- them, but with its inputs.
+pub record AreAllEvents (work : Work) (rs : List InputItems) (es : List Event) : Type 0 where
+  pub is : sequence_of work.order rs ≡ record { events = es; end = Complete }
+  pub goes : (job_progress_after work es).end ≡ None

@@ -1,0 +1,77 @@
+-- What a contract sees of where a job writes, and what its calls do.
+use Rattle.std.specs.Prelude.{◌≡◌, ℕ, ◌+◌, List, ◌++◌}
+use Rattle.cap_octet.specs.Packet.{Captured}
+use Rattle.cap_print.specs.declared.print.Options.{Options}
+use Rattle.cap_io.specs.Sink.{SinkView, HasPackets, sink_at}
+use Rattle.cap_io.specs.Text.{FitFile}
+use Rattle.cap_process.specs.declared.output.Device.{Device}
+use Rattle.cap_process.specs.declared.output.Device.TheVariants as device
+use Rattle.cap_process.specs.declared.output.Writing.{Writing}
+use Rattle.cap_process.specs.declared.output.Writing.TheVariants as writing
+use Rattle.cap_process.specs.Outcome.{Form, AsCapture, AsReports, AsLines, lines_text}
+use Rattle.cap_process.specs.Reports.{Report, reports_text}
+
+-- a capture; or text or the lines of packets, with the bytes that the output took, a count of its
+-- failures, and how many bytes it takes in all before it fails
+pub data Target : Type 0 where
+  Capture : (sink : SinkView) → Target
+  Text : (written : List ℕ) → (failures room : ℕ) → Target
+  Lines : (options : Options) → (written : List ℕ) → (failures room : ℕ) → Target
+
+-- where a job writes, and the names of its files: of the inputs, then of the output
+pub record JobOutputView : Type 0 where
+  pub names : List (List ℕ)
+  pub target : Target
+
+abbrev pub output_at : List (List ℕ) → Target → JobOutputView
+output_at names target = record { names = names; target = target }
+
+abbrev pub target_of : {O Z : Type 0} → (O → List ℕ) → (O → ℕ) → (O → ℕ) → Device O Z → Target
+target_of written failures room (device.Capture sink) = Capture sink
+target_of written failures room (device.Text output) =
+    Text (written output) (failures output) (room output)
+target_of written failures room (device.Lines options line output) =
+    Lines options (written output) (failures output) (room output)
+
+-- a target to which nothing is written yet
+abbrev pub target_at : Writing → List ℕ → ℕ → ℕ → Target
+target_at (writing.Capture format) written failures room =
+    Capture (sink_at format written failures room)
+target_at writing.Text written failures room = Text written failures room
+target_at (writing.Lines options) written failures room = Lines options written failures room
+
+abbrev pub form_to : List (List ℕ) → Target → Form
+form_to names (Capture sink) = AsCapture sink.format
+form_to names (Text written failures room) = AsReports names
+form_to names (Lines options written failures room) = AsLines options
+
+abbrev pub form_at : JobOutputView → Form
+form_at d = form_to d.names d.target
+
+abbrev pub written_to : Target → List ℕ
+written_to (Capture sink) = sink.written
+written_to (Text written failures room) = written
+written_to (Lines options written failures room) = written
+
+abbrev pub failures_to : Target → ℕ
+failures_to (Capture sink) = sink.failures
+failures_to (Text written failures room) = failures
+failures_to (Lines options written failures room) = failures
+
+-- no more interfaces than a file may have, with names of few bytes
+abbrev pub HasFewOutputInterfaces : Target → Type 0
+HasFewOutputInterfaces (Capture sink) = FitFile sink.interfaces
+HasFewOutputInterfaces (Text written failures room) = Unit {0}
+HasFewOutputInterfaces (Lines options written failures room) = Unit {0}
+
+-- After what the output held before, what is written is the text of these packets, or of these
+-- reports, or the lines of these packets.
+abbrev pub HasWrittenTo : List ℕ → List (List ℕ) → Target → List Captured → List Report → Type 0
+HasWrittenTo before names (Capture sink) packets reports = HasPackets before sink packets
+HasWrittenTo before names (Text written failures room) packets reports =
+    written ≡ before ++ reports_text names reports
+HasWrittenTo before names (Lines options written failures room) packets reports =
+    written ≡ before ++ lines_text options packets
+
+abbrev pub HasWritten : List ℕ → JobOutputView → List Captured → List Report → Type 0
+HasWritten before d packets reports = HasWrittenTo before d.names d.target packets reports

@@ -1,0 +1,118 @@
+-- What a contract sees of a selector.
+use Rattle.std.specs.Prelude.{◌≡◌, ℕ, ◌-◌, ◌^◌, ◌≤◌, Bool, true, false, if◌then◌else◌, List, [], ◌∷◌, map, Option, None, ◌*◌, Some}
+use Rattle.cap_octet.specs.Packet.{Captured}
+use Rattle.cap_window.specs.declared.mark.Mark.{Mark}
+use Rattle.cap_window.specs.View.{WindowView}
+use Rattle.flt_bpf.specs.Content.{Content}
+use Rattle.cap_command.specs.declared.command.Edit as command_edit
+use Rattle.flt_ast.specs.Tree.{empty, truth}
+use Rattle.cap_filter.specs.FilterRules as rules
+use Rattle.cap_filter.specs.FilterRules.{by_reading, by_answer}
+use Rattle.cap_octet.specs.Link.{all_links}
+use Rattle.cap_filter.specs.Programs.{AreMade}
+use Rattle.cap_filter.specs.Filters.{most_cost, programs_of, rule_of, spent_on}
+use Rattle.cap_process.specs.declared.selector.Policy as code_policy
+use Rattle.cap_process.specs.declared.selector.Policy.TheVariants as policy
+use Rattle.cap_process.specs.Verdict.{Policy, Edit, Filter, KeepAll, Count, EditRule, SelectorState, is_too_many}
+use Rattle.cap_process.specs.Reports.{Tally}
+use Rattle.cap_io.specs.Reading.{most_in_unit}
+
+pub record SelectorView : Type 0 where
+  pub policy : Policy
+  pub state : SelectorState
+  -- by which packets are judged
+  pub programs : List Content
+
+abbrev pub state_with : ℕ → Tally → SelectorState
+state_with passed tally = record { passed = passed; window = []; tally = tally }
+
+-- the state of a selector with these marks in its window
+abbrev pub state_of : ℕ → List Mark → Tally → SelectorState
+state_of passed marks tally = record { passed = passed; window = marks; tally = tally }
+
+abbrev pub edit_rule_of : {Z : Type 0} → command_edit.Edit Z → EditRule
+edit_rule_of edit = record {
+  ranges = edit.ranges.items;
+  keep = edit.keep;
+  start = edit.start;
+  stop = edit.stop;
+  chop_start = edit.chop_start;
+  chop_end = edit.chop_end;
+  snap = edit.snap;
+  shift = edit.shift;
+  window = edit.window;
+}
+
+abbrev pub policy_of : {Z : Type 0} → code_policy.Policy Z → Policy
+policy_of (policy.Edit edit) = Edit (edit_rule_of edit)
+policy_of (policy.Filter filter count) = Filter (rule_of filter) count
+policy_of policy.KeepAll = KeepAll
+policy_of policy.Count = Count
+
+-- the programs by which packets are judged
+abbrev pub programs_in : {Z : Type 0} → code_policy.Policy Z → List Content
+programs_in (policy.Edit edit) = []
+programs_in (policy.Filter filter count) = programs_of filter
+programs_in policy.KeepAll = []
+programs_in policy.Count = []
+
+-- the programs for what a rule asks, whether or not they ran: of an expression one for each link
+-- type, each of which accepts exactly the packets that match; or the listing's; or none where all
+-- packets match
+abbrev pub AreFor : rules.Rule → List Content → Type 0
+AreFor (by_reading empty) programs = programs ≡ []
+AreFor (by_reading (truth a)) programs = AreMade (truth a) all_links programs
+AreFor (by_answer prog) programs = map (λ program. program.insns) programs ≡ prog ∷ []
+
+-- the programs are those for the policy: only a filter has any
+abbrev pub HavePrograms : Policy → List Content → Type 0
+HavePrograms (Edit s) programs = programs ≡ []
+HavePrograms (Filter rule count) programs = AreFor rule programs
+HavePrograms KeepAll programs = programs ≡ []
+HavePrograms Count programs = programs ≡ []
+
+-- what judging a packet costs: under a filter one run of one program, or nothing
+abbrev pub spent_by : Policy → Captured → List Content → List Content
+spent_by (Edit s) p programs = programs
+spent_by (Filter rule count) p programs = spent_on rule p programs
+spent_by KeepAll p programs = programs
+spent_by Count p programs = programs
+
+-- how many instructions deciding a packet meets at most
+abbrev pub most_spent : Policy → ℕ
+most_spent (Edit s) = 0
+most_spent (Filter rule count) = most_cost rule
+most_spent KeepAll = 0
+most_spent Count = 0
+
+-- what deciding a packet costs: a packet too many is refused before any program runs
+abbrev pub spent_by_verdict : Policy → ℕ → Captured → List Content → List Content
+spent_by_verdict policy number p programs =
+    if is_too_many policy number then programs else spent_by policy p programs
+
+-- whether reports are asked
+abbrev pub is_count : Policy → Bool
+is_count (Edit s) = false
+is_count (Filter rule count) = false
+is_count KeepAll = false
+is_count Count = true
+
+abbrev pub marks_in : Option WindowView → List Mark
+marks_in None = []
+marks_in (Some w) = w.marks
+
+-- how many packets in a row are looked through for duplicates, the last among them
+abbrev pub window_of : Policy → Option ℕ
+window_of (Edit s) = s.window
+window_of (Filter rule count) = None
+window_of KeepAll = None
+window_of Count = None
+
+-- how many marks that takes
+abbrev pub places : Option ℕ → ℕ
+places None = 0
+places (Some n) = n - 1
+
+-- no more than these numbers of packets have
+abbrev pub IsWithin : ℕ → Tally → Type 0
+IsWithin n t = (t.count ≤ n) × (t.data_size ≤ n * 2 ^ 32) × (t.captured_size ≤ n * most_in_unit)

@@ -1,0 +1,193 @@
+-- What becomes of each packet of a job: by its policy, by what was met so far, and by its number
+-- and the packet.
+use Rattle.std.specs.Prelude.{◌≡◌, ℕ, ◌+◌, ◌-◌, ◌^◌, ◌==◌, ◌&&◌, Bool, true, false, if◌then◌else◌, nat_lt, nat_le, List, [], ◌∷◌, ◌++◌, length, take, drop, Option, None, Some}
+use Rattle.cap_octet.specs.Date.{TIME_END}
+use Rattle.cap_octet.specs.Packet.{Captured}
+use Rattle.cap_octet.specs.declared.fault.Fault.{Fault}
+use Rattle.cap_octet.specs.declared.fault.Fault.TheVariants.{TimeOutOfRange, TooManyPackets}
+use Rattle.cap_command.specs.declared.command.Shift.{Shift}
+use Rattle.cap_command.specs.declared.command.Shift.TheVariants as shift
+use Rattle.cap_filter.specs.Decisions as chosen
+use Rattle.cap_filter.specs.Decisions.{Decision}
+use Rattle.cap_filter.specs.FilterRules.{Rule, rule_decides}
+use Rattle.cap_command.specs.Selection.{is_kept}
+use Rattle.cap_process.specs.Reports.{Tally, nothing_counted, tally_with}
+use Rattle.cap_window.specs.declared.mark.Mark.{Mark}
+use Rattle.cap_window.specs.Marks.{mark_of, has_same, last}
+
+-- ---- policies
+
+-- What an edit does, in the order of its steps: which packets it keeps, by their numbers and by
+-- their times as they were read; how many bytes it removes at the start and at the end, and how
+-- many it keeps then; by how many nanoseconds it moves times; and within how many packets in a row
+-- it looks for a duplicate.
+pub record EditRule : Type 0 where
+  pub ranges : List (ℕ × ℕ)
+  pub keep : Bool
+  pub start : Option ℕ
+  pub stop : Option ℕ
+  pub chop_start : ℕ
+  pub chop_end : ℕ
+  pub snap : Option ℕ
+  pub shift : Shift
+  pub window : Option ℕ
+
+pub data Policy : Type 0 where
+  Edit : (s : EditRule) → Policy
+  Filter : (rule : Rule) → (count : Option ℕ) → Policy
+  KeepAll : Policy
+  -- a report of each input
+  Count : Policy
+
+-- ---- what was met
+
+-- how many packets passed, the marks of those that came last to the search for duplicates, the last
+-- of all after, and the tally of the current input
+pub record SelectorState : Type 0 where
+  pub passed : ℕ
+  pub window : List Mark
+  pub tally : Tally
+
+abbrev pub initial_state : SelectorState
+initial_state = record { passed = 0; window = []; tally = nothing_counted }
+
+-- ---- what becomes of a packet
+
+pub data Verdict : Type 0 where
+  Pass : (p : Captured) → Verdict
+  -- it passes, and nothing after it is read
+  PassLast : (p : Captured) → Verdict
+  Skip : Verdict
+  Refuse : (fault : Fault) → Verdict
+
+pub record Judgement : Type 0 where
+  pub verdict : Verdict
+  pub state : SelectorState
+
+abbrev pub passes : SelectorState → Captured → Judgement
+passes s p =
+    record {
+      verdict = Pass p;
+      state = record { passed = s.passed + 1; window = s.window; tally = s.tally };
+    }
+
+abbrev pub skip_judgement : SelectorState → Judgement
+skip_judgement s = record { verdict = Skip; state = s }
+
+abbrev pub refuses : SelectorState → Fault → Judgement
+refuses s fault = record { verdict = Refuse fault; state = s }
+
+-- ---- edits
+
+abbrev pub is_from_start : Option ℕ → ℕ → Bool
+is_from_start None time = true
+is_from_start (Some start) time = nat_le start time
+
+abbrev pub is_before_stop : Option ℕ → ℕ → Bool
+is_before_stop None time = true
+is_before_stop (Some stop) time = nat_lt time stop
+
+abbrev pub is_selected : EditRule → ℕ → Captured → Bool
+is_selected s number p =
+    is_kept s.ranges s.keep number && (is_from_start s.start p.time && is_before_stop s.stop p.time)
+
+abbrev pub without_first : ℕ → List ℕ → List ℕ
+without_first n bytes = drop n bytes
+
+abbrev pub without_last : ℕ → List ℕ → List ℕ
+without_last n bytes = take (length bytes - n) bytes
+
+-- the start is removed before the end; what is shorter becomes empty
+abbrev pub bytes_after_chop : EditRule → List ℕ → List ℕ
+bytes_after_chop s bytes = without_last s.chop_end (without_first s.chop_start bytes)
+
+-- at most a given number of bytes
+abbrev pub bytes_within_snap : Option ℕ → List ℕ → List ℕ
+bytes_within_snap None bytes = bytes
+bytes_within_snap (Some snap) bytes = take snap bytes
+
+-- the original length and the comment stay
+abbrev pub edited_packet_with : EditRule → Captured → ℕ → Captured
+edited_packet_with s p time = record {
+  link = p.link;
+  snap = p.snap;
+  name = p.name;
+  time = time;
+  orig = p.orig;
+  bytes = bytes_within_snap s.snap (bytes_after_chop s p.bytes);
+  comment = p.comment;
+}
+
+-- a time that is moved, where it is from 0 to 2^63 - 1 nanoseconds then
+abbrev pub shifted_time : Shift → ℕ → Option ℕ
+shifted_time shift.None time = Some time
+shifted_time (shift.Later by) time = if nat_lt (time + by) TIME_END then Some (time + by) else None
+shifted_time (shift.Earlier by) time = if nat_le by time then Some (time - by) else None
+
+abbrev pub with_mark : ℕ → Mark → SelectorState → SelectorState
+with_mark most mark s =
+    record { passed = s.passed; window = last most (s.window ++ mark ∷ []); tally = s.tally }
+
+-- A packet is skipped whose mark, the length and digest of its bytes as they are cut, is that of one
+-- of the last n - 1 that were selected, those that were skipped too. Times, original lengths, link
+-- types and interfaces aren't compared. Its mark enters the window all the same.
+abbrev pub unique : Option ℕ → SelectorState → Captured → Judgement
+unique None s p = passes s p
+unique (Some n) s p =
+    if has_same s.window (mark_of p.bytes) then skip_judgement
+    (with_mark (n - 1) (mark_of p.bytes) s) else passes (with_mark (n - 1) (mark_of p.bytes) s) p
+
+abbrev pub judgement_by_time : EditRule → SelectorState → Captured → Option ℕ → Judgement
+judgement_by_time s state p None = refuses state TimeOutOfRange
+judgement_by_time s state p (Some time) = unique s.window state (edited_packet_with s p time)
+
+abbrev pub selects : EditRule → SelectorState → ℕ → Captured → Judgement
+selects s state number p =
+    if is_selected s number p then judgement_by_time s state p (shifted_time s.shift p.time)
+    else skip_judgement state
+
+-- ---- filters
+
+abbrev pub is_last : Option ℕ → ℕ → Bool
+is_last None passed = false
+is_last (Some count) passed = passed == count
+
+-- the packet passes, and is the last where `count` passed
+abbrev pub counts : Option ℕ → SelectorState → Captured → Judgement
+counts count s p = record {
+  verdict = if is_last count (s.passed + 1) then PassLast p else Pass p;
+  state = record { passed = s.passed + 1; window = s.window; tally = s.tally };
+}
+
+abbrev pub filters : Decision → Option ℕ → SelectorState → Captured → Judgement
+filters chosen.Keep count s p = counts count s p
+filters chosen.Skip count s p = skip_judgement s
+filters (chosen.Refuse fault) count s p = refuses s fault
+
+-- ---- all of it
+
+abbrev pub judge_by : Policy → SelectorState → ℕ → Captured → Judgement
+judge_by (Edit s) state number p = selects s state number p
+judge_by (Filter rule count) state number p = filters (rule_decides rule p) count state p
+judge_by KeepAll state number p = passes state p
+judge_by Count state number p = record {
+  verdict = Skip;
+  state = record { passed = state.passed; window = state.window; tally = tally_with state.tally p };
+}
+
+-- there are fewer than 2^63 packets, but where they are counted alone
+abbrev pub is_too_many : Policy → ℕ → Bool
+is_too_many Count number = false
+is_too_many policy number = nat_le (2 ^ 63) number
+
+abbrev pub judge : Policy → SelectorState → ℕ → Captured → Judgement
+judge policy state number p =
+    if is_too_many policy number then refuses state TooManyPackets
+    else judge_by policy state number p
+
+-- a packet passes, maybe changed
+abbrev pub PassesAs : Verdict → Captured → Type 0
+PassesAs (Pass p) q = p ≡ q
+PassesAs (PassLast p) q = p ≡ q
+PassesAs Skip q = ⊥
+PassesAs (Refuse fault) q = ⊥

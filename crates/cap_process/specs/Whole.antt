@@ -1,0 +1,231 @@
+-- What whole commands write, in the words of lists: the packets of their inputs, which of them pass,
+-- and up to the first that isn't written.
+use Rattle.std.specs.Prelude.{◌≡◌, ℕ, zero, suc, ◌+◌, ◌^◌, ◌<◌, Bool, true, false, if◌then◌else◌, List, [], ◌∷◌, ◌++◌, length, take, Option, None, Some, IfSome}
+use Rattle.std.specs.List.{sum_by}
+use Rattle.std.specs.Option.{is_some}
+use Rattle.cap_octet.specs.Packet.{Captured}
+use Rattle.cap_octet.specs.declared.fault.Fault.{Fault}
+use Rattle.cap_octet.specs.declared.format.Format.{Format}
+use Rattle.cap_octet.specs.declared.link.Link.{Link}
+use Rattle.cap_io.specs.Capture.{Ending, End, FaultAt, items, kind_of}
+use Rattle.cap_io.specs.RoundTrip.{Carries}
+use Rattle.cap_command.specs.declared.command.Shift.TheVariants as shift
+use Rattle.cap_print.specs.declared.print.Options.{Options}
+use Rattle.flt_ast.specs.Tree.{TruthTree, denied, truth}
+use Rattle.flt_emit.specs.Elementary.{Reading, Rejected}
+use Rattle.flt_gen.specs.Reading.{holds}
+use Rattle.cap_filter.specs.FilterRules.{Rule, by_reading}
+use Rattle.cap_io.specs.Sequence.{Event, Packet, InputEnd, PacketOrder, InTurn, InputItems, whole_input, sequence_of}
+use Rattle.cap_octet.specs.Link.{link_of}
+use Rattle.cap_process.specs.Verdict.{Edit, EditRule, Filter, KeepAll, Count}
+use Rattle.cap_process.specs.Reports.{Report, reports_text}
+use Rattle.cap_process.specs.Outcome.{Form, AsCapture, AsReports, AsLines, Work, form_refuses, output_text, closing_text, first_link, lines_text, outcome}
+use Rattle.cap_process.specs.Edits.{packets_selected, unique_after}
+use Rattle.cap_process.specs.Lists.{at_most, packets_kept, packets_of, tally_of}
+
+-- ---- what is written of packets that pass
+
+abbrev pub written_unless : Option Fault → Captured → List Captured → List Captured
+written_unless None p rest = p ∷ rest
+written_unless (Some fault) p rest = []
+
+-- those of the packets that are written, where these were before them: up to the first that the
+-- form refuses
+abbrev pub packets_written : Form → List Captured → List Captured → List Captured
+packets_written form before [] = []
+packets_written form before (p ∷ ps) =
+    written_unless (form_refuses form before p) p (packets_written form (before ++ p ∷ []) ps)
+
+-- a command with status 0 ends cleanly
+abbrev pub closing_if : (status : ℕ) → Form → Option ℕ → List Captured → List ℕ
+closing_if zero form link ps = closing_text form link ps
+closing_if (suc n) form link ps = []
+
+-- The bytes of packets that a command writes which ends with this status. Where there are none, and
+-- it ends cleanly, they are the start of a file with a link type.
+abbrev pub written_text : Form → (status : ℕ) → Option ℕ → List Captured → List ℕ
+written_text form status link ps = output_text form ps [] ++ closing_if status form link ps
+
+-- the packets of a file, in its order, up to the first fault
+abbrev pub file_packets : List ℕ → List Captured
+file_packets file = packets_of (items file).packets
+
+-- ---- edit
+
+abbrev pub edit_work : EditRule → Format → Work
+edit_work s format = record { order = InTurn; policy = Edit s; form = AsCapture format }
+
+-- An edit of a file with fewer than 2^63 packets writes what is unique of what is selected of them.
+abbrev pub EditWrites : Type 0
+EditWrites =
+    (s : EditRule) (format : Format) (names : List (List ℕ)) (file : List ℕ)
+    → length (file_packets file) < 2 ^ 63
+    → (outcome (edit_work s format) names (whole_input file ∷ [])).output
+    ≡ written_text (AsCapture format)
+    (outcome (edit_work s format) names (whole_input file ∷ [])).status
+    (first_link (whole_input file ∷ []))
+    (packets_written (AsCapture format) []
+    (unique_after s.window [] (packets_selected s 1 (file_packets file))))
+
+-- ---- print
+
+abbrev pub print_work : Rule → Option ℕ → Form → Work
+print_work rule count form = record { order = InTurn; policy = Filter rule count; form = form }
+
+-- A print of a file with fewer than 2^63 packets as a capture writes those that the rule keeps, the
+-- first of them where a count is given.
+abbrev pub PrintWrites : Type 0
+PrintWrites =
+    (rule : Rule) (count : Option ℕ) (format : Format) (names : List (List ℕ)) (file : List ℕ)
+    → IfSome count (λ (n : ℕ). 0 < n) → length (file_packets file) < 2 ^ 63
+    → (outcome (print_work rule count (AsCapture format)) names (whole_input file ∷ [])).output
+    ≡ written_text (AsCapture format)
+    (outcome (print_work rule count (AsCapture format)) names (whole_input file ∷ [])).status
+    (first_link (whole_input file ∷ []))
+    (packets_written (AsCapture format) [] (at_most count (packets_kept rule (file_packets file))))
+
+-- A print of lines writes those of the same packets.
+abbrev pub PrintLines : Type 0
+PrintLines =
+    (rule : Rule) (count : Option ℕ) (options : Options) (names : List (List ℕ)) (file : List ℕ)
+    → IfSome count (λ (n : ℕ). 0 < n) → length (file_packets file) < 2 ^ 63
+    → (outcome (print_work rule count (AsLines options)) names (whole_input file ∷ [])).output
+    ≡ lines_text options (at_most count (packets_kept rule (file_packets file)))
+
+-- ---- merge
+
+abbrev pub merge_work : PacketOrder → Format → Work
+merge_work order format = record { order = order; policy = KeepAll; form = AsCapture format }
+
+-- the packets of events
+abbrev pub event_packets : List Event → List Captured
+event_packets [] = []
+event_packets (Packet input p ∷ es) = p.packet ∷ event_packets es
+event_packets (InputEnd input kind size ∷ es) = event_packets es
+
+-- the packets of inputs in an order, up to the first fault
+abbrev pub packets_in_order : PacketOrder → List InputItems → List Captured
+packets_in_order order rs = event_packets (sequence_of order rs).events
+
+-- A merge of inputs with fewer than 2^63 packets in all writes all of them in its order.
+abbrev pub MergeWrites : Type 0
+MergeWrites =
+    (order : PacketOrder) (format : Format) (names : List (List ℕ)) (rs : List InputItems)
+    → length (packets_in_order order rs) < 2 ^ 63
+    → (outcome (merge_work order format) names rs).output
+    ≡ written_text (AsCapture format) (outcome (merge_work order format) names rs).status
+    (first_link rs) (packets_written (AsCapture format) [] (packets_in_order order rs))
+
+-- ---- infos
+
+abbrev pub infos_work : List (List ℕ) → Work
+infos_work names = record { order = InTurn; policy = Count; form = AsReports names }
+
+-- the report of an input, and those after it, unless it ends by a fault
+abbrev pub reports_by : Ending → Report → List Report → List Report
+reports_by End r rest = r ∷ rest
+reports_by (FaultAt fault offset) r rest = []
+
+-- the reports of inputs, up to the first that ends by a fault; they are numbered on from `input`
+abbrev pub reports_of : (input : ℕ) → List InputItems → List Report
+reports_of input [] = []
+reports_of input (r ∷ rs) =
+    reports_by r.items.ending
+    (record {
+      input = input;
+      kind = kind_of r.items.declared;
+      size = r.size;
+      tally = tally_of (packets_of r.items.packets);
+    })
+    (reports_of (input + 1) rs)
+
+-- A report is that of each input in turn, up to the first that ends by a fault.
+abbrev pub InfosReports : Type 0
+InfosReports =
+    (names : List (List ℕ)) (rs : List InputItems)
+    → (outcome (infos_work names) names rs).output ≡ reports_text names (reports_of 0 rs)
+
+-- ---- edits without options
+
+-- an edit without options: all packets, as they are
+abbrev pub no_options : EditRule
+no_options = record {
+  ranges = [];
+  keep = false;
+  start = None;
+  stop = None;
+  chop_start = 0;
+  chop_end = 0;
+  snap = None;
+  shift = shift.None;
+  window = None;
+}
+
+-- A merge of one file is its edit without options.
+abbrev pub MergesOne : Type 0
+MergesOne =
+    (order : PacketOrder) (format : Format) (names : List (List ℕ)) (file : List ℕ)
+    → outcome (merge_work order format) names (whole_input file ∷ [])
+    ≡ outcome (edit_work no_options format) names (whole_input file ∷ [])
+
+-- A file's packets are these, one and more, fewer than 2^63, and the format carries them.
+pub record HasCarried (format : Format) (file : List ℕ) (p : Captured) (ps : List Captured) : Type 0 where
+  pub packets : file_packets file ≡ p ∷ ps
+  pub few : length (p ∷ ps) < 2 ^ 63
+  pub carried : Carries format (p ∷ ps)
+
+-- what an edit without options writes of a file
+abbrev pub copy_of : Format → List (List ℕ) → List ℕ → List ℕ
+copy_of format names file = (outcome (edit_work no_options format) names (whole_input file ∷ [])).output
+
+-- An edit without options keeps all packets that its format carries, as they are.
+abbrev pub EditKeeps : Type 0
+EditKeeps =
+    (format : Format) (names : List (List ℕ)) (file : List ℕ) (p : Captured) (ps : List Captured)
+    → HasCarried format file p ps → file_packets (copy_of format names file) ≡ file_packets file
+
+-- An edit without options of what such an edit wrote writes the same bytes.
+abbrev pub EditsAlike : Type 0
+EditsAlike =
+    (format : Format) (names : List (List ℕ)) (file : List ℕ) (p : Captured) (ps : List Captured)
+    → HasCarried format file p ps
+    → copy_of format names (copy_of format names file) ≡ copy_of format names file
+
+-- ---- an expression and its negation
+
+abbrev pub is_rejection : Reading → Bool
+is_rejection Rejected = true
+is_rejection r = false
+
+-- whether a packet has too few bytes for what is asked of it
+abbrev pub is_rejected_on : TruthTree → Option Link → Captured → Bool
+is_rejected_on a None p = false
+is_rejected_on a (Some link) p = is_rejection (holds (truth a) link p.bytes p.orig)
+
+abbrev pub packets_rejected : TruthTree → List Captured → List Captured
+packets_rejected a [] = []
+packets_rejected a (p ∷ ps) =
+    if is_rejected_on a (link_of p.link) p then p ∷ packets_rejected a ps
+    else packets_rejected a ps
+
+-- expressions are read on the link type of each packet
+abbrev pub AreRead : List Captured → Type 0
+AreRead [] = Unit {0}
+AreRead (p ∷ ps) = (is_some (link_of p.link) ≡ true) × AreRead ps
+
+-- An expression, its negation and rejection part packets: each of them is in one of three lists, once,
+-- whatever is summed of it.
+abbrev pub NegationParts : Type 0
+NegationParts =
+    (a : TruthTree) (ps : List Captured) (f : Captured → ℕ) → AreRead ps
+    → sum_by f (packets_kept (by_reading (truth a)) ps)
+    + (sum_by f (packets_kept (by_reading (truth (denied a))) ps)
+    + sum_by f (packets_rejected a ps)) ≡ sum_by f ps
+
+-- ---- a capture that is cut
+
+-- What is read of a file that is cut anywhere is a prefix of what is read of the whole.
+abbrev pub CutsGivePrefixes : Type 0
+CutsGivePrefixes =
+    (file : List ℕ) (n : ℕ)
+    → (later : List Captured) × (file_packets file ≡ file_packets (take n file) ++ later)

@@ -1,0 +1,75 @@
+-- What a selector keeps, and what one verdict makes of it.
+use Rattle.std.specs.Prelude.{◌≡◌, ℕ, ◌+◌, ◌-◌, ◌^◌, ◌≤◌, Bool, true, false, length, Option, None, Result, Ok, Err, Some}
+use Rattle.cap_octet.specs.Packet.{Captured}
+use Rattle.cap_octet.specs.declared.fault.Fault.{Fault}
+use Rattle.cap_window.specs.View.{WindowView}
+use Rattle.cap_process.specs.declared.selector.Verdict as code
+use Rattle.cap_process.specs.declared.selector.Verdict.TheVariants as code_verdict
+use Rattle.cap_process.specs.Verdict.{Policy, Filter, SelectorState, Verdict, Pass, PassLast, Refuse, Judgement, counts}
+use Rattle.cap_process.specs.Verdict as judged
+use Rattle.cap_process.specs.Reports.{Tally, nothing_counted}
+use Rattle.cap_io.specs.Reading.{most_in_unit}
+use Rattle.cap_process.specs.Selector.{SelectorView, window_of, places}
+
+-- the policy, and what was met
+pub record PolicyState : Type 0 where
+  pub policy : Policy
+  pub state : SelectorState
+
+abbrev pub policy_state : SelectorView → PolicyState
+policy_state j = record { policy = j.policy; state = j.state }
+
+abbrev pub count_limit : Policy → Option ℕ
+count_limit (Filter rule count) = count
+count_limit policy = None
+
+-- a verdict on a packet that is to be written so, where it passes
+abbrev pub verdict_of : code.Verdict → Captured → Verdict
+verdict_of code_verdict.Pass p = Pass p
+verdict_of code_verdict.PassLast p = PassLast p
+verdict_of code_verdict.Skip p = judged.Skip
+
+abbrev pub verdict_if : Captured → Bool → Verdict
+verdict_if p true = PassLast p
+verdict_if p false = Pass p
+
+-- what is returned of a packet, and what is made of it: what it is to be, or its refusal
+abbrev pub IsVerdict : Judgement → Result code.Verdict Fault → Captured → SelectorState → Type 0
+IsVerdict j (Ok v) p state = (verdict_of v p ≡ j.verdict) × (state ≡ j.state)
+IsVerdict j (Err fault) p state = j.verdict ≡ Refuse fault
+
+-- What is returned of a packet where `count` may pass: whether it passes, the packet as it does,
+-- and the state beside those that passed; or its refusal.
+abbrev pub ReturnsVerdict : Option ℕ → Judgement → Result Bool Fault → Captured → SelectorState
+    → Type 0
+ReturnsVerdict count j (Ok false) p state = (j.verdict ≡ judged.Skip) × (j.state ≡ state)
+ReturnsVerdict count j (Ok true) p state = j ≡ counts count state p
+ReturnsVerdict count j (Err fault) p state = j.verdict ≡ Refuse fault
+
+-- there is a window of that size, where one is asked
+abbrev pub IsWindowFor : Option ℕ → Option WindowView → Type 0
+IsWindowFor None None = Unit {0}
+IsWindowFor None (Some w) = ⊥
+IsWindowFor (Some n) None = ⊥
+IsWindowFor (Some n) (Some w) = (w.capacity ≡ n - 1) × (length w.marks ≤ n - 1)
+
+-- no more marks are kept than are asked for
+abbrev pub HasFewMarks : Policy → SelectorState → Type 0
+HasFewMarks policy state = length state.window ≤ places (window_of policy)
+
+-- no more was added than a packet has
+abbrev pub GrowsByOne : Tally → Tally → Type 0
+GrowsByOne old new =
+    (new.count ≤ old.count + 1) × (new.data_size ≤ old.data_size + 2 ^ 32)
+    × (new.captured_size ≤ old.captured_size + most_in_unit)
+
+-- nothing is counted
+abbrev pub with_empty_tally : SelectorState → SelectorState
+with_empty_tally s = record { passed = s.passed; window = s.window; tally = nothing_counted }
+
+-- what was counted is taken, where reports are asked
+abbrev pub TakesTally : Bool → PolicyState → Option Tally → PolicyState → Type 0
+TakesTally false old r new = (r ≡ None) × (new ≡ old)
+TakesTally true old r new =
+    (r ≡ Some old.state.tally)
+    × (new ≡ record { policy = old.policy; state = with_empty_tally old.state })

@@ -1,0 +1,155 @@
+//! What an edit makes of packets: which it keeps, how it changes them, and which are duplicates.
+ghost use Rattle.std.specs.Prelude.{ℕ, ◌≡◌, ◌^◌, ◌<◌, ◌≤◌, IfSome, None, Ok, Option, length};
+ghost use Rattle.cap_octet.specs.Packet.{captured};
+ghost use Rattle.cap_io.specs.Reading.{most_in_unit};
+ghost use Rattle.cap_process.specs.Verdict.{edited_packet_with, is_before_stop, is_from_start, is_selected};
+ghost use Rattle.cap_process.specs.Verdict.{shifted_time, selects};
+ghost use Rattle.cap_process.specs.Verdict.{bytes_within_snap, unique, without_first, without_last};
+ghost use Rattle.cap_process.specs.Selector.{marks_in, edit_rule_of};
+ghost use Rattle.cap_process.specs.inside.Selector.{IsWindowFor, ReturnsVerdict};
+ghost use Rattle.cap_process.specs.Selector.{state_of};
+ghost use Rattle.cap_process.specs.inside.Edits.{PassesUnique};
+ghost use Rattle.cap_process.specs.Reports.{Tally};
+
+use cap_command::{Edit, Shift};
+use cap_octet::date::TIME_END;
+use cap_octet::{Fault, Packet};
+use cap_window::Window;
+use std::alloc::Allocator;
+
+fn is_from_start(start: Option<u64>, time: u64) -> bool
+    ensures { result ≡ is_from_start start time }
+{
+    match start {
+        Some(start) => start <= time,
+        None => true,
+    }
+}
+
+fn is_before_stop(stop: Option<u64>, time: u64) -> bool
+    ensures { result ≡ is_before_stop stop time }
+{
+    match stop {
+        Some(stop) => time < stop,
+        None => true,
+    }
+}
+
+/// Whether a packet is kept, by its number and by its time as it was read.
+fn is_selected<A: Allocator>(edit: &Edit<A>, number: u64, packet: &Packet<'_>) -> bool
+    ensures { result ≡ is_selected (edit_rule_of edit.now) number (captured packet.now) }
+{
+    let in_time = is_from_start(edit.start, packet.time) && is_before_stop(edit.stop, packet.time);
+    edit.keeps(number) && in_time
+}
+
+fn without_first(count: u32, bytes: &[u8]) -> &[u8]
+    ensures { result.now ≡ without_first count bytes.now }
+{
+    let count = bytes.len().min(count as usize);
+    &bytes[count..]
+}
+
+fn without_last(count: u32, bytes: &[u8]) -> &[u8]
+    ensures { result.now ≡ without_last count bytes.now }
+{
+    let count = bytes.len().saturating_sub(count as usize);
+    &bytes[..count]
+}
+
+/// At most `snap` bytes.
+fn snapped(snap: Option<u32>, bytes: &[u8]) -> &[u8]
+    ensures { result.now ≡ bytes_within_snap snap bytes.now }
+{
+    match snap {
+        Some(snap) => &bytes[..bytes.len().min(snap as usize)],
+        None => bytes,
+    }
+}
+
+/// A time that is moved, where it stays in range.
+fn moved(shift: Shift, time: u64) -> Option<u64>
+    requires { time < 2 ^ 63 }
+    ensures value { result ≡ shifted_time shift time }
+    ensures range { IfSome result (λ time. time < 2 ^ 63) }
+{
+    match shift {
+        Shift::None => Some(time),
+        Shift::Later(by) => {
+            if by < TIME_END - time {
+                Some(time + by)
+            } else {
+                None
+            }
+        }
+        Shift::Earlier(by) => time.checked_sub(by),
+    }
+}
+
+/// The packet at this time, with the bytes that the edit leaves of it.
+fn changed<'a, A: Allocator>(edit: &Edit<A>, packet: &Packet<'a>, time: u64) -> Packet<'a>
+    requires { time < 2 ^ 63 }
+    ensures value { captured result
+        ≡ edited_packet_with (edit_rule_of edit.now) (captured packet.now) time }
+    ensures short { length result.bytes.now ≤ length packet.now.bytes.now }
+{
+    let rest = without_first(edit.chop_start, packet.bytes);
+    let chopped = without_last(edit.chop_end, rest);
+    Packet {
+        link: packet.link,
+        snap: packet.snap,
+        name: packet.name,
+        time,
+        orig: packet.orig,
+        bytes: snapped(edit.snap, chopped),
+        comment: packet.comment,
+    }
+}
+
+/// Whether a packet is no duplicate. Its mark enters the window in either case.
+fn is_unique<A: Allocator>(window: &mut Option<Window<A>>, packet: &Packet<'_>) -> bool
+    requires { length packet.now.bytes.now ≤ most_in_unit }
+    ensures exact { (n : Option ℕ) (passed : ℕ) (tally : Tally) → IsWindowFor n window.old
+        → ReturnsVerdict None (unique n (state_of passed (marks_in window.old) tally) (captured
+        packet.now))
+        (Ok result) (captured packet.now) (state_of passed (marks_in window.new) tally) }
+    ensures window { (n : Option ℕ) → IsWindowFor n window.old → IsWindowFor n window.new }
+{
+    match window {
+        Some(window) => !window.seen_before(packet.bytes),
+        None => true,
+    }
+}
+
+/// Whether a packet passes: it is selected by its number and its time, cut and moved, and no
+/// duplicate. It is made what it passes as. The one error is `TimeOutOfRange`.
+pub(crate) fn select<A: Allocator>(
+    edit: &Edit<A>,
+    window: &mut Option<Window<A>>,
+    number: u64,
+    packet: &mut Packet<'_>,
+) -> Result<bool, Fault>
+    requires short { length packet.old.bytes.now ≤ most_in_unit }
+    requires window { IsWindowFor edit.now.window window.old }
+    ensures exact { (passed : ℕ) (tally : Tally)
+        → ReturnsVerdict None (selects (edit_rule_of edit.now) (state_of passed (marks_in
+        window.old) tally)
+        number (captured packet.old))
+        result (captured packet.new) (state_of passed (marks_in window.new) tally) }
+    ensures window { IsWindowFor edit.now.window window.new }
+{
+    if !is_selected(edit, number, packet) {
+        return Ok(false);
+    }
+    let Some(time) = moved(edit.shift, packet.time) else {
+        return Err(Fault::TimeOutOfRange);
+    };
+    *packet = changed(edit, packet, time);
+    Ok(is_unique(window, packet))
+}
+
+/// A law of the definitions, the contract of a function that does nothing: what passes of an edit,
+/// decided packet by packet, is what is unique of what is selected, as lists.
+pub fn edit_passes_unique()
+    ensures { PassesUnique }
+{}

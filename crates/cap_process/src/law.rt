@@ -1,0 +1,85 @@
+//! Laws of the definitions: each is the contract of a function that does nothing.
+ghost use Rattle.cap_process.specs.Lists.{CountsAll, EndsWithoutTime, HasLastMarks, PassesFiltered};
+ghost use Rattle.cap_process.specs.Whole.{EditWrites, InfosReports, MergeWrites, PrintLines};
+ghost use Rattle.cap_process.specs.Whole.{PrintWrites, EditKeeps, EditsAlike, MergesOne};
+ghost use Rattle.cap_process.specs.Whole.{CutsGivePrefixes, NegationParts};
+
+use cap_io::laws::items_back;
+
+/// What is counted of the packets of a file are their sums and times, as lists.
+pub fn report_counts_all()
+    ensures { CountsAll }
+{}
+
+/// A filter passes the packets that its rule keeps, up to the first that it refuses; with a count,
+/// the first `count` of them.
+pub fn print_passes_filtered()
+    ensures { PassesFiltered }
+{}
+
+/// The window of an edit has the marks of the last n - 1 packets that were selected.
+pub fn window_has_last_marks()
+    ensures { HasLastMarks }
+{}
+
+/// An edit ends at the first packet that is selected and whose time leaves its range, and only
+/// there. What passes is what is unique of what is selected in front of it.
+pub fn edit_ends_without_time()
+    ensures { EndsWithoutTime }
+{}
+
+/// An edit writes what is unique of what is selected of the packets of its input, up to the first
+/// that its format refuses.
+pub fn edit_writes_unique()
+    ensures { EditWrites }
+{}
+
+/// A print that writes a capture writes the packets that match, or the first `count` of them, up to
+/// the first that its format refuses.
+pub fn print_writes_matching()
+    ensures { PrintWrites }
+{}
+
+/// A print of lines writes those of the packets that match, or of the first `count`.
+pub fn print_has_their_lines()
+    ensures { PrintLines }
+{}
+
+/// A merge writes all packets of its inputs in its order, up to the first that its format refuses.
+pub fn merge_writes_all()
+    ensures { MergeWrites }
+{}
+
+/// A report is that of each input, up to the first that ends by a fault.
+pub fn infos_has_each_report()
+    ensures { InfosReports }
+{}
+
+/// A merge of one file is its edit without options.
+pub fn merge_of_one_is_its_edit()
+    ensures { MergesOne }
+{}
+
+/// An edit without options keeps all packets that its format carries, as they are.
+pub fn edit_keeps_what_is_carried()
+    ensures { EditKeeps }
+{
+    items_back();
+}
+
+/// An edit without options of what such an edit wrote writes the same bytes.
+pub fn edit_again_is_alike()
+    ensures { EditsAlike }
+{
+    items_back();
+}
+
+/// An expression, its negation and rejection part packets: each is in one of three lists, once.
+pub fn negation_parts_packets()
+    ensures { NegationParts }
+{}
+
+/// What is read of a file that is cut anywhere is a prefix of what is read of the whole.
+pub fn cuts_give_prefixes()
+    ensures { CutsGivePrefixes }
+{}

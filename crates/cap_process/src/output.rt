@@ -1,0 +1,166 @@
+//! Where a job writes.
+ghost use Rattle.std.specs.Prelude.{◌≡◌, ◌+◌, IfErr, IsTrue, true};
+ghost use Rattle.cap_octet.specs.Device.{AppendsOrStops, failures_of};
+ghost use Rattle.cap_octet.specs.Packet.{captured};
+ghost use Rattle.cap_print.specs.Rendering.{printed_text};
+
+use crate::report::{Report, write_report};
+use cap_io::Sink;
+use cap_octet::{DeviceFault, Fault, Format, Output, Packet, Stopped};
+use cap_print::{Options, Text, print_packet};
+use flt_bpf::{Program, write_listing};
+use std::alloc::Allocator;
+use std::marker::Model;
+
+/// What a job writes.
+#[derive(Clone, Copy)]
+pub enum Writing {
+    /// The packets that pass, as a capture.
+    Capture(Format),
+    /// Reports, or a listing.
+    Text,
+    /// A line for each packet that passes.
+    Lines(Options),
+}
+
+#[derive(Drop)]
+pub(crate) enum Device<O: Output, A: Allocator> {
+    Capture(Sink<O, A>),
+    Text(O),
+    /// The buffer is for one line.
+    Lines(Options, Text, O),
+}
+
+/// Writes packets into a capture or as lines, or reports as text.
+#[derive(Drop)]
+pub struct JobOutput<O: Output, A: Allocator> {
+    device: Device<O, A>,
+}
+
+impl<O: Output, A: Allocator> Model for JobOutput<O, A> {
+    ghost use Rattle.cap_process.specs.Output.{Target, target_of};
+
+    ghost Value = { Target };
+
+    ghost view = { λ d. target_of O.written O.failures O.room d.device };
+}
+
+impl<O: Output, A: Allocator> JobOutput<O, A> {
+    ghost use Rattle.std.specs.Prelude.{◌≡◌, IsTrue};
+    ghost use Rattle.cap_octet.specs.Packet.{captured};
+    ghost use Rattle.cap_process.specs.inside.Output.{EndsOutput, ListsText, PutsIntoOutput, Reports};
+    ghost use Rattle.cap_process.specs.Output.{HasFewOutputInterfaces, failures_to};
+    ghost use Rattle.cap_process.specs.Output.{target_at, written_to};
+    ghost use Rattle.cap_process.specs.Reports.{file_report};
+    ghost use Rattle.flt_bpf.specs.Listing.{listing};
+
+    /// An output to which nothing is written yet. It takes no memory.
+    pub fn new(alloc: A, writing: Writing, output: O) -> Self
+    where
+        A: Copy,
+        ensures { result ≡ target_at writing (O.written output) (O.failures output)
+            (O.room output) }
+    {
+        let device = match writing {
+            Writing::Capture(format) => Device::Capture(Sink::new(alloc, output, format)),
+            Writing::Text => Device::Text(output),
+            Writing::Lines(options) => Device::Lines(options, Text::new(), output),
+        };
+        JobOutput { device }
+    }
+
+    /// Writes a packet, where packets are written.
+    pub fn put(&mut self, packet: &Packet<'_>) -> Result<(), Fault>
+        ensures exact { IsTrue O.tells
+            → PutsIntoOutput (captured packet.now) self.old result self.new }
+        ensures upper_bound { HasFewOutputInterfaces self.old → HasFewOutputInterfaces self.new }
+    {
+        match &mut self.device {
+            Device::Capture(sink) => sink.put(packet),
+            Device::Text(_) => Ok(()),
+            Device::Lines(options, text, output) => put_line(text, *options, packet, output),
+        }
+    }
+
+    /// Makes the device pass on what it holds back, and returns whether it could.
+    pub fn release(&mut self) -> bool
+        ensures kept { self.new ≡ self.old }
+        ensures sure { IsTrue O.tells → result ≡ true }
+    {
+        match &mut self.device {
+            Device::Capture(sink) => sink.release(),
+            Device::Text(output) => output.release(),
+            Device::Lines(_, _, output) => output.release(),
+        }
+    }
+
+    /// Writes the report of the input of this name, where reports are written.
+    pub fn report(&mut self, name: &str, report: &Report) -> Result<(), DeviceFault>
+        ensures exact { IsTrue O.tells → Reports (file_report name.now report.now.kind
+            report.now.size report.now.tally) self.old result self.new }
+        ensures upper_bound { HasFewOutputInterfaces self.old → HasFewOutputInterfaces self.new }
+    {
+        match &mut self.device {
+            Device::Capture(_) => Ok(()),
+            Device::Text(output) => write_report(output, name, report),
+            Device::Lines(_, _, _) => Ok(()),
+        }
+    }
+
+    /// Writes the listing of a program, where text is written.
+    pub fn list(&mut self, program: &Program<A>) -> Result<(), Stopped>
+        ensures exact { IsTrue O.tells
+            → ListsText (listing program.now.insns) self.old result self.new }
+        ensures upper_bound { HasFewOutputInterfaces self.old → HasFewOutputInterfaces self.new }
+    {
+        match &mut self.device {
+            Device::Capture(_) => Ok(()),
+            Device::Text(output) => write_listing(program, output),
+            Device::Lines(_, _, _) => Ok(()),
+        }
+    }
+
+    /// Ends what is written: a capture without packets gets its file header, with this link type.
+    pub fn finish(&mut self, first: Option<u16>) -> Result<(), Fault>
+        ensures exact { IsTrue O.tells → EndsOutput first self.old result self.new }
+        ensures upper_bound { HasFewOutputInterfaces self.old → HasFewOutputInterfaces self.new }
+    {
+        match &mut self.device {
+            Device::Capture(sink) => sink.finish(first),
+            Device::Text(_) | Device::Lines(_, _, _) => Ok(()),
+        }
+    }
+
+    /// The output, as it stands.
+    pub fn into_output(self) -> O
+    where
+        A: Drop,
+        ensures written { O.written result ≡ written_to self }
+        ensures failures { O.failures result ≡ failures_to self }
+    {
+        let JobOutput { device } = self;
+        match device {
+            Device::Capture(sink) => sink.into_output(),
+            Device::Text(output) | Device::Lines(_, _, output) => output,
+        }
+    }
+}
+
+/// Writes the line of a packet, and its bytes where they are asked for.
+fn put_line<O: Output>(
+    text: &mut Text,
+    options: Options,
+    packet: &Packet<'_>,
+    output: &mut O,
+) -> Result<(), Fault>
+    ensures exact { IsTrue O.tells → AppendsOrStops result (O.written output.old)
+        (printed_text options (captured packet.now)) (O.written output.new) }
+    ensures fault { IfErr result (λ fault. fault ≡ Fault.WriteFailed) }
+    ensures failed { O.failures output.new ≡ O.failures output.old + failures_of result }
+    ensures room { O.room output.new ≡ O.room output.old }
+{
+    match print_packet(text, options, packet, output) {
+        Ok(()) => Ok(()),
+        Err(_) => Err(Fault::WriteFailed),
+    }
+}

@@ -1,0 +1,276 @@
+//! What becomes of each packet.
+ghost use Rattle.std.specs.Prelude.{◌≡◌, ℕ, ◌+◌, ◌-◌, ◌<◌, ◌≤◌, [], IfOk, None, Some, false};
+ghost use Rattle.std.specs.Prelude.{if◌then◌else◌, length};
+ghost use Rattle.cap_octet.specs.Packet.{Captured, captured};
+ghost use Rattle.cap_io.specs.Reading.{most_in_unit};
+ghost use Rattle.cap_filter.specs.Programs.{spent_in};
+ghost use Rattle.cap_process.specs.Verdict.{is_last, judge_by};
+ghost use Rattle.cap_process.specs.Selector.{is_count};
+ghost use Rattle.cap_process.specs.inside.Selector.{IsWindowFor, ReturnsVerdict, count_limit};
+ghost use Rattle.cap_process.specs.Selector.{marks_in};
+ghost use Rattle.cap_process.specs.Selector.{most_spent, policy_of, programs_in};
+ghost use Rattle.cap_process.specs.inside.Selector.{verdict_if};
+ghost use Rattle.cap_process.specs.Selector.{spent_by};
+ghost use Rattle.cap_process.specs.Selector.{state_of, window_of};
+ghost use Rattle.cap_process.specs.inside.Selector.{verdict_of};
+ghost use Rattle.cap_process.specs.Reports.{Tally, nothing_counted};
+ghost use Rattle.cap_window.specs.View.{window};
+
+use crate::edit::select;
+use crate::tally::Tally;
+use cap_command::Edit;
+use cap_filter::filter::Filter;
+use cap_octet::{Fault, Packet};
+use cap_window::Window;
+use std::alloc::{AllocError, Allocator};
+use std::marker::Model;
+
+/// From this number on there are too many packets.
+const MOST_PACKETS: u128 = 0x8000_0000_0000_0000;
+
+/// What becomes of a packet that is not refused.
+#[derive(Clone, Copy)]
+pub enum Verdict {
+    Pass,
+    /// It passes, and nothing after it is read.
+    PassLast,
+    Skip,
+}
+
+/// By what packets are judged.
+#[derive(Drop)]
+pub enum Policy<A: Allocator> {
+    Edit(Edit<A>),
+    Filter(Filter<A>, Option<u64>),
+    KeepAll,
+    /// All are counted, and none passes.
+    Count,
+}
+
+/// Judges packets in turn.
+#[derive(Drop)]
+pub struct Selector<A: Allocator> {
+    policy: Policy<A>,
+    /// Where duplicates are searched for.
+    window: Option<Window<A>>,
+    passed: u64,
+    /// Of the packets of the current input, where they are counted.
+    tally: Tally,
+}
+
+impl<A: Allocator> Model for Selector<A> {
+    ghost use Rattle.std.specs.Coded.{codes};
+    ghost use Rattle.cap_filter.specs.inside.Programs.{coded_expression};
+    ghost use Rattle.cap_process.specs.Selector.{SelectorView, policy_of, marks_in};
+    ghost use Rattle.cap_process.specs.inside.Selector.{IsWindowFor};
+    ghost use Rattle.cap_process.specs.Selector.{programs_in, state_of, window_of};
+
+    ghost Value = { SelectorView };
+
+    ghost coded = { Prim.hlevel (codes, coded_expression) };
+
+    ghost view = { λ j. record {
+      policy = policy_of j.policy;
+      state = state_of j.passed
+          (marks_in j.window) j.tally;
+      programs = programs_in j.policy;
+    } };
+
+    ghost invariant = { λ j. IsWindowFor (window_of (policy_of j.policy)) j.window };
+}
+
+fn is_last(count: Option<u64>, passed: u64) -> bool
+    ensures { result ≡ is_last count passed }
+{
+    match count {
+        Some(count) => passed == count,
+        None => false,
+    }
+}
+
+/// How many marks a window has for `packets` packets in a row, the last among them.
+fn window_for<A: Allocator>(alloc: A, packets: u32) -> Result<Window<A>, AllocError>
+where
+    A: Copy,
+    ensures { IfOk result (λ w. w ≡ window [] (packets - 1)) }
+{
+    Window::new(alloc, packets.saturating_sub(1))
+}
+
+impl<A: Allocator> Policy<A> {
+    /// Whether a packet passes, which is made what it passes as. The errors are
+    /// `LinkTypeNotFiltered`, where an expression isn't read on its link type, and
+    /// `TimeOutOfRange`.
+    fn keeps(
+        &mut self,
+        window: &mut Option<Window<A>>,
+        number: u64,
+        packet: &mut Packet<'_>,
+    ) -> Result<bool, Fault>
+    where
+        A: Copy + Drop,
+        requires short { length packet.old.bytes.now ≤ most_in_unit }
+        requires window { IsWindowFor (window_of (policy_of self.old)) window.old }
+        ensures exact { (passed : ℕ) (tally : Tally) → is_count (policy_of self.old) ≡ false
+            → ReturnsVerdict (count_limit (policy_of self.old)) (judge_by (policy_of self.old)
+            (state_of passed (marks_in window.old) tally) number (captured packet.old))
+            result (captured packet.new) (state_of passed (marks_in window.new) tally) }
+        ensures window { IsWindowFor (window_of (policy_of self.old)) window.new }
+        ensures policy { policy_of self.new ≡ policy_of self.old }
+        ensures spends { programs_in self.new ≡ spent_by (policy_of self.old) (captured packet.old)
+            (programs_in self.old) }
+        ensures bounded { spent_in (programs_in self.new) ≤ spent_in (programs_in self.old)
+            + most_spent (policy_of self.old) }
+    {
+        match self {
+            Policy::Edit(edit) => select(edit, window, number, packet),
+            Policy::Filter(filter, _) => filter.passes(packet),
+            Policy::KeepAll => Ok(true),
+            Policy::Count => Ok(false),
+        }
+    }
+
+    /// The window that is asked for, which is empty.
+    fn window(&self, alloc: A) -> Result<Option<Window<A>>, AllocError>
+    where
+        A: Copy,
+        ensures window { IfOk result (IsWindowFor (window_of (policy_of self.now))) }
+        ensures empty { IfOk result (λ window. marks_in window ≡ []) }
+    {
+        match self {
+            Policy::Edit(edit) => match edit.window {
+                Some(packets) => Ok(Some(window_for(alloc, packets)?)),
+                None => Ok(None),
+            },
+            Policy::Filter(_, _) | Policy::KeepAll | Policy::Count => Ok(None),
+        }
+    }
+
+    /// Whether packets are counted alone.
+    fn counts(&self) -> bool
+        ensures { result ≡ is_count (policy_of self.now) }
+    {
+        matches!(self, Policy::Count)
+    }
+
+    fn count(&self) -> Option<u64>
+        ensures { result ≡ count_limit (policy_of self.now) }
+    {
+        match self {
+            Policy::Filter(_, count) => *count,
+            Policy::Edit(_) | Policy::KeepAll | Policy::Count => None,
+        }
+    }
+}
+
+impl<A: Allocator> Selector<A> {
+    ghost use Rattle.std.specs.Prelude.{IfOk};
+    ghost use Rattle.cap_filter.specs.Filters.{programs_of, rule_of};
+    ghost use Rattle.cap_process.specs.inside.Reports.{FitsTally};
+    ghost use Rattle.cap_process.specs.Verdict.{Filter as AskedFilter, judge};
+    ghost use Rattle.cap_process.specs.inside.Selector.{GrowsByOne, HasFewMarks, IsVerdict};
+    ghost use Rattle.cap_process.specs.inside.Reports.{FitsTally};
+    ghost use Rattle.cap_process.specs.Selector.{SelectorView};
+    ghost use Rattle.cap_process.specs.inside.Selector.{TakesTally, policy_state};
+    ghost use Rattle.cap_process.specs.Selector.{spent_by_verdict, state_with};
+
+    /// A selector that has met nothing. Where it looks for duplicates it takes the memory of their
+    /// window here.
+    pub fn new(alloc: A, policy: Policy<A>) -> Result<Self, AllocError>
+    where
+        A: Copy + Drop,
+        ensures { IfOk result (λ selector. selector ≡ record {
+          policy = policy_of policy;
+          state = state_with 0
+              nothing_counted;
+          programs = programs_in policy;
+        }) }
+    {
+        let window = policy.window(alloc)?;
+        Ok(Selector {
+            policy,
+            window,
+            passed: 0,
+            tally: Tally::new(),
+        })
+    }
+
+    /// A selector that has met nothing, by a filter, up to `count` packets that pass where there is
+    /// a number. It takes no memory.
+    pub fn filtering(filter: Filter<A>, count: Option<u64>) -> Self
+        ensures { result ≡ record {
+          policy = AskedFilter (rule_of filter) count;
+          state = state_with 0
+              nothing_counted;
+          programs = programs_of filter;
+        } }
+    {
+        Selector {
+            policy: Policy::Filter(filter, count),
+            window: None,
+            passed: 0,
+            tally: Tally::new(),
+        }
+    }
+
+    /// What becomes of the packet with this number, which is made what it passes as.
+    pub fn judge(&mut self, number: u128, packet: &mut Packet<'_>) -> Result<Verdict, Fault>
+    where
+        A: Copy + Drop,
+        requires { length packet.old.bytes.now ≤ most_in_unit }
+        ensures exact { self.old.state.passed < number → FitsTally self.old.state.tally
+            → IsVerdict (judge self.old.policy self.old.state number (captured packet.old)) result
+            (captured packet.new) self.new.state }
+        ensures policy { self.new.policy ≡ self.old.policy }
+        ensures passed { self.old.state.passed ≤ number → self.new.state.passed ≤ number }
+        ensures counted { GrowsByOne self.old.state.tally self.new.state.tally }
+        ensures spends { self.new.programs ≡ spent_by_verdict self.old.policy number
+            (captured packet.old) self.old.programs }
+        ensures bounded { spent_in self.new.programs ≤ spent_in self.old.programs + most_spent
+            self.old.policy }
+        ensures upper_bound { HasFewMarks self.new.policy self.new.state }
+    {
+        if self.policy.counts() {
+            self.tally = self.tally.counted(packet);
+            return Ok(Verdict::Skip);
+        }
+        if number >= MOST_PACKETS {
+            return Err(Fault::TooManyPackets);
+        }
+        let number = number as u64;
+        if !self.policy.keeps(&mut self.window, number, packet)? {
+            return Ok(Verdict::Skip);
+        }
+        let passed = self.passed;
+        if passed < number {
+            self.passed = passed + 1;
+        }
+        let last = is_last(self.policy.count(), self.passed);
+        Ok(passing(last))
+    }
+
+    /// What was counted of the current input, where packets are counted. The count begins anew.
+    pub fn close(&mut self) -> Option<Tally>
+        ensures closes { TakesTally (is_count self.old.policy) (policy_state self.old) result
+            (policy_state self.new) }
+        ensures programs { self.new.programs ≡ self.old.programs }
+        ensures upper_bound { HasFewMarks self.new.policy self.new.state }
+    {
+        if !self.policy.counts() {
+            return None;
+        }
+        let tally = self.tally;
+        self.tally = Tally::new();
+        Some(tally)
+    }
+}
+
+fn passing(last: bool) -> Verdict
+    ensures { (p : Captured) → verdict_of result p ≡ verdict_if p last }
+{
+    if last {
+        Verdict::PassLast
+    } else {
+        Verdict::Pass
+    }
+}

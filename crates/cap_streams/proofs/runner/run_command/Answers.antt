@@ -1,6 +1,0 @@
-use Rattle.std.proofs.Common.{arith}
-use Rattle.std.proofs.lemmas.Grind.{common_steps}
-use Rattle.cap_streams.proofs.runner.run_command.Goals as goal
-
-pub run_over-requires : goal.run_over-requires
-run_over-requires c = grind (arith, common_steps)

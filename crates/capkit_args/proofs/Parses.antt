@@ -1,0 +1,65 @@
+-- What a parse of the command line gives and refuses.
+use Rattle.std.proofs.Common.{◌≡◌, ◌∙◌, ap, sym, subst, true, List, Result, Ok, Err, IfOk, IfErr, map, refl, inl}
+use Rattle.clap.specs.Words.{App, FailsBy, HasKind, HasMatchesOf, Text, fault_of, is_simple, is_simple_and_free, kind_of, subcommand_of, subcommand_rows_of, takes}
+use Rattle.clap.specs.declared.builder.value_parser.ValueParser.{ValueParser}
+use Rattle.clap.specs.declared.builder.value_parser.ValueParser.TheVariants as parser
+use Rattle.clap.specs.declared.error.Error.{Error}
+use Rattle.clap.specs.declared.error.kind.ErrorKind.TheVariants.{OutOfMemory}
+use Rattle.clap.specs.declared.parser.matches.ArgMatches.{ArgMatches}
+use Rattle.cap_octet.specs.Format.{all_formats}
+use Rattle.cap_octet.specs.Link.{all_links}
+use Rattle.capkit_args.specs.Arguments.{AreChoices, RefusesWords, TakesWords, format_names, line_app, link_names}
+
+simple_line : (formats links : ValueParser) → is_simple (line_app formats links) ≡ true
+simple_line formats links = refl
+
+free_line : (formats links : ValueParser) → is_simple_and_free (line_app formats links) ≡ true
+free_line formats links = refl
+
+pub takes_words : (app : App) (formats links : ValueParser) (words : List Text) (r : Result ArgMatches Error) → app ≡ line_app formats links → AreChoices format_names formats → AreChoices link_names links
+    → IfOk r (HasMatchesOf app words) → (is_simple_and_free app ≡ true → FailsBy (fault_of app words) r)
+    → IfOk r (λ matches. TakesWords words (subcommand_rows_of matches))
+takes_words app formats links words (Err error) is are named matches kinds = tt
+takes_words app formats links words (Ok found) is are named matches kinds = record {
+  formats = formats;
+  links = links;
+  are_formats = are;
+  are_links = named;
+  no_fault = ap (λ a. fault_of a words) (sym is) ∙ kinds (ap is_simple_and_free is ∙ free_line formats links);
+  enters = ap (λ a. subcommand_of a words) (sym is) ∙ sym (matches (ap is_simple is ∙ simple_line formats links)).1;
+}
+
+pub refuses_words : (app : App) (formats links : ValueParser) (words : List Text) (r : Result ArgMatches Error) → app ≡ line_app formats links → AreChoices format_names formats → AreChoices link_names links
+    → IfErr r (λ error. takes app words ≡ true → kind_of error ≡ OutOfMemory) → (is_simple_and_free app ≡ true → FailsBy (fault_of app words) r)
+    → IfErr r (RefusesWords words)
+refuses_words app formats links words (Ok found) is are named memory kinds = tt
+refuses_words app formats links words (Err error) is are named memory kinds = record {
+  formats = formats;
+  links = links;
+  are_formats = are;
+  are_links = named;
+  memory_alone = λ taken. memory (ap (λ a. takes a words) is ∙ taken);
+  kind = subst (λ a. HasKind (fault_of a words) error) is (kinds (ap is_simple_and_free is ∙ free_line formats links));
+}
+
+choices : List Text → ValueParser
+choices texts = parser.Names (record { ref_ptr = (0, 0); now = map (λ text. record { ref_ptr = (0, 0); now = text }) texts })
+
+are_formats : AreChoices format_names (choices format_names)
+unfolding choices all_formats
+are_formats = refl
+
+are_links : AreChoices link_names (choices link_names)
+unfolding choices all_links
+are_links = refl
+
+-- out of memory, any words are refused
+pub no_memory : (words : List Text) (error : Error) → kind_of error ≡ OutOfMemory → RefusesWords words error
+no_memory words error is = record {
+  formats = choices format_names;
+  links = choices link_names;
+  are_formats = are_formats;
+  are_links = are_links;
+  memory_alone = λ taken. is;
+  kind = inl is;
+}

@@ -1,0 +1,21 @@
+use Rattle.std.proofs.Common.{◌∙◌}
+use Rattle.clap.specs.Words.{with_rule}
+use Rattle.capkit_args.specs.inside.Arguments.{rule_by}
+use Rattle.capkit_args.proofs.Folds.{no_more, one_more}
+use Rattle.capkit_args.proofs.LocalOptions.{stays}
+use Rattle.capkit_args.proofs.arguments.with_arguments.Goals as goal
+
+pub loop-argument-preserved : goal.loop-argument-preserved
+loop-argument-preserved c = (
+  one_more with_rule (rule_by c.args.choices) c.args.arguments.now c.loop-argument.argument-index _ _ _ _ c.loop-argument-test.true
+      (c.in_ok-command.ensures.shape c.arg_of.ensures.local) c.arg_of.ensures.rule ∙ c.loop-argument.invariant.0,
+  stays _ _ _ c.in_ok-command.ensures.globals c.arg_of.ensures.local ∙ c.loop-argument.invariant.1,
+)
+
+pub returns-clause-shape : goal.returns-clause-shape
+returns-clause-shape c =
+    no_more with_rule (rule_by c.args.choices) c.args.arguments.now c.loop-argument.argument-index _ _ c.loop-argument-test.false
+    c.loop-argument.invariant.0
+
+pub returns-clause-local : goal.returns-clause-local
+returns-clause-local c = c.loop-argument.invariant.1

@@ -1,0 +1,8 @@
+use Rattle.std.proofs.Common.{refl}
+use Rattle.capkit_args.proofs.laws.simple_line.Goals as goal
+
+pub returns-clause-simple : goal.returns-clause-simple
+returns-clause-simple c = λ formats links. refl
+
+pub returns-clause-free : goal.returns-clause-free
+returns-clause-free c = λ formats links. refl

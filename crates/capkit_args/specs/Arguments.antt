@@ -1,0 +1,188 @@
+-- The command line as clap parses it.
+use Rattle.std.specs.Prelude.{◌≡◌, ℕ, List, [], ◌∷◌, Option, Some, true, codes, fold, map, pos, slice_get, ◌-◌, ◌^◌}
+use Rattle.clap.specs.Words.{App, HasKind, Row, Rule, Shape, Text, fault_of, is_simple, is_simple_and_free, kind_of, new_app, new_rule, subcommand_of, takes, with_rule, with_subcommand}
+use Rattle.clap.specs.declared.builder.action.ArgAction.TheVariants.{SetTrue}
+use Rattle.clap.specs.declared.builder.value_parser.ValueParser.{ValueParser}
+use Rattle.clap.specs.declared.builder.value_parser.ValueParser.TheVariants as parser
+use Rattle.clap.specs.declared.error.Error.{Error}
+use Rattle.clap.specs.declared.error.kind.ErrorKind.TheVariants.{OutOfMemory}
+use Rattle.cap_octet.specs.Format.{all_formats, format_name}
+use Rattle.cap_octet.specs.Link.{all_links, link_name}
+use Rattle.cap_command.specs.Command.{least_window, most_window}
+use Rattle.capkit_args.specs.declared.ids.TheConstants as ids
+use Rattle.capkit_args.specs.declared.arguments.Subcommand.{Subcommand}
+use Rattle.capkit_args.specs.declared.arguments.Subcommand.TheVariants as sub
+
+-- the greatest numbers of 32 and of 64 bits
+abbrev pub most_32 : ℕ
+most_32 = 2 ^ 32 - 1
+
+abbrev pub most_64 : ℕ
+most_64 = 2 ^ 64 - 1
+
+-- an argument is named by a letter, by a name, or by its place
+abbrev pub by_letter : (letter id : Text) → Rule
+by_letter letter id = record (new_rule id) { short = slice_get letter 0 }
+
+abbrev pub by_name : (name id : Text) → Rule
+by_name name id = record (new_rule id) { long = Some name }
+
+abbrev pub by_place : (id : Text) → Rule
+by_place id = new_rule id
+
+-- it has no value
+abbrev pub flag : Rule → Rule
+flag rule = record rule { action = Some SetTrue }
+
+-- it has one
+abbrev pub with_one_value : Rule → Rule
+with_one_value rule = record rule { value_names = 1 }
+
+-- it has a number from `least` to `most`, below 2^63, or below 2^64
+abbrev pub with_bounds : (least most : ℕ) → Rule → Rule
+with_bounds least most rule =
+    record (with_one_value rule) { parser = Some (parser.Signed (pos least) (pos most)) }
+
+abbrev pub with_wide_bounds : (least most : ℕ) → Rule → Rule
+with_wide_bounds least most rule = record (with_one_value rule) { parser = Some (parser.Unsigned least most) }
+
+-- it has one of some names
+abbrev pub with_choices : ValueParser → Rule → Rule
+with_choices names rule = record rule { parser = Some names }
+
+-- its command needs it
+abbrev pub as_required : Rule → Rule
+as_required rule = record rule { required = true }
+
+-- it has any number of values
+abbrev pub many : Rule → Rule
+many rule = record rule {
+  range = Some (record { start_inclusive = 0; end_inclusive = most_64 });
+}
+
+abbrev pub name_of : Subcommand → Text
+name_of sub.Edit = codes "edit"
+name_of sub.Merge = codes "merge"
+name_of sub.Infos = codes "infos"
+name_of sub.Print = codes "print"
+name_of sub.Compile = codes "compile"
+
+abbrev pub edit_rules : (formats : ValueParser) → List Rule
+edit_rules formats =
+    flag (by_letter (codes "r") ids.KEEP.now)
+    ∷ with_one_value (by_letter (codes "A") ids.START.now)
+    ∷ with_one_value (by_letter (codes "B") ids.STOP.now)
+    ∷ with_bounds 0 most_32 (by_name (codes "chop-start") ids.CHOP_START.now)
+    ∷ with_bounds 0 most_32 (by_name (codes "chop-end") ids.CHOP_END.now)
+    ∷ with_bounds 1 most_32 (by_letter (codes "s") ids.SNAP.now)
+    ∷ with_one_value (by_name (codes "later") ids.LATER.now)
+    ∷ with_one_value (by_name (codes "earlier") ids.EARLIER.now)
+    ∷ with_bounds least_window most_window (by_letter (codes "D") ids.WINDOW.now)
+    ∷ with_choices formats (by_letter (codes "F") ids.FORMAT.now)
+    ∷ as_required (by_place ids.IN.now)
+    ∷ as_required (by_place ids.OUT.now)
+    ∷ many (by_place ids.RANGE.now)
+    ∷ []
+
+abbrev pub merge_rules : (formats : ValueParser) → List Rule
+merge_rules formats =
+    flag (by_letter (codes "a") ids.APPEND.now)
+    ∷ with_choices formats (by_letter (codes "F") ids.FORMAT.now)
+    ∷ as_required (by_letter (codes "w") ids.OUT.now)
+    ∷ as_required (by_place ids.FILE.now)
+    ∷ many (by_place ids.MORE.now)
+    ∷ []
+
+abbrev pub infos_rules : List Rule
+infos_rules = as_required (by_place ids.FILE.now) ∷ many (by_place ids.MORE.now) ∷ []
+
+abbrev pub print_rules : (formats : ValueParser) → List Rule
+print_rules formats =
+    with_wide_bounds 1 most_64 (by_letter (codes "c") ids.COUNT.now)
+    ∷ flag (by_letter (codes "e") ids.LINK_HEADER.now)
+    ∷ flag (by_letter (codes "x") ids.BYTES.now)
+    ∷ by_letter (codes "w") ids.OUT.now
+    ∷ with_choices formats (by_name (codes "format") ids.FORMAT.now)
+    ∷ by_name (codes "code") ids.LISTING.now
+    ∷ as_required (by_place ids.FILE.now)
+    ∷ many (by_place ids.WORD.now)
+    ∷ []
+
+abbrev pub compile_rules : (links : ValueParser) → List Rule
+compile_rules links =
+    with_choices links (by_name (codes "link") ids.LINK.now) ∷ many (by_place ids.WORD.now) ∷ []
+
+-- with these arguments after its own
+abbrev pub with_rules : App → List Rule → App
+with_rules = fold with_rule
+
+-- the command of this name, with these arguments
+abbrev pub shape_of : Text → List Rule → Shape
+shape_of name rules = (with_rules (new_app name) rules).top
+
+-- with these subcommands after its own
+abbrev pub with_shapes : App → List Shape → App
+with_shapes = fold with_subcommand
+
+abbrev pub bare_line : App
+bare_line =
+    let app = new_app (codes "capkit") in
+    record app {
+      top = record app.top {
+        no_binary_name = true;
+        has_version = true;
+        subcommand_required = true;
+        disable_help_subcommand = true;
+      };
+    }
+
+abbrev pub line_shapes : (formats links : ValueParser) → List Shape
+line_shapes formats links =
+    shape_of (name_of sub.Edit) (edit_rules formats)
+    ∷ shape_of (name_of sub.Merge) (merge_rules formats)
+    ∷ shape_of (name_of sub.Infos) infos_rules
+    ∷ shape_of (name_of sub.Print) (print_rules formats)
+    ∷ shape_of (name_of sub.Compile) (compile_rules links)
+    ∷ []
+
+-- the whole line after the program's name, with `--version` and no subcommand `help`
+abbrev pub line_app : (formats links : ValueParser) → App
+line_app formats links = with_shapes bare_line (line_shapes formats links)
+
+-- what clap states of a parse, it states of simple commands, and why one fails, of simple and free
+-- ones: the line is both
+abbrev pub LineIsSimple : Type 0
+LineIsSimple = (formats links : ValueParser) → is_simple (line_app formats links) ≡ true
+
+abbrev pub LineIsFree : Type 0
+LineIsFree = (formats links : ValueParser) → is_simple_and_free (line_app formats links) ≡ true
+
+abbrev pub format_names : List Text
+format_names = map format_name all_formats
+
+abbrev pub link_names : List Text
+link_names = map link_name all_links
+
+-- the values that an argument may have; a list is the program's, so no definition can name its
+-- place in memory
+abbrev pub AreChoices : List Text → ValueParser → Type 0
+AreChoices texts (parser.Names names) = map (λ name. name.now) names.now ≡ texts
+AreChoices texts _ = ⊥
+
+-- clap has nothing against the words, and they enter this subcommand with these matches
+pub record TakesWords (words : List Text) (entered : Option (Text × List Row)) : Type 0 where
+  pub formats : ValueParser
+  pub links : ValueParser
+  pub are_formats : AreChoices format_names formats
+  pub are_links : AreChoices link_names links
+  pub no_fault : fault_of (line_app formats links) words ≡ []
+  pub enters : subcommand_of (line_app formats links) words ≡ entered
+
+-- clap refuses the words with this error, which is out of memory where it takes them
+pub record RefusesWords (words : List Text) (error : Error) : Type 0 where
+  pub formats : ValueParser
+  pub links : ValueParser
+  pub are_formats : AreChoices format_names formats
+  pub are_links : AreChoices link_names links
+  pub memory_alone : takes (line_app formats links) words ≡ true → kind_of error ≡ OutOfMemory
+  pub kind : HasKind (fault_of (line_app formats links) words) error

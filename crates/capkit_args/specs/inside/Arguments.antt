@@ -1,0 +1,51 @@
+-- A rule and an app, as the calls of clap's builder make them.
+use Rattle.std.specs.Prelude.{Some, if◌then◌else◌, map}
+use Rattle.std.specs.Str.{bytes_eq}
+use Rattle.clap.specs.Words.{App, Rule, Shape, Text, new_app, new_rule}
+use Rattle.clap.specs.declared.builder.value_parser.ValueParser.TheVariants as parser
+use Rattle.capkit_args.specs.declared.arguments.Choices.{Choices}
+use Rattle.capkit_args.specs.declared.arguments.Subcommand.{Subcommand}
+use Rattle.capkit_args.specs.declared.arguments.Subcommand.TheVariants as sub
+use Rattle.capkit_args.specs.declared.options.Argument.{Argument}
+use Rattle.capkit_args.specs.declared.options.CommandRow.{CommandRow}
+use Rattle.capkit_args.specs.declared.options.Name.{Name}
+use Rattle.capkit_args.specs.declared.options.Name.TheVariants as name
+use Rattle.capkit_args.specs.declared.options.Value.{Value}
+use Rattle.capkit_args.specs.declared.options.Value.TheVariants as value
+use Rattle.capkit_args.specs.Arguments.{flag, with_one_value, with_wide_bounds, with_choices, as_required, many, name_of, with_rules}
+
+abbrev pub with_name : Name → Rule → Rule
+with_name name.Place rule = rule
+with_name (name.Letter letter) rule = record rule { short = Some letter }
+with_name (name.Long long) rule = record rule { long = Some long.now }
+
+abbrev pub with_value : Choices → Value → Rule → Rule
+with_value choices value.Flag rule = flag rule
+with_value choices (value.Text shown) rule = with_one_value rule
+with_value choices (value.Number shown least most) rule =
+    record (with_one_value rule) { parser = Some (parser.Signed least most) }
+with_value choices (value.Wide shown least most) rule = with_wide_bounds least most rule
+with_value choices value.Format rule = with_choices (parser.Names choices.formats) rule
+with_value choices value.Link rule = with_choices (parser.Names choices.links) rule
+with_value choices value.File rule = rule
+with_value choices value.NeededFile rule = as_required rule
+with_value choices value.Words rule = many rule
+
+-- the rule of an argument's row
+abbrev pub rule_by : Choices → Argument → Rule
+rule_by choices argument =
+    with_value choices argument.value (with_name argument.name (new_rule argument.id.now))
+
+abbrev pub app_by : Choices → CommandRow → App
+app_by choices row = with_rules (new_app row.name.now) (map (rule_by choices) row.arguments.now)
+
+abbrev pub shape_by : Choices → CommandRow → Shape
+shape_by choices row = (app_by choices row).top
+
+-- the subcommand of one of these names
+abbrev pub subcommand_named : Text → Subcommand
+subcommand_named name =
+    if bytes_eq name (name_of sub.Edit) then sub.Edit
+    else (if bytes_eq name (name_of sub.Merge) then sub.Merge
+    else (if bytes_eq name (name_of sub.Infos) then sub.Infos
+    else (if bytes_eq name (name_of sub.Print) then sub.Print else sub.Compile)))

@@ -1,0 +1,180 @@
+//! The command line as clap parses it.
+ghost use Rattle.std.specs.Prelude.{◌≡◌, IfOk, IfErr, map, false, string_bytes};
+ghost use Rattle.clap.specs.Words.{app_of, new_rule, rule_of, subcommand_rows_of};
+ghost use Rattle.clap.specs.declared.builder.command.Command.TheViews.{out-Command as fields_of};
+ghost use Rattle.capkit_args.specs.Arguments.{AreChoices, TakesWords, RefusesWords, format_names};
+ghost use Rattle.capkit_args.specs.Arguments.{link_names};
+ghost use Rattle.capkit_args.specs.Arguments.{bare_line, line_app};
+ghost use Rattle.capkit_args.specs.inside.Arguments.{app_by, with_name, rule_by};
+ghost use Rattle.capkit_args.specs.inside.Arguments.{shape_by};
+ghost use Rattle.capkit_args.specs.Arguments.{with_rules, with_shapes};
+ghost use Rattle.capkit_args.specs.inside.Arguments.{subcommand_named};
+
+use crate::examples::{LINE_HELP, VERSION};
+use crate::options::{Argument, COMMANDS, CommandRow, Name, Value};
+use clap::builder::ValueParser;
+use clap::{Arg, ArgAction, ArgMatches, Command, Error};
+use std::alloc::{AllocError, Global};
+
+/// The program's name.
+const NAME: &str = "capkit";
+
+/// The names of the formats that can be written.
+static FORMATS: [&str; 3] = ["pcap", "nsecpcap", "pcapng"];
+
+/// The names of the links that an expression can be compiled for.
+static LINKS: [&str; 3] = ["ether", "raw", "cooked"];
+
+/// What a line asks for.
+#[derive(Clone, Copy)]
+pub enum Subcommand {
+    Edit,
+    Merge,
+    Infos,
+    Print,
+    Compile,
+}
+
+/// The subcommand of this name.
+pub fn subcommand_named(name: &str) -> Subcommand
+    ensures { result ≡ subcommand_named name.now }
+{
+    match name {
+        "edit" => Subcommand::Edit,
+        "merge" => Subcommand::Merge,
+        "infos" => Subcommand::Infos,
+        "print" => Subcommand::Print,
+        _ => Subcommand::Compile,
+    }
+}
+
+/// The names that arguments choose from.
+#[derive(Clone, Copy)]
+pub struct Choices<'a> {
+    formats: &'a [&'a str],
+    links: &'a [&'a str],
+}
+
+/// An argument of clap's with the id and the name of a row.
+fn named<'a>(alloc: Global, argument: Argument) -> Arg<'a>
+    ensures rule { rule_of result ≡ with_name argument.name (new_rule argument.id.now) }
+    ensures local { result.global ≡ false }
+{
+    let arg = Arg::new(alloc, argument.id).help(argument.help);
+    match argument.name {
+        Name::Place => arg,
+        Name::Letter(letter) => arg.short(letter),
+        Name::Long(name) => arg.long(name),
+    }
+}
+
+/// The argument of clap's that a row of a table describes.
+fn arg_of<'a>(alloc: Global, argument: Argument, choices: Choices<'a>) -> Arg<'a>
+    ensures rule { rule_of result ≡ rule_by choices.entry argument }
+    ensures local { result.global ≡ false }
+{
+    let arg = named(alloc, argument);
+    match argument.value {
+        Value::Flag => arg.action(ArgAction::SetTrue),
+        Value::Text(name) => arg.value_name(name),
+        Value::Number(name, least, most) => arg
+            .value_name(name)
+            .value_parser(ValueParser::Signed(least, most)),
+        Value::Wide(name, least, most) => arg
+            .value_name(name)
+            .value_parser(ValueParser::Unsigned(least, most)),
+        Value::Format => arg.value_parser(choices.formats),
+        Value::Link => arg.value_parser(choices.links),
+        Value::File => arg,
+        Value::NeededFile => arg.required(true),
+        Value::Words => arg.num_args(0..),
+    }
+}
+
+/// The command with these arguments after its own.
+fn with_arguments<'a>(
+    alloc: Global,
+    mut command: Command<'a>,
+    arguments: &[Argument],
+    choices: Choices<'a>,
+) -> Result<Command<'a>, AllocError>
+    ensures shape { IfOk result (λ after. app_of after ≡ with_rules (app_of command.entry)
+        (map (rule_by choices.entry) arguments.now)) }
+    ensures local { IfOk result (λ after. (fields_of after).has_globals
+        ≡ (fields_of command.entry).has_globals) }
+{
+    for argument in arguments {
+        command = command.arg(arg_of(alloc, *argument, choices))?;
+    }
+    Ok(command)
+}
+
+/// The subcommand that a row of the table describes.
+fn command_by<'a>(
+    alloc: Global,
+    row: &CommandRow,
+    choices: Choices<'a>,
+) -> Result<Command<'a>, AllocError>
+    ensures shape { IfOk result (λ command. app_of command ≡ app_by choices.entry row.now) }
+    ensures local { IfOk result (λ command. (fields_of command).has_globals ≡ false) }
+{
+    let bare = Command::new(alloc, row.name)
+        .about(row.about)
+        .after_help(row.examples);
+    with_arguments(alloc, bare, row.arguments, choices)
+}
+
+/// The command of the line, before its subcommands.
+fn bare_line<'a>(alloc: Global) -> Result<Command<'a>, AllocError>
+    ensures { IfOk result (λ command. app_of command ≡ bare_line) }
+{
+    Command::new(alloc, NAME)
+        .about("A workbench for saved packet captures")
+        .after_help(LINE_HELP)
+        .version(VERSION)
+        .no_binary_name(true)
+        .subcommand_required(true)
+        .disable_help_subcommand(true)
+        // Without it the usage of a subcommand has no name of the program.
+        .bin_name(NAME)
+}
+
+/// The command of the line, with the subcommands of these rows.
+fn with_commands<'a>(
+    alloc: Global,
+    rows: &[CommandRow],
+    choices: Choices<'a>,
+) -> Result<Command<'a>, AllocError>
+    ensures { IfOk result (λ command. app_of command ≡ with_shapes bare_line
+        (map (shape_by choices.entry) rows.now)) }
+{
+    let mut command = bare_line(alloc)?;
+    for row in rows {
+        command = command.subcommand(command_by(alloc, row, choices)?)?;
+    }
+    Ok(command)
+}
+
+fn line_command<'a>(alloc: Global) -> Result<Command<'a>, AllocError>
+    ensures { IfOk result (λ command. (formats links : _) × AreChoices format_names formats
+        × AreChoices link_names links
+        × (app_of command ≡ line_app formats links)) }
+{
+    let choices = Choices {
+        formats: FORMATS.as_slice(),
+        links: LINKS.as_slice(),
+    };
+    with_commands(alloc, &COMMANDS, choices)
+}
+
+/// What clap makes of the words.
+pub fn matches_of<'a>(alloc: Global, words: &'a [String]) -> Result<ArgMatches<'a>, Error>
+    ensures taken { IfOk result (λ matches. TakesWords (map string_bytes words.entry.now)
+        (subcommand_rows_of matches)) }
+    ensures refused { IfErr result (RefusesWords (map string_bytes words.entry.now)) }
+{
+    match line_command(alloc) {
+        Ok(command) => command.try_get_matches_from(words),
+        Err(error) => Err(Error::from(error)),
+    }
+}

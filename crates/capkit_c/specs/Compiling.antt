@@ -1,0 +1,93 @@
+-- What a compilation for C leaves.
+use Rattle.std.specs.Prelude.{◌≡◌, ℕ, ◌+◌, ◌<◌, ◌≤◌, ◌==◌, if◌then◌else◌, List, length, take, drop, None, Some, unwrap_or}
+use Rattle.std.specs.Str.{IsUtf8, IsValidUpTo}
+use Rattle.flt_bpf.specs.declared.insn.Insn.{Insn}
+use Rattle.flt_words.specs.declared.fault.ExprFault.TheVariants as fault
+use Rattle.flt_words.specs.Messages as messages
+use Rattle.cap_octet.specs.Assigned.{LINKTYPE_RAW}
+use Rattle.cap_octet.specs.declared.link.Link.{Link}
+use Rattle.cap_filter.specs.Compilation.{IsCompiled}
+use Rattle.cap_filter.specs.Expressions.{IsTextFault}
+use Rattle.cap_octet.specs.Link.{link_of}
+use Rattle.capkit_c.specs.declared.compiling.Failure.{Failure}
+use Rattle.capkit_c.specs.declared.compiling.Failure.TheVariants.{Text, NotUtf8, LinkType, NoRoom}
+
+-- what libpcap's pcap_datalink() calls raw IP
+abbrev pub DLT_RAW : ℕ
+DLT_RAW = 12
+
+-- the link type as files have it: that of raw IP is libpcap's too
+abbrev pub file_link_type : ℕ → ℕ
+file_link_type n = if n == DLT_RAW then LINKTYPE_RAW else n
+
+-- a program for the expression that a text is, on packets of a link type: it is valid, accepts
+-- exactly the packets that match, and has at most as many instructions as the expression's bound
+pub record IsFor (text : List ℕ) (link_type : ℕ) (prog : List Insn) : Type 0 where
+  pub link : Link
+  pub read : link_of (file_link_type link_type) ≡ Some link
+  pub compiled : IsCompiled text link prog
+
+-- the first `count` instructions are such a program, and those after them are as they were
+pub record WritesProgram (text : List ℕ) (link_type : ℕ) (old new : List Insn)
+    (count : ℕ) : Type 0 where
+  pub program : IsFor text link_type (take count new)
+  pub same_length : length new ≡ length old
+  pub fits : count ≤ length old
+  pub rest : drop count new ≡ drop count old
+
+-- a text isn't UTF-8 from a byte on, which is counted from 1
+pub record IsNotUtf8 (text : List ℕ) (at : ℕ) : Type 0 where
+  pub not_utf8 : ¬ IsUtf8 text
+  pub before : ℕ
+  pub valid : IsValidUpTo text before
+  pub counted : at ≡ before + 1
+
+-- why there is none; memory may be refused whatever the text is
+abbrev pub IsFailure : List ℕ → ℕ → ℕ → Failure → Type 0
+IsFailure text link_type room (Text refusal) = IsTextFault text refusal
+IsFailure text link_type room (NotUtf8 at) = IsNotUtf8 text at
+IsFailure text link_type room LinkType = link_of (file_link_type link_type) ≡ None
+IsFailure text link_type room (NoRoom needed) =
+    (room < needed) × ((prog : List Insn) × IsFor text link_type prog × (length prog ≡ needed))
+
+-- its number
+abbrev pub failure_status : Failure → ℕ
+failure_status (Text fault.TooLong) = 1
+failure_status (Text (fault.UnknownCharacter at)) = 2
+failure_status (Text (fault.UnknownWord at)) = 3
+failure_status (Text (fault.NumberTooLarge at)) = 4
+failure_status (Text fault.NotAnExpression) = 5
+failure_status (Text fault.NestedTooDeep) = 6
+failure_status (Text fault.QualifiersDoNotFit) = 7
+failure_status (Text fault.ValueOutOfRange) = 8
+failure_status (Text fault.BitsPastMask) = 9
+failure_status (Text fault.DivisionByZero) = 10
+failure_status (Text fault.TooManyWords) = 11
+failure_status (Text fault.ProgramTooLong) = 12
+failure_status (Text fault.Memory) = 13
+failure_status (NotUtf8 at) = 14
+failure_status LinkType = 15
+failure_status (NoRoom needed) = 16
+
+-- where the text is wrong, in bytes from 1; how many instructions are needed; else 0
+abbrev pub failure_number : Failure → ℕ
+failure_number (Text refusal) = unwrap_or (messages.place_of refusal) 0
+failure_number (NotUtf8 at) = at
+failure_number LinkType = 0
+failure_number (NoRoom needed) = needed
+
+pub record Fails (text : List ℕ) (link_type : ℕ) (old new : List Insn)
+    (number status : ℕ) : Type 0 where
+  pub failure : Failure
+  pub why : IsFailure text link_type (length old) failure
+  pub exact : status ≡ failure_status failure
+  pub where_at : number ≡ failure_number failure
+  pub kept : new ≡ old
+
+-- 0 and a program, or another status and nothing
+pub data CompilesText (text : List ℕ) (link_type : ℕ) (old new : List Insn) (number : ℕ) : ℕ
+    → Type 0 where
+  compiles : WritesProgram text link_type old new number
+      → CompilesText text link_type old new number 0
+  fails : {status : ℕ} → Fails text link_type old new number status
+      → CompilesText text link_type old new number status

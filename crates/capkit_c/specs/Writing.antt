@@ -1,0 +1,28 @@
+-- What writes for C leave, in numbers.
+use Rattle.std.specs.Prelude.{◌≡◌, ℕ, List, Option}
+use Rattle.cap_octet.specs.declared.fault.Fault.{Fault}
+use Rattle.cap_memory.specs.Writing.{WriteLeaves}
+use Rattle.cap_memory.specs.declared.writing.Written.{Written}
+use Rattle.cap_memory.specs.declared.writing.Written.TheVariants as written
+use Rattle.capkit_c.specs.Reading.{fault_number}
+
+-- the number of what became of the bytes
+abbrev pub written_number : Written → ℕ
+written_number (written.Whole count) = 0
+written_number (written.NoRoom count) = 225
+written_number (written.Refused fault) = fault_number fault
+
+-- how many bytes they are; 0 where they are refused
+abbrev pub written_length : Written → ℕ
+written_length (written.Whole count) = count
+written_length (written.NoRoom count) = count
+written_length (written.Refused fault) = 0
+
+-- the bytes are written whole, or find no room, or are refused, and number and length are those of
+-- that
+pub record WriteTells (refusal : Option Fault) (bytes old new : List ℕ)
+    (length number : ℕ) : Type 0 where
+  pub written : Written
+  pub leaves : WriteLeaves refusal bytes old new written
+  pub exact : number ≡ written_number written
+  pub counted : length ≡ written_length written

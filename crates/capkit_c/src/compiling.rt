@@ -1,0 +1,151 @@
+//! Compilations into the caller's memory.
+ghost use Rattle.std.specs.Prelude.{◌≡◌, ◌≤◌, IfOk, IfErr, OnErr, length};
+ghost use Rattle.capkit_c.specs.Compiling.{CompilesText, IsFailure, WritesProgram};
+ghost use Rattle.capkit_c.specs.Compiling.{IsNotUtf8, failure_number};
+ghost use Rattle.capkit_c.specs.Compiling.{failure_status, file_link_type};
+
+use cap_filter::compile::compile_text;
+use cap_octet::Link;
+use cap_octet::assigned::LINKTYPE_RAW;
+use flt_bpf::Insn;
+use flt_words::ExprFault;
+use std::alloc::Global;
+
+/// What libpcap's pcap_datalink() calls raw IP.
+const DLT_RAW: u16 = 12;
+
+/// Why nothing was compiled.
+#[derive(Clone, Copy)]
+pub enum Failure {
+    /// The text is refused, or there was no memory.
+    Text(ExprFault),
+    /// The text isn't UTF-8 from this byte on, from 1.
+    NotUtf8(usize),
+    /// Expressions aren't read on packets of this link type.
+    LinkType,
+    /// How many instructions the program has: more than there is room for.
+    NoRoom(usize),
+}
+
+/// The link type as files have it, of one that libpcap's pcap_datalink() may give.
+pub(crate) fn file_link_type(number: u16) -> u16
+    ensures { result ≡ file_link_type number }
+{
+    if number == DLT_RAW {
+        LINKTYPE_RAW
+    } else {
+        number
+    }
+}
+
+/// The bytes as text, or the first byte, from 1, from which on they aren't UTF-8.
+pub(crate) fn utf8(bytes: &[u8]) -> Result<&str, usize>
+    ensures text { IfOk result (λ text. text.now ≡ bytes.now) }
+    ensures failed { IfErr result (IsNotUtf8 bytes.now) }
+{
+    match std::str::from_utf8(bytes) {
+        Ok(text) => Ok(text),
+        Err(fault) => Err(fault.valid_up_to() + 1),
+    }
+}
+
+/// Compiles a text, and writes the program.
+fn compile_into(
+    alloc: Global,
+    text: &[u8],
+    link_type: u16,
+    insns: &mut [Insn],
+) -> Result<usize, Failure>
+    ensures written { IfOk result (λ count. WritesProgram text.now link_type insns.old insns.new
+        count) }
+    ensures failed { IfErr result (IsFailure text.now link_type (length insns.old)) }
+    ensures kept { OnErr result (insns.new ≡ insns.old) }
+{
+    let Some(link) = Link::of_link_type(file_link_type(link_type)) else {
+        return Err(Failure::LinkType);
+    };
+    let text = match utf8(text) {
+        Ok(text) => text,
+        Err(at) => return Err(Failure::NotUtf8(at)),
+    };
+    let program = match compile_text(alloc, text, link) {
+        Ok(program) => program,
+        Err(fault) => return Err(Failure::Text(fault)),
+    };
+    let compiled = program.insns();
+    let count = compiled.len();
+    if count > insns.len() {
+        return Err(Failure::NoRoom(count));
+    }
+    insns[..count].copy_from_slice(compiled);
+    Ok(count)
+}
+
+impl Failure {
+    /// The status that C sees.
+    pub(crate) fn status(self) -> u32
+        ensures { result ≡ failure_status self }
+    {
+        match self {
+            Failure::Text(ExprFault::TooLong) => 1,
+            Failure::Text(ExprFault::UnknownCharacter(_)) => 2,
+            Failure::Text(ExprFault::UnknownWord(_)) => 3,
+            Failure::Text(ExprFault::NumberTooLarge(_)) => 4,
+            Failure::Text(ExprFault::NotAnExpression) => 5,
+            Failure::Text(ExprFault::NestedTooDeep) => 6,
+            Failure::Text(ExprFault::QualifiersDoNotFit) => 7,
+            Failure::Text(ExprFault::ValueOutOfRange) => 8,
+            Failure::Text(ExprFault::BitsPastMask) => 9,
+            Failure::Text(ExprFault::DivisionByZero) => 10,
+            Failure::Text(ExprFault::TooManyWords) => 11,
+            Failure::Text(ExprFault::ProgramTooLong) => 12,
+            Failure::Text(ExprFault::Memory) => 13,
+            Failure::NotUtf8(_) => 14,
+            Failure::LinkType => 15,
+            Failure::NoRoom(_) => 16,
+        }
+    }
+
+    /// The place, or the room that is needed, that C sees beside it; else 0.
+    pub(crate) fn number(self) -> usize
+        ensures { result ≡ failure_number self }
+    {
+        match self {
+            Failure::Text(fault) => match fault.place() {
+                Some(place) => place as usize,
+                None => 0,
+            },
+            Failure::NotUtf8(at) => at,
+            Failure::LinkType => 0,
+            Failure::NoRoom(count) => count,
+        }
+    }
+}
+
+/// Compiles the expression that a text is, for packets of a link type, into the caller's
+/// instructions.
+///
+/// By 0 `number` is the count of instructions, which stand at the start of `insns`; what is after
+/// them stays. By any other status `insns` is unchanged, and `number` says where the text is wrong
+/// or how many instructions there are.
+#[unsafe(no_mangle)]
+pub extern "C" fn capkit_compile(
+    alloc: Global,
+    text: &[u8],
+    link_type: u16,
+    insns: &mut [Insn],
+    number: &mut usize,
+) -> u32
+    ensures { CompilesText text.now link_type insns.old insns.new number.new result }
+{
+    match compile_into(alloc, text, link_type, insns) {
+        Ok(count) => {
+            *number = count;
+            0
+        }
+        Err(failure) => {
+            *number = failure.number();
+            failure.status()
+        }
+    }
+}

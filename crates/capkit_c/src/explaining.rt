@@ -1,0 +1,54 @@
+//! What an expression means.
+ghost use Rattle.std.specs.Prelude.{IfOk, IfErr, string_bytes};
+ghost use Rattle.capkit_c.specs.Bounding.{IsTextFailure};
+ghost use Rattle.capkit_c.specs.Explaining.{ExplainLeaves, Explains};
+
+use crate::compiling::{Failure, utf8};
+use crate::texts::put;
+use cap_filter::expression::read_expression;
+use flt_lang::explain;
+use flt_words::ExprFault;
+use std::alloc::Global;
+
+/// What the expression that a text is means, written out.
+fn meaning_of(alloc: Global, text: &[u8]) -> Result<String, Failure>
+    ensures meaning { IfOk result (λ meaning. Explains text.now (string_bytes meaning)) }
+    ensures failed { IfErr result (IsTextFailure text.now) }
+{
+    let text = match utf8(text) {
+        Ok(text) => text,
+        Err(at) => return Err(Failure::NotUtf8(at)),
+    };
+    let checked = match read_expression(alloc, text) {
+        Ok(checked) => checked,
+        Err(fault) => return Err(Failure::Text(fault)),
+    };
+    match explain(alloc, &checked.expr) {
+        Ok(meaning) => Ok(meaning),
+        Err(_) => Err(Failure::Text(ExprFault::Memory)),
+    }
+}
+
+/// Puts what an expression means into a buffer: the expression again, in parentheses by its tree,
+/// with every qualifier written out. By 0 `number` is the length of that text; by any other status
+/// the buffer is unchanged, and `number` says where the text is wrong.
+#[unsafe(no_mangle)]
+pub extern "C" fn capkit_explain(
+    alloc: Global,
+    text: &[u8],
+    buffer: &mut [u8],
+    number: &mut usize,
+) -> u32
+    ensures { ExplainLeaves text.now buffer.old buffer.new number.new result }
+{
+    match meaning_of(alloc, text) {
+        Ok(meaning) => {
+            *number = put(meaning.as_bytes(), buffer);
+            0
+        }
+        Err(failure) => {
+            *number = failure.number();
+            failure.status()
+        }
+    }
+}

@@ -1,0 +1,132 @@
+//! Whether a program gives the same answers on libpcap's machine and on Linux's.
+ghost use Rattle.std.specs.Prelude.{◌≡◌, ◌≤◌, length};
+ghost use Rattle.std.specs.List.{list_all};
+ghost use Rattle.capkit_c.specs.Portable.{is_portable, keeps_x_small, runs_alike, live_places};
+ghost use Rattle.capkit_c.specs.Portable.{is_live_at, is_live_before, none_read_unwritten};
+
+use flt_bpf::Insn;
+use flt_bpf::operation::{AluOperation, Operand, Operation, Register, Source, decode};
+
+/// The most instructions that Linux attaches to a socket.
+const MOST_ATTACHED: usize = 4096;
+
+/// How many words of memory a program has.
+const WORDS: u32 = 16;
+
+/// From this offset on loads mean something else on Linux, and an index of up to as much less one
+/// can't wrap below it.
+const HALF: u32 = 0x8000_0000;
+
+/// Whether X holds less than 2^31 after an instruction if it does before it: it isn't loaded from
+/// memory, from the length or from A, and with no constant from 2^31 on.
+fn keeps_x_small(insn: &Insn) -> bool
+    ensures { result ≡ keeps_x_small insn.now }
+{
+    match decode(insn.code) {
+        Some(Operation::Load(Register::Index, Source::Immediate)) => insn.k < HALF,
+        Some(Operation::Load(Register::Index, _) | Operation::CopyToIndex) => false,
+        _ => true,
+    }
+}
+
+/// Whether an instruction does the same elsewhere, where X is small or not.
+fn runs_alike(insn: &Insn, small: bool) -> bool
+    ensures { result ≡ runs_alike small insn.now }
+{
+    match decode(insn.code) {
+        Some(Operation::LoadAbsolute(_) | Operation::LoadHeaderLength) => insn.k < HALF,
+        Some(Operation::LoadIndirect(_)) => small && insn.k < HALF,
+        Some(Operation::Load(_, Source::Length)) => false,
+        Some(Operation::Compute(AluOperation::ShiftLeft, Operand::IndexRegister)) => false,
+        Some(Operation::Compute(AluOperation::ShiftRight, Operand::IndexRegister)) => false,
+        _ => true,
+    }
+}
+
+fn all_keep_x_small(insns: &[Insn]) -> bool
+    ensures { result ≡ list_all keeps_x_small insns.now }
+{
+    insns.iter().all(|insn| keeps_x_small(insn))
+}
+
+fn all_run_alike(insns: &[Insn], small: bool) -> bool
+    ensures { result ≡ list_all (runs_alike small) insns.now }
+{
+    insns.iter().all(|insn| runs_alike(insn, small))
+}
+
+/// What is noted of the place after this number of others; `false` past the last one.
+fn is_live_at(following: &[bool], place: usize) -> bool
+    ensures { result ≡ is_live_at following.now place }
+{
+    match following.get(place) {
+        Some(is_wanted) => *is_wanted,
+        None => false,
+    }
+}
+
+/// Whether a run may read a word of memory before it writes it, from an instruction on, by what
+/// holds of the places after it.
+fn is_live_before(insn: &Insn, word: u32, following: &[bool]) -> bool
+    ensures { result ≡ is_live_before word insn.now following.now }
+{
+    match decode(insn.code) {
+        Some(Operation::Load(_, Source::Memory)) => insn.k == word || is_live_at(following, 0),
+        Some(Operation::Store(_)) => insn.k != word && is_live_at(following, 0),
+        Some(Operation::Jump) => is_live_at(following, insn.k as usize),
+        Some(Operation::JumpIf(_, _)) => {
+            is_live_at(following, insn.jt as usize) || is_live_at(following, insn.jf as usize)
+        }
+        Some(Operation::ReturnConstant | Operation::ReturnAccumulator) => false,
+        _ => is_live_at(following, 0),
+    }
+}
+
+/// Notes of each place whether a run from there on may read a word of memory before it writes it.
+fn mark_live(insns: &[Insn], word: u32, marks: &mut [bool])
+    requires { length marks.old ≡ length insns.now }
+    ensures { marks.new ≡ live_places word insns.now }
+{
+    let mut place = insns.len();
+    while place > 0 {
+        place -= 1;
+        let is_wanted = is_live_before(&insns[place], word, &marks[place + 1..]);
+        marks[place] = is_wanted;
+    }
+}
+
+/// Whether a run may read a word of memory before it writes it. libpcap finds there what lay in its
+/// memory, and Linux refuses the program.
+fn may_read_unwritten(insns: &[Insn], word: u32) -> bool
+    requires { length insns.now ≤ MOST_ATTACHED }
+    ensures { result ≡ is_live_at (live_places word insns.now) 0 }
+{
+    let mut marks = [false; MOST_ATTACHED];
+    let marks = &mut marks[..insns.len()];
+    mark_live(insns, word, marks);
+    is_live_at(marks, 0)
+}
+
+fn no_word_read_unwritten(insns: &[Insn]) -> bool
+    requires { length insns.now ≤ MOST_ATTACHED }
+    ensures { result ≡ none_read_unwritten WORDS insns.now }
+{
+    let mut all = true;
+    for word in 0..WORDS {
+        all = all && !may_read_unwritten(insns, word);
+    }
+    all
+}
+
+/// 1 where a valid program runs alike on libpcap's and Linux's machines, as far as its instructions
+/// tell; 0 where it may not.
+#[unsafe(no_mangle)]
+pub extern "C" fn capkit_is_portable(insns: &[Insn]) -> u32
+    ensures { result ≡ is_portable insns.now }
+{
+    if insns.len() <= MOST_ATTACHED && all_run_alike(insns, all_keep_x_small(insns)) && no_word_read_unwritten(insns) {
+        1
+    } else {
+        0
+    }
+}

@@ -1,0 +1,89 @@
+//! The units of a capture that lies in memory, pcap or pcapng.
+ghost use Rattle.std.specs.Prelude.{◌≡◌, List, length, take, drop};
+ghost use Rattle.cap_memory.specs.Layout.{declared_in};
+ghost use Rattle.cap_memory.specs.Units.{comment_by};
+ghost use Rattle.cap_memory.specs.declared.layout.Interface.{Interface};
+ghost use Rattle.capkit_c.specs.Reading.{UnitLeaves, fault_number, found_number};
+ghost use Rattle.capkit_c.specs.Texts.{put_text};
+
+use crate::texts::put;
+use cap_memory::{Found, Interface, Packet, Reader, comment_of, next_unit};
+use cap_octet::Fault;
+
+/// The number of a fault.
+pub(crate) fn fault_number(fault: Fault) -> u32
+    ensures { result ≡ fault_number fault }
+{
+    match fault {
+        Fault::NotACaptureFile => 201,
+        Fault::Truncated => 202,
+        Fault::BadVersion => 203,
+        Fault::TooLong => 204,
+        Fault::BadBlockLength => 205,
+        Fault::BadByteOrderMagic => 206,
+        Fault::UnknownInterface => 207,
+        Fault::BadOption => 208,
+        Fault::BadBody => 209,
+        Fault::TimeOutOfRange => 210,
+        Fault::TooManyInterfaces => 211,
+        Fault::BadTimeResolution => 212,
+        Fault::BadLinkTypeField => 213,
+        Fault::ObsoletePacketBlock => 214,
+        Fault::ReadFailed => 215,
+        Fault::NoMemory => 216,
+        Fault::WriteFailed => 217,
+        Fault::LinkTypesDiffer => 218,
+        Fault::LinkTypeNotFiltered => 219,
+        Fault::TooManyPackets => 220,
+        Fault::TooManyOutputInterfaces => 221,
+    }
+}
+
+/// The number of what a call found.
+fn found_number(found: Found) -> u32
+    ensures { result ≡ found_number found }
+{
+    match found {
+        Found::Packet => 0,
+        Found::Fault(fault) => fault_number(fault),
+        Found::End => 222,
+        Found::Unit => 223,
+        Found::NoRoom => 224,
+    }
+}
+
+/// Reads the unit at the reader's place. By 0 it has a packet, by 223 none, and the reader is after
+/// it; 222 is the clean end; by 224 the table has no room for its interface; any other number is
+/// that of the first check that it fails. By these nothing is written.
+#[unsafe(no_mangle)]
+pub extern "C" fn capkit_next(
+    reader: &mut Reader,
+    interfaces: &mut [Interface],
+    capture: &[u8],
+    packet: &mut Packet,
+) -> u32
+    ensures { UnitLeaves capture.now reader.old reader.new interfaces.old interfaces.new packet.old
+        packet.new result }
+{
+    found_number(next_unit(reader, interfaces, capture, packet))
+}
+
+/// Puts the comment of the packet that this reader found last into a buffer, and gives its length; 0
+/// if it has none. It needs the byte order alone, so the clauses hold whatever the table of interfaces
+/// is.
+#[unsafe(no_mangle)]
+pub extern "C" fn capkit_comment(
+    reader: &Reader,
+    capture: &[u8],
+    packet: &Packet,
+    buffer: &mut [u8],
+) -> usize
+    ensures count { (table : List Interface) → result ≡ length (comment_by
+        (declared_in reader.now table) (take packet.now.options_length
+        (drop packet.now.options_at capture.now))) }
+    ensures put { (table : List Interface) → buffer.new ≡ put_text (comment_by
+        (declared_in reader.now table) (take packet.now.options_length
+        (drop packet.now.options_at capture.now))) buffer.old }
+{
+    put(comment_of(reader, capture, packet), buffer)
+}

@@ -1,0 +1,93 @@
+//! The check of the caller's instructions, and their runs.
+ghost use Rattle.std.specs.Prelude.{◌≡◌, ℕ, length};
+ghost use Rattle.flt_bpf.specs.Machine.{machine, Answered};
+ghost use Rattle.flt_bpf.specs.Valid.{IsValid};
+ghost use Rattle.flt_trace.specs.Trace.{Traces};
+ghost use Rattle.capkit_c.specs.Running.{CheckLeaves, RunLeaves, rule_number};
+
+use flt_bpf::{CheckFault, Insn, check_insns, run_any, run_insns};
+use flt_trace::{Step, trace};
+
+/// The number of a rule.
+fn rule_number(fault: CheckFault) -> u32
+    ensures { result ≡ rule_number fault }
+{
+    match fault {
+        CheckFault::Empty => 101,
+        CheckFault::TooLong => 102,
+        CheckFault::UnknownCode => 103,
+        CheckFault::JumpOut => 104,
+        CheckFault::NoSuchWord => 105,
+        CheckFault::DivisionByZero => 106,
+        CheckFault::ShiftTooFar => 107,
+        CheckFault::NoReturn => 108,
+    }
+}
+
+/// 0 if instructions are a valid program; else the number of the first rule that they break, and
+/// the index of the instruction that breaks it, or 0 where the rule is on the whole.
+#[unsafe(no_mangle)]
+pub extern "C" fn capkit_check(insns: &[Insn], index: &mut usize) -> u32
+    ensures { CheckLeaves insns.now index.new result }
+{
+    match check_insns(insns) {
+        Ok(()) => {
+            *index = 0;
+            0
+        }
+        Err((fault, at)) => {
+            *index = at;
+            rule_number(fault)
+        }
+    }
+}
+
+/// What a valid program returns on a packet of original length `len`. C sees to it that the
+/// instructions passed the check, or were compiled.
+#[unsafe(no_mangle)]
+pub extern "C" fn capkit_run(insns: &[Insn], packet: &[u8], len: u32, steps: &mut usize) -> u32
+    requires { IsValid insns.now }
+    ensures { machine insns.now packet.now len (length insns.now) ≡ Answered result steps.new }
+{
+    let (answer, count) = run_insns(insns, packet, len);
+    *steps = count as usize;
+    answer
+}
+
+/// The same where the steps aren't asked for.
+#[unsafe(no_mangle)]
+pub extern "C" fn capkit_matches(insns: &[Insn], packet: &[u8], len: u32) -> u32
+    requires { IsValid insns.now }
+    ensures { (steps : ℕ) × (machine insns.now packet.now len (length insns.now)
+        ≡ Answered result steps) }
+{
+    run_insns(insns, packet, len).0
+}
+
+/// What a run of a valid program is before each instruction that it meets, as far as there is room;
+/// gives how many it meets.
+#[unsafe(no_mangle)]
+pub extern "C" fn capkit_trace(insns: &[Insn], packet: &[u8], len: u32, steps: &mut [Step]) -> usize
+    requires { IsValid insns.now }
+    ensures { (answer : ℕ) × Traces insns.now packet.now len steps.old steps.new answer result }
+{
+    trace(insns, packet, len, steps).1
+}
+
+/// The same for any instructions. Where a run meets one that breaks a rule, or goes past the end,
+/// it returns 0 after 0 steps.
+#[unsafe(no_mangle)]
+pub extern "C" fn capkit_run_any(insns: &[Insn], packet: &[u8], len: u32, steps: &mut usize) -> u32
+    ensures { RunLeaves insns.now packet.now len result steps.new }
+{
+    match run_any(insns, packet, len) {
+        Some((answer, count)) => {
+            *steps = count;
+            answer
+        }
+        None => {
+            *steps = 0;
+            0
+        }
+    }
+}

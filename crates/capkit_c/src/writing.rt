@@ -1,0 +1,115 @@
+//! The units of a capture, put into the caller's buffer.
+ghost use Rattle.std.specs.Prelude.{◌≡◌, [], None};
+ghost use Rattle.cap_octet.specs.Checks.{first_failing};
+ghost use Rattle.cap_io.specs.Text.{record_text};
+ghost use Rattle.cap_pcap.specs.Encoding.{file_header};
+ghost use Rattle.cap_pcapng.specs.Encoding.{interface_text, packet_block, section_text};
+ghost use Rattle.cap_memory.specs.Layout.{resolution_by};
+ghost use Rattle.cap_memory.specs.Writing.{written_block_checks, interface_checks, written_packet};
+ghost use Rattle.cap_memory.specs.Writing.{written_record_checks};
+ghost use Rattle.capkit_c.specs.Writing.{WriteTells, written_length, written_number};
+
+use crate::reading::fault_number;
+use cap_memory::{
+    Written, write_file_header, write_interface, write_packet, write_record, write_section,
+};
+
+/// Tells what became of bytes: its number is returned, and the length is set.
+fn tell(written: Written, length: &mut usize) -> u32
+    ensures number { result ≡ written_number written }
+    ensures length { length.new ≡ written_length written }
+{
+    match written {
+        Written::Whole(count) => {
+            *length = count;
+            0
+        }
+        Written::NoRoom(count) => {
+            *length = count;
+            225
+        }
+        Written::Refused(fault) => {
+            *length = 0;
+            fault_number(fault)
+        }
+    }
+}
+
+/// Puts the file header of a pcap file, with the greatest snapshot length. By 0 its bytes are at
+/// the start of the buffer; by 225 the buffer has no room for them. `length` is how many they are.
+#[unsafe(no_mangle)]
+pub extern "C" fn capkit_write_file_header(
+    nanoseconds: u32,
+    link_type: u16,
+    buffer: &mut [u8],
+    length: &mut usize,
+) -> u32
+    ensures { WriteTells None (file_header (resolution_by nanoseconds) link_type) buffer.old
+        buffer.new
+        length.new result }
+{
+    tell(write_file_header(nanoseconds, link_type, buffer), length)
+}
+
+/// Puts a record of a pcap file. By 204 and 210 its packet isn't held, and the length is 0.
+#[unsafe(no_mangle)]
+pub extern "C" fn capkit_write_record(
+    nanoseconds: u32,
+    time: u64,
+    original: u32,
+    packet: &[u8],
+    buffer: &mut [u8],
+    length: &mut usize,
+) -> u32
+    ensures { let p = written_packet time original packet.now [] in
+        WriteTells (first_failing (written_record_checks p))
+        (record_text (resolution_by nanoseconds) p)
+        buffer.old buffer.new length.new result }
+{
+    let written = write_record(nanoseconds, time, original, packet, buffer);
+    tell(written, length)
+}
+
+/// Puts the section header block that a pcapng file begins with.
+#[unsafe(no_mangle)]
+pub extern "C" fn capkit_write_section(buffer: &mut [u8], length: &mut usize) -> u32
+    ensures { WriteTells None section_text buffer.old buffer.new length.new result }
+{
+    tell(write_section(buffer), length)
+}
+
+/// Puts an interface description block. By 208 its name is too long, and the length is 0.
+#[unsafe(no_mangle)]
+pub extern "C" fn capkit_write_interface(
+    link_type: u16,
+    snap: u32,
+    name: &[u8],
+    buffer: &mut [u8],
+    length: &mut usize,
+) -> u32
+    ensures { WriteTells (first_failing (interface_checks name.now))
+        (interface_text link_type snap name.now) buffer.old buffer.new length.new result }
+{
+    tell(write_interface(link_type, snap, name, buffer), length)
+}
+
+/// Puts an enhanced packet block. By 204, 208, 210 and 221 its packet isn't held, and the length is
+/// 0.
+#[unsafe(no_mangle)]
+pub extern "C" fn capkit_write_packet(
+    interface: u32,
+    time: u64,
+    original: u32,
+    packet: &[u8],
+    comment: &[u8],
+    buffer: &mut [u8],
+    length: &mut usize,
+) -> u32
+    ensures { let p = written_packet time original packet.now comment.now in
+        WriteTells (first_failing (written_block_checks interface p))
+        (packet_block interface p) buffer.old
+        buffer.new length.new result }
+{
+    let written = write_packet(interface, time, original, packet, comment, buffer);
+    tell(written, length)
+}

@@ -1,0 +1,6 @@
+use Rattle.std.proofs.Common.{arith}
+use Rattle.std.proofs.lemmas.Grind.{common_steps}
+use Rattle.capkit_host.proofs.runner.run_command.Goals as goal
+
+pub run_over-requires : goal.run_over-requires
+run_over-requires c = grind (arith, common_steps)

@@ -1,0 +1,111 @@
+//! How a run ends: what is buffered is written, and what became of it is told.
+ghost use Rattle.std.specs.Prelude.{◌≡◌, ◌≢◌, ◌<◌, ◌≤◌, IfOk, IfSome, IsOkAnd, IsSome, IsUtf8};
+ghost use Rattle.std.specs.Prelude.{List, [], ◌∷◌, ◌++◌, ℕ, OnOk, is_some, true, false};
+ghost use Rattle.std.specs.Result.{result_ok};
+ghost use Rattle.capkit_host.specs.Ending.{has_failed, is_unread, status_by};
+ghost use Rattle.capkit_host.specs.Streams.{holds_old_bytes};
+
+use crate::FAULT;
+use crate::message::Shown;
+use crate::opening::Target;
+use crate::stop::Stop;
+use crate::streams::Created;
+use cap_octet::StdOutput;
+use std::alloc::Global;
+use std::io::{self, BufWriter, ErrorKind, Write};
+
+/// Writes what is buffered, and tells the run's message and how its output ended.
+pub fn finish<'a, W: Write + Drop>(
+    alloc: Global,
+    status: u8,
+    target: Target,
+    messages: StdOutput<W>,
+    output: &'a str,
+) -> Result<u8, Stop<'a>>
+    requires { status ≤ 2 }
+    ensures within { IfOk result (λ ended. ended ≤ 2) }
+
+    // The job told why, so that it isn't told again; and a failed write is no success.
+    ensures exact { is_some target.cause ≡ true → IsOkAnd result (λ ended. 0 < ended) }
+{
+    let (mut target, cause) = target.into_inner();
+    let flushed = settle(status, &mut target).err().map(|error| error.kind());
+    let (messages, _) = messages.into_inner();
+    let (mut errors, message) = messages.into_parts();
+    let causes = (cause, flushed);
+    end(alloc, &mut errors, status, causes, &message, output)
+}
+
+/// Whether it failed since the reader of a pipe went away.
+fn is_unread(cause: Option<ErrorKind>) -> bool
+    ensures { result ≡ is_unread cause }
+{
+    matches!(cause, Some(ErrorKind::BrokenPipe))
+}
+
+/// Writes what is buffered, and decides over what the output held before.
+pub fn settle(status: u8, target: &mut BufWriter<Created>) -> io::Result<()> {
+    target.get_mut().leave(status)?;
+    target.flush()
+}
+
+/// The text of a run's message, which a line break ends.
+fn message_line(message: &[u8]) -> Option<&str>
+    ensures text { IfSome result (λ text. message.now ≡ text.now ++ 10 ∷ []) }
+    ensures whole { IsUtf8 message.now → (text : List ℕ) → message.now ≡ text ++ 10 ∷ []
+        → IsSome result }
+{
+    match str::from_utf8(message) {
+        Ok(text) => text.strip_suffix("\n"),
+        Err(_) => None,
+    }
+}
+
+/// Writes the message of a run, if there is one, by one call. One that can't be written is lost.
+fn tell_message<W: Write>(alloc: Global, errors: &mut W, message: &[u8]) {
+    if let Some(text) = message_line(message) {
+        let _ = match format!(in alloc; "{}\n", Shown { text }) {
+            Ok(line) => errors.write_all(line.as_bytes()),
+            Err(_) => writeln!(errors, "{}", Shown { text }),
+        };
+    }
+}
+
+/// The status of a run that the job ended with `status`, whose writes failed for `cause`, if they
+/// did, and whose last write for `flushed`. None where that one is still to be told.
+fn status_by(status: u8, cause: Option<ErrorKind>, flushed: Option<ErrorKind>) -> Option<u8>
+    ensures value { result ≡ status_by status cause flushed }
+    ensures failed { has_failed cause flushed ≡ true → IfSome result (λ status. 0 < status) }
+    ensures within { status ≤ 2 → IfSome result (λ status. status ≤ 2) }
+{
+    match (cause, flushed) {
+        (None, None) => Some(status),
+        (Some(_), _) => Some(status.max(FAULT)),
+        (None, Some(_)) if is_unread(flushed) => Some(FAULT),
+        (None, Some(_)) => None,
+    }
+}
+
+/// Tells the message of a run and how its output ended, by the causes of the last write that failed
+/// in it and of the one after it; and returns the status.
+///
+/// Where the reader of a pipe went away, as of `| head`, nobody hears that the rest can't be
+/// written.
+pub fn end<'a, W: Write>(
+    alloc: Global,
+    errors: &mut W,
+    status: u8,
+    causes: (Option<ErrorKind>, Option<ErrorKind>),
+    message: &[u8],
+    output: &'a str,
+) -> Result<u8, Stop<'a>>
+    ensures status { result_ok result ≡ status_by status causes.0 causes.1 }
+    ensures failed { has_failed causes.0 causes.1 ≡ true → IfOk result (λ ended. 0 < ended) }
+    ensures within { status ≤ 2 → IfOk result (λ ended. ended ≤ 2) }
+{
+    let (cause, flushed) = causes;
+    if !(is_unread(cause) || cause.is_some() && is_unread(flushed)) {
+        tell_message(alloc, errors, message);
+    }
+    status_by(status, cause, flushed).ok_or(Stop::WriteFailed(output))
+}

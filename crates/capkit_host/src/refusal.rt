@@ -1,0 +1,65 @@
+//! Words that are no command line: what is told of them, and the status.
+ghost use Rattle.std.specs.Prelude.{◌≡◌, Bool};
+ghost use Rattle.capkit_host.specs.Status.{status_of};
+
+use crate::message::{Errors, refusal_text, tell};
+use crate::stop::Stop;
+use crate::{FAULT, USAGE};
+use capkit::{STANDARD, Usage};
+use std::io::ErrorKind;
+
+/// Prints what the user asked to know of the command line, and returns whether it could be written.
+///
+/// Where the reader of a pipe went away nobody hears that it can't.
+fn print_answer(rt: &(impl AllocGlobal + Print + Errors), answer: &clap::Error) -> bool {
+    match answer.print(rt) {
+        Ok(()) => true,
+        Err(error) => {
+            if error.kind() != ErrorKind::BrokenPipe {
+                tell(rt, Stop::WriteFailed(STANDARD));
+            }
+            false
+        }
+    }
+}
+
+/// Reports why clap refuses the words.
+pub fn tell_refusal(rt: &(impl AllocGlobal + Print + Errors), error: &clap::Error) {
+    let _ = match refusal_text(rt.alloc(), error) {
+        Ok(text) => rt.write_text(&text),
+        Err(_) => error.print(rt),
+    };
+}
+
+/// Reports why words are no command line, or prints what the user asked to know of it, and returns
+/// whether such an answer could be written.
+fn tell_usage(rt: &(impl AllocGlobal + Print + Errors), usage: &Usage) -> bool {
+    match usage {
+        Usage::Refused(error) if error.use_stderr() => tell_refusal(rt, error),
+        Usage::Refused(answer) => return print_answer(rt, answer),
+        Usage::Memory => tell(rt, format_args!("{usage}")),
+        fault => tell(rt, format_args!("usage: {fault}")),
+    }
+    true
+}
+
+/// The status of words that are no command line, and of an answer that could be written or not.
+fn status_of(usage: &Usage, is_written: bool) -> u8
+    ensures { result ≡ status_of usage.now is_written }
+{
+    match usage {
+        Usage::Refused(error) if error.use_stderr() => USAGE,
+        Usage::Refused(_) if is_written => 0,
+        Usage::Refused(_) | Usage::Memory => FAULT,
+        _ => USAGE,
+    }
+}
+
+/// Reports why words are no command line, or what the user asked to know of it, and returns the
+/// status.
+pub fn refuse(rt: &(impl AllocGlobal + Print + Errors), usage: Usage) -> u8
+    ensures { (is_written : Bool) × (result ≡ status_of usage is_written) }
+{
+    let is_written = tell_usage(rt, &usage);
+    status_of(&usage, is_written)
+}

@@ -1,0 +1,140 @@
+//! What names mean: files and the standard streams.
+ghost use Rattle.std.specs.Prelude.{◌≡◌, ◌≢◌, ◌||◌, IfOk, OnOk, None, false, true, not, is_err};
+ghost use Rattle.std.specs.Io.{WritesAtMost};
+ghost use Rattle.std.specs.Io.KnownBytes.{WriteAppends};
+ghost use Rattle.capkit.specs.Names.{is_standard};
+ghost use Rattle.capkit_host.specs.Streams.{holds_old_bytes};
+ghost use Rattle.capkit_host.specs.inside.Streams.{is_standard_input, is_standard_output};
+
+use crate::USAGE;
+use capkit::STANDARD;
+use std::fs::{self, File, OpenOptions};
+use std::io::{self, IsTerminal, Read, Stdin, Stdout, Write};
+
+/// An input that was opened.
+#[derive(Drop)]
+pub enum Opened {
+    File(File),
+    Stream(Stdin),
+}
+
+impl Opened {
+    /// Opens the file of that name, or standard input. The error is the system's.
+    pub(crate) fn open(rt: &HostRuntime, name: &str) -> io::Result<Opened>
+        ensures { IfOk result (λ opened. is_standard_input opened ≡ is_standard name.now) }
+    {
+        if name == STANDARD {
+            return Ok(Opened::Stream(rt.stdin()));
+        }
+        Ok(Opened::File(fs::open(rt, name)?))
+    }
+}
+
+impl Read for Opened {
+    fn read(&mut self, buf: &mut [u8]) -> io::Result<usize> {
+        match self {
+            Opened::File(file) => file.read(buf),
+            Opened::Stream(stream) => stream.read(buf),
+        }
+    }
+}
+
+/// A file that is written, and whether it was emptied since it was opened.
+#[derive(Drop)]
+pub struct OutputFile {
+    file: File,
+    is_emptied: bool,
+}
+
+/// An output that was created. A test has a stream of its own in place of standard output.
+#[derive(Drop)]
+pub enum Created<S = Stdout> {
+    File(OutputFile),
+    Stream(S),
+}
+
+impl Created {
+    /// Creates the file of that name, or opens it with what it holds; or takes standard output. The
+    /// error is the system's.
+    pub(crate) fn create(rt: &HostRuntime, name: &str) -> io::Result<Created>
+        ensures standard { IfOk result (λ created. is_standard_output created
+            ≡ is_standard name.now) }
+        ensures kept { IfOk result (λ created. holds_old_bytes created
+            ≡ not (is_standard name.now)) }
+    {
+        if name == STANDARD {
+            return Ok(Created::Stream(rt.stdout()));
+        }
+        let file = OpenOptions::new().write(true).create(true).open(rt, name)?;
+        Ok(Created::File(OutputFile {
+            file,
+            is_emptied: false,
+        }))
+    }
+}
+
+impl<S> Created<S> {
+    /// Removes what a plain file held before it was opened. Later calls do nothing.
+    ///
+    /// A device and a pipe hold nothing that could be removed.
+    pub(crate) fn empty(&mut self) -> io::Result<()>
+        ensures emptied { OnOk result (holds_old_bytes self.new ≡ false) }
+        ensures again { holds_old_bytes self.old ≡ false → self.new ≡ self.old }
+        ensures failed { is_err result ≡ true → self.new ≡ self.old }
+    {
+        match self {
+            Created::File(output) if !output.is_emptied => {
+                if output.file.metadata()?.is_file() {
+                    output.file.set_len(0)?;
+                }
+                output.is_emptied = true;
+                Ok(())
+            }
+            _ => Ok(()),
+        }
+    }
+
+    /// Keeps what it held before if the run's status says that the expression or the listing was
+    /// refused, and else removes it.
+    pub(crate) fn leave(&mut self, status: u8) -> io::Result<()>
+        ensures refused { status ≡ 2 → self.new ≡ self.old }
+        ensures ran { status ≢ 2 → OnOk result (holds_old_bytes self.new ≡ false) }
+    {
+        if status == USAGE {
+            return Ok(());
+        }
+        self.empty()
+    }
+}
+
+impl<S: Write> Write for Created<S> {
+    /// One write. What a file held before goes before its first one.
+    fn write(&mut self, buf: &[u8]) -> io::Result<usize>
+        ensures bound { WritesAtMost result buf.now }
+        ensures bytes { WriteAppends None None result buf.now }
+        ensures emptied { IfOk result (λ _. holds_old_bytes self.new ≡ false) }
+    {
+        self.empty()?;
+        match self {
+            Created::File(output) => output.file.write(buf),
+            Created::Stream(stream) => stream.write(buf),
+        }
+    }
+
+    fn flush(&mut self) -> io::Result<()> {
+        match self {
+            Created::File(output) => output.file.flush(),
+            Created::Stream(stream) => stream.flush(),
+        }
+    }
+}
+
+impl<S: IsTerminal> Created<S> {
+    /// Whether somebody looks at what is written as it comes.
+    pub fn is_terminal(&self) -> bool {
+        match self {
+            Created::File(output) => output.file.is_terminal(),
+            Created::Stream(stream) => stream.is_terminal(),
+        }
+    }
+}

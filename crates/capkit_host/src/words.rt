@@ -1,0 +1,39 @@
+//! The words of the command line as the user types them.
+ghost use Rattle.std.specs.Prelude.{◌≡◌, IfOk, map, string_bytes, true};
+ghost use Rattle.capkit.specs.Line.{is_ready, SaysLine};
+ghost use Rattle.capkit_host.specs.Words.{with_help_option};
+
+use crate::overwrites::overwrites_input;
+use capkit::{Line, Usage, command_of};
+use std::alloc::{AllocError, Global};
+
+/// The word that asks for help, as many programs take it.
+const HELP: &str = "help";
+
+/// The words, where `help [COMMAND]` is read as `[COMMAND] --help`.
+pub fn with_help_option(alloc: Global, words: Vec<String>) -> Result<Vec<String>, AllocError>
+    ensures { IfOk result (λ after. map string_bytes after.items
+        ≡ with_help_option (map string_bytes words.items)) }
+{
+    let mut asked = words;
+    match asked.first() {
+        Some(word) if word.as_str() == HELP => {}
+        _ => return Ok(asked),
+    }
+    asked.remove(0);
+    asked.push(String::from_str(alloc, "--help")?)?;
+    Ok(asked)
+}
+
+/// What the words ask for, of which `help` is an option, unless its output is a file that it reads.
+pub fn line_of(rt: &HostRuntime, words: Vec<String>) -> Result<Line, Usage>
+    ensures ready { IfOk result (λ line. is_ready line ≡ true) }
+    ensures line { IfOk result (SaysLine (with_help_option (map string_bytes words.items))) }
+{
+    let words = with_help_option(rt.alloc(), words)?;
+    let line = command_of(rt.alloc(), words)?;
+    if overwrites_input(rt, &line) {
+        return Err(Usage::NameUsedTwice);
+    }
+    Ok(line)
+}

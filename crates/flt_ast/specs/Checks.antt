@@ -1,0 +1,45 @@
+-- The faults of a resolved tree: a division by 0, too many words, too long a program.
+use Rattle.std.specs.Prelude.{Bool, true, false, ◌&&◌, ◌||◌, ◌==◌, nat_lt, Option, Some, None}
+use Rattle.flt_words.specs.declared.token.Operator.{Operator}
+use Rattle.flt_words.specs.declared.token.Operator.TheVariants.{Divide, Remainder}
+use Rattle.flt_words.specs.declared.fault.ExprFault.{ExprFault}
+use Rattle.flt_words.specs.declared.fault.ExprFault.TheVariants as fault
+use Rattle.flt_ast.specs.Tree.{NumberTree, literal, len, named, load, negated, applied, TruthTree, compared, Expression}
+use Rattle.flt_ast.specs.Resolved.{some_primitive}
+use Rattle.flt_ast.specs.Counts.{words_of, bound_of}
+
+-- the operators whose right side may not be 0
+abbrev pub is_division : Operator → Bool
+is_division Divide = true
+is_division Remainder = true
+is_division _ = false
+
+abbrev pub is_zero : NumberTree → Bool
+is_zero (literal n) = n == 0
+is_zero _ = false
+
+-- the divisor is the number 0 as it is written
+abbrev pub has_zero_divisor : NumberTree → Bool
+has_zero_divisor (literal n) = false
+has_zero_divisor len = false
+has_zero_divisor (named n) = false
+has_zero_divisor (load p s a) = has_zero_divisor a
+has_zero_divisor (negated a) = has_zero_divisor a
+has_zero_divisor (applied o a b) =
+    has_zero_divisor a || (has_zero_divisor b || is_division o && is_zero b)
+
+abbrev pub divides_by_zero : TruthTree → Bool
+divides_by_zero (compared c a b) = has_zero_divisor a || has_zero_divisor b
+divides_by_zero _ = false
+
+-- the first of E10, E11, E12 over the whole tree
+abbrev pub first_excess : Bool → Bool → Bool → Option ExprFault
+first_excess true words long = Some fault.DivisionByZero
+first_excess false true long = Some fault.TooManyWords
+first_excess false false true = Some fault.ProgramTooLong
+first_excess false false false = None
+
+abbrev pub check_fault : Expression → Option ExprFault
+check_fault e =
+    first_excess (some_primitive divides_by_zero e) (nat_lt 16 (words_of e))
+    (nat_lt 32768 (bound_of e))

@@ -1,0 +1,180 @@
+-- The counts of an expression: sums over its tree. Each test of a primitive's formula counts one,
+-- and each node of arithmetic.
+use Rattle.std.specs.Prelude.{ℕ, ◌+◌, ◌*◌, max, Option, Some, None}
+use Rattle.flt_words.specs.declared.token.Protocol.{Protocol}
+use Rattle.flt_words.specs.declared.token.Protocol.TheVariants as protocol
+use Rattle.flt_words.specs.declared.token.Side.TheVariants.{Destination}
+use Rattle.flt_words.specs.declared.token.Cast.{Cast}
+use Rattle.flt_words.specs.declared.token.Cast.TheVariants as casts
+use Rattle.flt_words.specs.declared.token.ValueType.{ValueType}
+use Rattle.flt_words.specs.declared.token.ValueType.TheVariants.{Host, Net, Port, PortRange, Proto}
+use Rattle.flt_ast.specs.declared.qualifiers.Direction.{Direction}
+use Rattle.flt_ast.specs.declared.qualifiers.Direction.TheVariants as direction
+use Rattle.flt_ast.specs.declared.qualifiers.CompleteQualifiers.{CompleteQualifiers}
+use Rattle.flt_ast.specs.declared.value.Value.{Value}
+use Rattle.flt_ast.specs.declared.value.Value.TheVariants as value
+use Rattle.flt_ast.specs.declared.node.Node.{Node}
+use Rattle.flt_ast.specs.declared.node.Node.TheVariants as node
+use Rattle.flt_ast.specs.Tree.{NumberTree, literal, len, named, load, negated, applied, TruthTree, check, cast, sized, bare, valued, qualified, compared, denied, joined, Expression, empty, truth}
+
+-- n tests for the source, for the destination, or for each of them
+abbrev pub side_tests : Direction → ℕ → ℕ
+side_tests (direction.One s) n = n
+side_tests (direction.Both j) n = n + n
+
+-- the check of the protocol above, and the number; without a protocol for IPv4 or for IPv6
+abbrev pub proto_tests : Option Protocol → ℕ
+proto_tests None = (1 + 1) + (1 + 1)
+proto_tests (Some p) = 1 + 1
+
+-- `tcp` and `udp` mean `proto 6` and `proto 17`, `icmp` for `ip proto 1`, `icmp6` for `ip6 proto
+-- 58`
+abbrev pub check_tests : Protocol → ℕ
+check_tests protocol.Tcp = proto_tests None
+check_tests protocol.Udp = proto_tests None
+check_tests protocol.Icmp = proto_tests (Some protocol.Ip)
+check_tests protocol.Icmp6 = proto_tests (Some protocol.Ip6)
+check_tests _ = 1
+
+-- a MAC address is tested as four bytes and two
+abbrev pub ether_tests : Direction → ℕ
+ether_tests d = 1 + side_tests d 2
+
+-- `broadcast` means a destination, a multicast is one test
+abbrev pub cast_tests : Cast → ℕ
+cast_tests casts.Broadcast = ether_tests (direction.One Destination)
+cast_tests casts.Multicast = 1 + 1
+
+-- an IPv4 address, which without a protocol may be of IPv4, ARP or RARP
+abbrev pub ip4_tests : Option Protocol → Direction → ℕ
+ip4_tests None d = (1 + side_tests d 1) + (1 + side_tests d 1) + (1 + side_tests d 1)
+ip4_tests (Some p) d = 1 + side_tests d 1
+
+-- an IPv6 address is tested as four words
+abbrev pub ip6_test_count : Direction → ℕ
+ip6_test_count d = 1 + side_tests d 4
+
+-- the protocol above is TCP, UDP, or either
+abbrev pub transport_tests : Option Protocol → ℕ
+transport_tests None = 2
+transport_tests (Some p) = 1
+
+-- ports over IPv4, where the packet is no later fragment, or over IPv6, n tests a side
+abbrev pub port_tests : Option Protocol → Direction → ℕ → ℕ
+port_tests p d n =
+    (1 + transport_tests p + 1 + side_tests d n) + (1 + transport_tests p + side_tests d n)
+
+abbrev pub address_tests : Option Protocol → Direction → Value → ℕ
+address_tests p d (value.Mac a) = ether_tests d
+address_tests p d (value.Ip6 a n) = ip6_test_count d
+address_tests p d _ = ip4_tests p d
+
+-- a value with its qualifiers
+abbrev pub typed_tests : ValueType → Option Protocol → Direction → Value → ℕ
+typed_tests Host p d v = address_tests p d v
+typed_tests Net p d v = address_tests p d v
+typed_tests Port p d v = port_tests p d 1
+typed_tests PortRange p d v = port_tests p d 2
+typed_tests Proto p d v = proto_tests p
+
+abbrev pub value_tests : CompleteQualifiers → Value → ℕ
+value_tests q v = typed_tests q.value_type q.protocol q.direction v
+
+-- the checks of an accessor: the protocol, and of one above IPv4 its number and that the packet is
+-- no later fragment
+abbrev pub accessor_test_count : Protocol → ℕ
+accessor_test_count protocol.Tcp = 1 + 1 + 1
+accessor_test_count protocol.Udp = 1 + 1 + 1
+accessor_test_count protocol.Icmp = 1 + 1 + 1
+accessor_test_count _ = 1
+
+-- the checks of all accessors
+abbrev pub number_tests : NumberTree → ℕ
+number_tests (literal n) = 0
+number_tests len = 0
+number_tests (named n) = 0
+number_tests (load p s a) = number_tests a + accessor_test_count p
+number_tests (negated a) = number_tests a
+number_tests (applied o a b) = number_tests a + number_tests b
+
+-- a value that lacks qualifiers has no formula; a comparison is one test after the checks
+abbrev pub truth_tests : TruthTree → ℕ
+truth_tests (check p) = check_tests p
+truth_tests (cast p c) = cast_tests c
+truth_tests (sized s n) = 1
+truth_tests (bare v) = 0
+truth_tests (valued q v) = 0
+truth_tests (qualified q v) = value_tests q v
+truth_tests (compared c a b) = number_tests a + number_tests b + 1
+truth_tests (denied a) = truth_tests a
+truth_tests (joined j a b) = truth_tests a + truth_tests b
+
+-- how many nodes the arithmetic has
+abbrev pub number_size : NumberTree → ℕ
+number_size (literal n) = 1
+number_size len = 1
+number_size (named n) = 1
+number_size (load p s a) = number_size a + 1
+number_size (negated a) = number_size a + 1
+number_size (applied o a b) = number_size a + number_size b + 1
+
+-- `less` and `greater` compare the length with a number
+abbrev pub truth_size : TruthTree → ℕ
+truth_size (sized s n) = 2
+truth_size (compared c a b) = number_size a + number_size b
+truth_size (denied a) = truth_size a
+truth_size (joined j a b) = truth_size a + truth_size b
+truth_size _ = 0
+
+-- how many words of memory hold what waits while the right side is computed
+abbrev pub number_words : NumberTree → ℕ
+number_words (literal n) = 0
+number_words len = 0
+number_words (named n) = 0
+number_words (load p s a) = number_words a
+number_words (negated a) = number_words a
+number_words (applied o a b) = max (number_words a) (1 + number_words b)
+
+abbrev pub truth_words : TruthTree → ℕ
+truth_words (sized s n) = max (number_words len) (1 + number_words (literal n))
+truth_words (compared c a b) = max (number_words a) (1 + number_words b)
+truth_words (denied a) = truth_words a
+truth_words (joined j a b) = max (truth_words a) (truth_words b)
+truth_words _ = 0
+
+-- of an expression
+abbrev pub tests_of : Expression → ℕ
+tests_of empty = 0
+tests_of (truth a) = truth_tests a
+
+abbrev pub nodes_of : Expression → ℕ
+nodes_of empty = 0
+nodes_of (truth a) = truth_size a
+
+abbrev pub words_of : Expression → ℕ
+words_of empty = 0
+words_of (truth a) = truth_words a
+
+-- how many instructions a program for it has at most
+abbrev pub bound_of : Expression → ℕ
+bound_of e = 2 + 6 * (tests_of e + nodes_of e)
+
+-- the same of a node
+abbrev pub node_tests : Node → ℕ
+node_tests (node.Check p) = check_tests p
+node_tests (node.Cast p c) = cast_tests c
+node_tests (node.Sized s n) = 1
+node_tests (node.Qualified q v) = value_tests q v
+node_tests (node.Compare c) = 1
+node_tests (node.Load p s) = accessor_test_count p
+node_tests _ = 0
+
+abbrev pub node_size : Node → ℕ
+node_size (node.Sized s n) = 2
+node_size (node.Literal n) = 1
+node_size node.Len = 1
+node_size (node.Named n) = 1
+node_size (node.Load p s) = 1
+node_size node.Negate = 1
+node_size (node.Apply o) = 1
+node_size _ = 0

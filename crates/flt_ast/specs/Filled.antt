@@ -1,0 +1,60 @@
+-- What a bare value inherits, and what is filled in where it is left out.
+use Rattle.std.specs.Prelude.{Some, None, unwrap_or}
+use Rattle.flt_words.specs.declared.token.Join.TheVariants as join
+use Rattle.flt_words.specs.declared.token.ValueType.{ValueType}
+use Rattle.flt_words.specs.declared.token.ValueType.TheVariants.{Host}
+use Rattle.flt_ast.specs.declared.qualifiers.Direction.TheVariants as direction
+use Rattle.flt_ast.specs.declared.qualifiers.Qualifiers.{Qualifiers}
+use Rattle.flt_ast.specs.declared.qualifiers.CompleteQualifiers.{CompleteQualifiers}
+use Rattle.flt_ast.specs.declared.node.Node.{Node}
+use Rattle.flt_ast.specs.declared.node.Node.TheVariants as node
+use Rattle.flt_ast.specs.Tree.{TruthTree, bare, valued, qualified, denied, joined, Expression, empty, truth}
+
+-- the qualifiers of the last value in a tree that has some written before it, or else q
+abbrev pub latest : Qualifiers → TruthTree → Qualifiers
+latest q (valued p v) = p
+latest q (denied a) = latest q a
+latest q (joined j a b) = latest (latest q a) b
+latest q _ = q
+
+-- each bare value takes the qualifiers of the nearest value to its left that has some, also out of
+-- parentheses and from under `not`, or q where there is none
+abbrev pub with_inherited : Qualifiers → TruthTree → TruthTree
+with_inherited q (bare v) = valued q v
+with_inherited q (denied a) = denied (with_inherited q a)
+with_inherited q (joined j a b) = joined j (with_inherited q a) (with_inherited (latest q a) b)
+with_inherited q a = a
+
+-- a type that is left out is `host`, a direction `src or dst`
+abbrev pub type_or_host : Qualifiers → ValueType
+type_or_host q = unwrap_or q.value_type Host
+
+abbrev pub full : Qualifiers → CompleteQualifiers
+full q =
+    record {
+      protocol = q.protocol;
+      direction = unwrap_or q.direction (direction.Both join.Or);
+      value_type = type_or_host q;
+    }
+
+abbrev pub complete : TruthTree → TruthTree
+complete (valued q v) = qualified (full q) v
+complete (denied a) = denied (complete a)
+complete (joined j a b) = joined j (complete a) (complete b)
+complete a = a
+
+-- where nothing is to the left
+abbrev pub only_host : Qualifiers
+only_host = record { protocol = None; direction = None; value_type = Some Host }
+
+abbrev pub expr_inherited : Expression → Expression
+expr_inherited empty = empty
+expr_inherited (truth a) = truth (with_inherited only_host a)
+
+abbrev pub fill_expression : Expression → Expression
+fill_expression empty = empty
+fill_expression (truth a) = truth (complete (with_inherited only_host a))
+
+abbrev pub completed_node : Node → Node
+completed_node (node.Valued q v) = node.Qualified (full q) v
+completed_node n = n

@@ -1,0 +1,117 @@
+-- What fits: which values, protocols and directions go with a type, and which numbers are in range.
+use Rattle.std.specs.Prelude.{ℕ, Bool, true, false, ◌&&◌, ◌||◌, ◌==◌, nat_le, Option, Some, None}
+use Rattle.flt_words.specs.declared.token.Protocol.{Protocol}
+use Rattle.flt_words.specs.declared.token.Protocol.TheVariants as protocol
+use Rattle.flt_words.specs.declared.token.Join.TheVariants as join
+use Rattle.flt_words.specs.declared.token.Cast.{Cast}
+use Rattle.flt_words.specs.declared.token.Cast.TheVariants as casts
+use Rattle.flt_words.specs.declared.token.ValueType.{ValueType}
+use Rattle.flt_words.specs.declared.token.ValueType.TheVariants.{Host, Net, Port, PortRange, Proto}
+use Rattle.flt_ast.specs.declared.qualifiers.Direction.{Direction}
+use Rattle.flt_ast.specs.declared.qualifiers.Direction.TheVariants as direction
+use Rattle.flt_ast.specs.declared.value.Dotted.{Dotted}
+use Rattle.flt_ast.specs.declared.value.NetMask.{NetMask}
+use Rattle.flt_ast.specs.declared.value.NetMask.TheVariants as mask
+use Rattle.flt_ast.specs.declared.value.Value.{Value}
+use Rattle.flt_ast.specs.declared.value.Value.TheVariants as value
+use Rattle.flt_ast.specs.declared.fits.Fit.{Fit}
+use Rattle.flt_ast.specs.declared.fits.Fit.TheVariants as fit
+
+-- the protocols that an IPv4 address, an IPv6 address, a port and a protocol number may have, or
+-- none
+abbrev pub is_of_ip4 : Option Protocol → Bool
+is_of_ip4 None = true
+is_of_ip4 (Some protocol.Ip) = true
+is_of_ip4 (Some protocol.Arp) = true
+is_of_ip4 (Some protocol.Rarp) = true
+is_of_ip4 _ = false
+
+abbrev pub is_of_ip6 : Option Protocol → Bool
+is_of_ip6 None = true
+is_of_ip6 (Some protocol.Ip6) = true
+is_of_ip6 _ = false
+
+abbrev pub is_of_ports : Option Protocol → Bool
+is_of_ports None = true
+is_of_ports (Some protocol.Tcp) = true
+is_of_ports (Some protocol.Udp) = true
+is_of_ports _ = false
+
+abbrev pub is_of_ips : Option Protocol → Bool
+is_of_ips None = true
+is_of_ips (Some protocol.Ip) = true
+is_of_ips (Some protocol.Ip6) = true
+is_of_ips _ = false
+
+abbrev pub is_of_ether : Option Protocol → Bool
+is_of_ether (Some protocol.Ether) = true
+is_of_ether _ = false
+
+abbrev pub is_whole : Dotted → Bool
+is_whole d = d.parts == 4
+
+-- a mask has four parts, a prefix at most as many bits as the address
+abbrev pub is_net_mask : NetMask → Bool
+is_net_mask (mask.Mask d) = is_whole d
+is_net_mask _ = true
+
+abbrev pub is_ip4_len : NetMask → Bool
+is_ip4_len (mask.Prefix n) = nat_le n 32
+is_ip4_len _ = true
+
+abbrev pub is_ip6_len : Option ℕ → Bool
+is_ip6_len None = true
+is_ip6_len (Some n) = nat_le n 128
+
+-- whether it fits, and then whether it is in range
+abbrev pub fit_if : Bool → Bool → Fit
+fit_if true true = fit.InRange
+fit_if true false = fit.OutOfRange
+fit_if false _ = fit.Misfit
+
+-- the table
+abbrev pub fit_of : ValueType → Value → Option Protocol → Fit
+fit_of Host (value.Dotted d mask.Unwritten) p = fit_if (is_whole d && is_of_ip4 p) true
+fit_of Host (value.Ip6 a None) p = fit_if (is_of_ip6 p) true
+fit_of Host (value.Mac a) p = fit_if (is_of_ether p) true
+fit_of Net (value.Number n m) p =
+    fit_if (is_net_mask m && is_of_ip4 p) (nat_le n 255 && is_ip4_len m)
+fit_of Net (value.Dotted d m) p = fit_if (is_net_mask m && is_of_ip4 p) (is_ip4_len m)
+fit_of Net (value.Ip6 a n) p = fit_if (is_of_ip6 p) (is_ip6_len n)
+fit_of Port (value.Number n mask.Unwritten) p = fit_if (is_of_ports p) (nat_le n 65535)
+fit_of PortRange (value.Range a b) p = fit_if (is_of_ports p) (nat_le a 65535 && nat_le b 65535)
+fit_of Proto (value.Number n mask.Unwritten) (Some protocol.Ether) =
+    fit_if true (nat_le 1536 n && nat_le n 65535)
+fit_of Proto (value.Number n mask.Unwritten) p = fit_if (is_of_ips p) (nat_le n 255)
+fit_of _ _ _ = fit.Misfit
+
+abbrev pub is_misfit_fit : Fit → Bool
+is_misfit_fit fit.Misfit = true
+is_misfit_fit _ = false
+
+abbrev pub is_out_of_range_fit : Fit → Bool
+is_out_of_range_fit fit.OutOfRange = true
+is_out_of_range_fit _ = false
+
+abbrev pub is_net : ValueType → Bool
+is_net Net = true
+is_net _ = false
+
+abbrev pub is_proto : ValueType → Bool
+is_proto Proto = true
+is_proto _ = false
+
+-- with a protocol's number stands no direction; where directions are filled in that is either side
+abbrev pub is_either : Direction → Bool
+is_either (direction.Both join.Or) = true
+is_either _ = false
+
+-- `broadcast` does not go with `ip` and `ip6`
+abbrev pub is_cast_misfit : Option Protocol → Cast → Bool
+is_cast_misfit (Some protocol.Ip) casts.Broadcast = true
+is_cast_misfit (Some protocol.Ip6) casts.Broadcast = true
+is_cast_misfit _ _ = false
+
+-- the sizes of accessors
+abbrev pub is_size : ℕ → Bool
+is_size n = n == 1 || (n == 2 || n == 4)

@@ -1,0 +1,18 @@
+-- How many numbers wait while the nodes of a tree are gone through.
+use Rattle.std.specs.Prelude.{ℕ, ◌+◌, ◌-◌}
+use Rattle.flt_ast.specs.declared.node.Node.{Node}
+use Rattle.flt_ast.specs.declared.node.Node.TheVariants as node
+
+-- how many numbers there are after a node
+abbrev pub height_after : ℕ → Node → ℕ
+height_after h (node.Literal n) = h + 1
+height_after h node.Len = h + 1
+height_after h (node.Named n) = h + 1
+height_after h (node.Apply o) = h - 1
+height_after h (node.Compare c) = h - 2
+height_after h _ = h
+
+-- the most that there are at once; `less` and `greater` have two numbers of their own
+abbrev pub peak : ℕ → Node → ℕ
+peak h (node.Sized s n) = h + 2
+peak h n = height_after h n

@@ -1,0 +1,47 @@
+-- The networks that values mean: an address and its mask, as numbers of 32 or 128 bits.
+use Rattle.std.specs.Prelude.{ℕ, ◌-◌, ◌*◌, ◌%◌, ◌^◌, Bool, false, not, ◌||◌, ◌==◌, bit_and, Option, Some, None}
+use Rattle.flt_ast.specs.declared.value.NetMask.{NetMask}
+use Rattle.flt_ast.specs.declared.value.NetMask.TheVariants as mask
+use Rattle.flt_ast.specs.declared.value.Value.{Value}
+use Rattle.flt_ast.specs.declared.value.Value.TheVariants as value
+use Rattle.flt_ast.specs.declared.net.Ip4Net.{Ip4Net}
+use Rattle.flt_ast.specs.declared.net.Ip6Net.{Ip6Net}
+
+-- the first n of a number of bits
+abbrev pub first_bits : ℕ → ℕ → ℕ
+first_bits width n = 2 ^ width - 2 ^ (width - n)
+
+-- an address of these parts with no mask has a mask of as many bytes
+abbrev pub ip4_mask : ℕ → NetMask → ℕ
+ip4_mask parts mask.Unwritten = first_bits 32 (8 * parts)
+ip4_mask parts (mask.Prefix n) = first_bits 32 n
+ip4_mask parts (mask.Mask d) = d.address
+
+abbrev pub ip6_mask : Option ℕ → ℕ
+ip6_mask None = first_bits 128 128
+ip6_mask (Some n) = first_bits 128 n
+
+-- a number is the first byte
+abbrev pub ip4_net : Value → Option Ip4Net
+ip4_net (value.Number n m) = Some (record { address = n % 256 * 2 ^ 24; mask = ip4_mask 1 m })
+ip4_net (value.Dotted d m) = Some (record { address = d.address; mask = ip4_mask d.parts m })
+ip4_net _ = None
+
+abbrev pub ip6_net : Value → Option Ip6Net
+ip6_net (value.Ip6 a n) = Some (record { address = a; mask = ip6_mask n })
+ip6_net _ = None
+
+-- the address has bits that the mask leaves out
+abbrev pub is_past : ℕ → ℕ → Bool
+is_past address m = not (bit_and address m == address)
+
+abbrev pub ip4_past : Option Ip4Net → Bool
+ip4_past None = false
+ip4_past (Some n) = is_past n.address n.mask
+
+abbrev pub ip6_past : Option Ip6Net → Bool
+ip6_past None = false
+ip6_past (Some n) = is_past n.address n.mask
+
+abbrev pub is_past_mask : Value → Bool
+is_past_mask v = ip4_past (ip4_net v) || ip6_past (ip6_net v)

@@ -1,0 +1,99 @@
+-- The faults of a tree whose bare values have their qualifiers: a misfit, a value out of range,
+-- bits past a mask.
+use Rattle.std.specs.Prelude.{◌≡◌, Bool, true, false, not, ◌&&◌, ◌||◌, is_some, Option, Some, None}
+use Rattle.flt_words.specs.declared.fault.ExprFault.{ExprFault}
+use Rattle.flt_words.specs.declared.fault.ExprFault.TheVariants as fault
+use Rattle.flt_ast.specs.declared.node.Node.{Node}
+use Rattle.flt_ast.specs.declared.node.Node.TheVariants as node
+use Rattle.flt_ast.specs.Tree.{NumberTree, literal, len, named, load, negated, applied, TruthTree, cast, bare, valued, qualified, compared, denied, joined, Expression, empty, truth}
+use Rattle.flt_ast.specs.Nets.{is_past_mask}
+use Rattle.flt_ast.specs.Fits.{fit_of, is_misfit_fit, is_out_of_range_fit, is_net, is_proto, is_either, is_cast_misfit, is_size}
+use Rattle.flt_ast.specs.Filled.{type_or_host, expr_inherited}
+
+-- some accessor has a size that there is not
+abbrev pub has_wrong_size : NumberTree → Bool
+has_wrong_size (literal n) = false
+has_wrong_size len = false
+has_wrong_size (named n) = false
+has_wrong_size (load p s a) = has_wrong_size a || not (is_size s)
+has_wrong_size (negated a) = has_wrong_size a
+has_wrong_size (applied o a b) = has_wrong_size a || has_wrong_size b
+
+-- the faults of a primitive: E7, E8, E9
+abbrev pub is_misfit : TruthTree → Bool
+is_misfit (cast p c) = is_cast_misfit p c
+is_misfit (valued q v) =
+    is_misfit_fit (fit_of (type_or_host q) v q.protocol)
+    || is_proto (type_or_host q) && is_some q.direction
+is_misfit (qualified q v) =
+    is_misfit_fit (fit_of q.value_type v q.protocol)
+    || is_proto q.value_type && not (is_either q.direction)
+is_misfit _ = false
+
+abbrev pub is_out_of_range : TruthTree → Bool
+is_out_of_range (valued q v) = is_out_of_range_fit (fit_of (type_or_host q) v q.protocol)
+is_out_of_range (qualified q v) = is_out_of_range_fit (fit_of q.value_type v q.protocol)
+is_out_of_range (compared c a b) = has_wrong_size a || has_wrong_size b
+is_out_of_range _ = false
+
+abbrev pub has_past_bits : TruthTree → Bool
+has_past_bits (valued q v) = is_net (type_or_host q) && is_past_mask v
+has_past_bits (qualified q v) = is_net q.value_type && is_past_mask v
+has_past_bits _ = false
+
+-- a value still lacks qualifiers
+abbrev pub is_unfilled : TruthTree → Bool
+is_unfilled (bare v) = true
+is_unfilled (valued q v) = true
+is_unfilled _ = false
+
+-- some primitive of a tree has a fault
+abbrev pub any_primitive : (TruthTree → Bool) → TruthTree → Bool
+any_primitive f (denied a) = any_primitive f a
+any_primitive f (joined j a b) = any_primitive f a || any_primitive f b
+any_primitive f a = f a
+
+abbrev pub some_primitive : (TruthTree → Bool) → Expression → Bool
+some_primitive f empty = false
+some_primitive f (truth a) = any_primitive f a
+
+-- the first of E7, E8, E9 over the whole tree
+abbrev pub first_fault : Bool → Bool → Bool → Option ExprFault
+first_fault true out_of_range past = Some fault.QualifiersDoNotFit
+first_fault false true past = Some fault.ValueOutOfRange
+first_fault false false true = Some fault.BitsPastMask
+first_fault false false false = None
+
+abbrev pub tree_fault : Expression → Option ExprFault
+tree_fault e =
+    first_fault (some_primitive is_misfit e) (some_primitive is_out_of_range e)
+    (some_primitive has_past_bits e)
+
+-- the fault of an expression is reported once its bare values have their qualifiers
+abbrev pub fill_fault : Expression → Option ExprFault
+fill_fault e = tree_fault (expr_inherited e)
+
+-- a tree as it is resolved: each value has all its qualifiers, and there is none of these faults
+pub record IsResolved (e : Expression) : Type 0 where
+  pub is_filled : some_primitive is_unfilled e ≡ false
+  pub fits : some_primitive is_misfit e ≡ false
+  pub in_range : some_primitive is_out_of_range e ≡ false
+  pub in_mask : some_primitive has_past_bits e ≡ false
+
+-- the same of a node
+abbrev pub is_misfit_node : Node → Bool
+is_misfit_node (node.Cast p c) = is_misfit (cast p c)
+is_misfit_node (node.Valued q v) = is_misfit (valued q v)
+is_misfit_node (node.Qualified q v) = is_misfit (qualified q v)
+is_misfit_node _ = false
+
+abbrev pub is_out_of_range_node : Node → Bool
+is_out_of_range_node (node.Valued q v) = is_out_of_range (valued q v)
+is_out_of_range_node (node.Qualified q v) = is_out_of_range (qualified q v)
+is_out_of_range_node (node.Load p s) = not (is_size s)
+is_out_of_range_node _ = false
+
+abbrev pub has_past_bits_node : Node → Bool
+has_past_bits_node (node.Valued q v) = has_past_bits (valued q v)
+has_past_bits_node (node.Qualified q v) = has_past_bits (qualified q v)
+has_past_bits_node _ = false

@@ -1,0 +1,37 @@
+-- What an expression means: plain trees of two sorts, truths and numbers.
+use Rattle.std.specs.Prelude.{ℕ, Option}
+use Rattle.flt_words.specs.declared.token.Protocol.{Protocol}
+use Rattle.flt_words.specs.declared.token.Operator.{Operator}
+use Rattle.flt_words.specs.declared.token.Comparison.{Comparison}
+use Rattle.flt_words.specs.declared.token.Join.{Join}
+use Rattle.flt_words.specs.declared.token.Cast.{Cast}
+use Rattle.flt_words.specs.declared.token.Size.{Size}
+use Rattle.flt_ast.specs.declared.value.Value.{Value}
+use Rattle.flt_ast.specs.declared.qualifiers.Qualifiers.{Qualifiers}
+use Rattle.flt_ast.specs.declared.qualifiers.CompleteQualifiers.{CompleteQualifiers}
+
+-- an accessor has its size in bytes and its place
+pub data NumberTree : Type 0 where
+  literal : ℕ → NumberTree
+  len : NumberTree
+  named : ℕ → NumberTree
+  load : Protocol → ℕ → NumberTree → NumberTree
+  negated : NumberTree → NumberTree
+  applied : Operator → NumberTree → NumberTree → NumberTree
+
+-- a value stands alone, with what is written before it, or with all its qualifiers
+pub data TruthTree : Type 0 where
+  check : Protocol → TruthTree
+  cast : Option Protocol → Cast → TruthTree
+  sized : Size → ℕ → TruthTree
+  bare : Value → TruthTree
+  valued : Qualifiers → Value → TruthTree
+  qualified : CompleteQualifiers → Value → TruthTree
+  compared : Comparison → NumberTree → NumberTree → TruthTree
+  denied : TruthTree → TruthTree
+  joined : Join → TruthTree → TruthTree → TruthTree
+
+-- the empty expression is no operand of any other
+pub data Expression : Type 0 where
+  empty : Expression
+  truth : TruthTree → Expression

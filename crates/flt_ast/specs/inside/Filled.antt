@@ -1,0 +1,18 @@
+-- What is filled in, over a tree's nodes.
+use Rattle.std.specs.Prelude.{List, [], ◌∷◌}
+use Rattle.flt_ast.specs.declared.qualifiers.Qualifiers.{Qualifiers}
+use Rattle.flt_ast.specs.declared.node.Node.{Node}
+use Rattle.flt_ast.specs.declared.node.Node.TheVariants as node
+
+-- the same over the nodes
+abbrev pub next_latest : Qualifiers → Node → Qualifiers
+next_latest q (node.Valued p v) = p
+next_latest q _ = q
+
+abbrev pub inherited_node : Qualifiers → Node → Node
+inherited_node q (node.Bare v) = node.Valued q v
+inherited_node q n = n
+
+abbrev pub inherited_nodes : Qualifiers → List Node → List Node
+inherited_nodes q [] = []
+inherited_nodes q (n ∷ rest) = inherited_node q n ∷ inherited_nodes (next_latest q n) rest

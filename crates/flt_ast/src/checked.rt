@@ -1,0 +1,21 @@
+//! Expressions of which code can be made.
+
+ghost use Rattle.std.specs.Prelude.{◌≡◌, ◌≤◌, false};
+ghost use Rattle.flt_ast.specs.Resolved.{IsResolved, some_primitive};
+ghost use Rattle.flt_ast.specs.Counts.{words_of, bound_of};
+ghost use Rattle.flt_ast.specs.Checks.{divides_by_zero};
+
+use crate::expr::Expr;
+use std::alloc::Allocator;
+
+/// An expression with none of the faults that a tree may have: each value has all its qualifiers,
+/// they fit it, its numbers are in range, no divisor is the number 0, and a program for it is
+/// neither too wide nor too long.
+#[derive(Drop)]
+pub struct Checked<A: Allocator> {
+    pub expr: Expr<A>,
+    pub ghost resolved: { IsResolved expr },
+    pub ghost no_zero_divisor: { some_primitive divides_by_zero expr ≡ false },
+    pub ghost few_words: { words_of expr ≤ 16 },
+    pub ghost short: { bound_of expr ≤ 32768 },
+}

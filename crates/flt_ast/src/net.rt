@@ -1,0 +1,93 @@
+//! Networks: an address and its mask.
+
+ghost use Rattle.std.specs.Prelude.{◌≡◌};
+ghost use Rattle.flt_ast.specs.Nets.{first_bits, ip4_mask, ip6_mask};
+ghost use Rattle.flt_ast.specs.Nets.{ip4_net, ip6_net, is_past_mask};
+
+use crate::value::{NetMask, Value};
+
+/// A network of IPv4, or a host's address with the mask of all bits.
+#[derive(Clone, Copy)]
+pub struct Ip4Net {
+    pub address: u32,
+    pub mask: u32,
+}
+
+/// A network of IPv6, or a host's address with the mask of all bits.
+#[derive(Clone, Copy)]
+pub(crate) struct Ip6Net {
+    pub address: u128,
+    pub mask: u128,
+}
+
+impl Value {
+    /// The network of IPv4 that the value means. A number is the first byte; without a mask
+    /// the parts that are written are the network.
+    pub fn ip4_net(self) -> Option<Ip4Net>
+        ensures { result ≡ ip4_net self }
+    {
+        match self {
+            Value::Number(number, mask) => Some(Ip4Net {
+                address: number % 256 * 0x0100_0000,
+                mask: ip4_mask(1, mask),
+            }),
+            Value::Dotted(dotted, mask) => Some(Ip4Net {
+                address: dotted.address,
+                mask: ip4_mask(dotted.parts, mask),
+            }),
+            _ => None,
+        }
+    }
+
+    /// The network of IPv6 that the value means.
+    pub(crate) fn ip6_net(self) -> Option<Ip6Net>
+        ensures { result ≡ ip6_net self }
+    {
+        match self {
+            Value::Ip6(address, len) => Some(Ip6Net {
+                address,
+                mask: ip6_first_bits(len.unwrap_or(128)),
+            }),
+            _ => None,
+        }
+    }
+
+    /// Whether the address has bits that the mask leaves out.
+    pub(crate) fn is_past_mask(self) -> bool
+        ensures { result ≡ is_past_mask self }
+    {
+        match (self.ip4_net(), self.ip6_net()) {
+            (Some(net), _) => net.address & net.mask != net.address,
+            (_, Some(net)) => net.address & net.mask != net.address,
+            _ => false,
+        }
+    }
+}
+
+fn ip4_mask(parts: u8, mask: NetMask) -> u32
+    ensures { result ≡ ip4_mask parts mask }
+{
+    match mask {
+        NetMask::Unwritten => ip4_first_bits(8 * u32::from(parts)),
+        NetMask::Prefix(len) => ip4_first_bits(len),
+        NetMask::Mask(dotted) => dotted.address,
+    }
+}
+
+fn ip4_first_bits(len: u32) -> u32
+    ensures { result ≡ first_bits 32 len }
+{
+    match 32u32.saturating_sub(len) {
+        32 => 0,
+        rest => u32::MAX - ((1 << rest) - 1),
+    }
+}
+
+fn ip6_first_bits(len: u32) -> u128
+    ensures { result ≡ first_bits 128 len }
+{
+    match 128u32.saturating_sub(len) {
+        128 => 0,
+        rest => u128::MAX - ((1 << rest) - 1),
+    }
+}

@@ -1,0 +1,169 @@
+//! The nodes of a tree.
+
+use crate::fits::{Fit, fit_of, is_cast_misfit};
+use crate::node_counts::{accessor_tests, cast_tests, check_tests, value_tests};
+use crate::qualifiers::{CompleteQualifiers, Direction, Qualifiers};
+use crate::value::Value;
+use flt_words::{Cast, Comparison, Join, Operator, Protocol, Size, ValueType};
+
+/// A node of a tree. The nodes of an expression are in the order in which a machine with a stack
+/// would work on them: operands first, then what takes them.
+#[derive(Clone, Copy)]
+pub enum Node {
+    /// A protocol alone: the packet is of it.
+    Check(Protocol),
+    /// `broadcast` or `multicast`, with the protocol before it.
+    Cast(Option<Protocol>, Cast),
+    /// `less N` or `greater N`.
+    Sized(Size, u32),
+    /// A value with nothing before it.
+    Bare(Value),
+    /// A value with what is written before it.
+    Valued(Qualifiers, Value),
+    /// A value with all its qualifiers.
+    Qualified(CompleteQualifiers, Value),
+    /// Takes two numbers.
+    Compare(Comparison),
+    /// Takes a truth.
+    Not,
+    /// Takes two truths.
+    Join(Join),
+    /// A number.
+    Literal(u32),
+    /// The length of the packet.
+    Len,
+    /// A name of a number.
+    Named(u32),
+    /// Takes a number, the place, and reads this many bytes there: 1 where no size is written.
+    Load(Protocol, u32),
+    /// Takes a number.
+    Negate,
+    /// Takes two numbers.
+    Apply(Operator),
+}
+
+impl Node {
+    ghost use Rattle.std.specs.Prelude.{◌≡◌, ◌≤◌, ◌<◌, ◌^◌};
+    ghost use Rattle.flt_ast.specs.Filled.{completed_node};
+    ghost use Rattle.flt_ast.specs.Resolved.{is_misfit_node, is_out_of_range_node};
+    ghost use Rattle.flt_ast.specs.Resolved.{has_past_bits_node};
+    ghost use Rattle.flt_ast.specs.Counts.{node_tests, node_size};
+    ghost use Rattle.flt_ast.specs.Heights.{height_after, peak};
+
+    /// Whether what is written before a value, or before `broadcast`, does not go with it.
+    pub fn is_misfit(self) -> bool
+        ensures { result ≡ is_misfit_node self }
+    {
+        match self {
+            Node::Cast(protocol, cast) => is_cast_misfit(protocol, cast),
+            Node::Valued(qualifiers, value) => {
+                let value_type = qualifiers.type_or_host();
+                fit_of(value_type, value, qualifiers.protocol) == Fit::Misfit
+                    || value_type == ValueType::Proto && qualifiers.direction.is_some()
+            }
+            Node::Qualified(qualifiers, value) => {
+                fit_of(qualifiers.value_type, value, qualifiers.protocol) == Fit::Misfit
+                    || qualifiers.value_type == ValueType::Proto
+                        && !matches!(qualifiers.direction, Direction::Both(Join::Or))
+            }
+            _ => false,
+        }
+    }
+
+    /// Whether a number of a value, or the size of an accessor, is out of range.
+    pub fn is_out_of_range(self) -> bool
+        ensures { result ≡ is_out_of_range_node self }
+    {
+        match self {
+            Node::Valued(qualifiers, value) => {
+                fit_of(qualifiers.type_or_host(), value, qualifiers.protocol) == Fit::OutOfRange
+            }
+            Node::Qualified(qualifiers, value) => {
+                fit_of(qualifiers.value_type, value, qualifiers.protocol) == Fit::OutOfRange
+            }
+            Node::Load(_, size) => !matches!(size, 1 | 2 | 4),
+            _ => false,
+        }
+    }
+
+    /// Whether the address of a network has bits that its mask leaves out.
+    pub fn has_past_bits(self) -> bool
+        ensures { result ≡ has_past_bits_node self }
+    {
+        match self {
+            Node::Valued(qualifiers, value) => {
+                qualifiers.type_or_host() == ValueType::Net && value.is_past_mask()
+            }
+            Node::Qualified(qualifiers, value) => {
+                qualifiers.value_type == ValueType::Net && value.is_past_mask()
+            }
+            _ => false,
+        }
+    }
+
+    /// The node with what is left out before its value filled in.
+    pub fn completed(self) -> Node
+        ensures { result ≡ completed_node self }
+    {
+        match self {
+            Node::Valued(qualifiers, value) => Node::Qualified(qualifiers.full(), value),
+            _ => self,
+        }
+    }
+
+    /// How many tests it counts as.
+    pub fn tests(self) -> u8
+        ensures count { result ≡ node_tests self }
+        ensures upper_bound { result ≤ 27 }
+    {
+        match self {
+            Node::Check(protocol) => check_tests(protocol),
+            Node::Cast(_, cast) => cast_tests(cast),
+            Node::Qualified(qualifiers, value) => value_tests(qualifiers, value),
+            Node::Sized(_, _) | Node::Compare(_) => 1,
+            Node::Load(protocol, _) => accessor_tests(protocol),
+            _ => 0,
+        }
+    }
+
+    /// How many nodes of arithmetic it counts as.
+    pub fn size(self) -> u8
+        ensures count { result ≡ node_size self }
+        ensures upper_bound { result ≤ 2 }
+    {
+        match self {
+            Node::Sized(_, _) => 2,
+            Node::Literal(_)
+            | Node::Named(_)
+            | Node::Len
+            | Node::Load(_, _)
+            | Node::Negate
+            | Node::Apply(_) => 1,
+            _ => 0,
+        }
+    }
+
+    /// How many numbers wait after it, where `height` wait in front of it.
+    pub fn height_after(self, height: usize) -> usize
+        requires { height < 2 ^ 63 }
+        ensures { result ≡ height_after height self }
+    {
+        match self {
+            Node::Literal(_) | Node::Named(_) | Node::Len => height + 1,
+            Node::Apply(_) => height.saturating_sub(1),
+            Node::Compare(_) => height.saturating_sub(2),
+            _ => height,
+        }
+    }
+
+    /// The most that wait at once.
+    pub fn peak(self, height: usize) -> usize
+        requires { height < 2 ^ 63 }
+        ensures { result ≡ peak height self }
+    {
+        match self {
+            Node::Sized(_, _) => height + 2,
+            _ => self.height_after(height),
+        }
+    }
+}

@@ -1,0 +1,129 @@
+//! What a node adds to the counts of an expression.
+
+ghost use Rattle.std.specs.Prelude.{◌≡◌, ◌≤◌};
+ghost use Rattle.flt_ast.specs.Counts.{side_tests, proto_tests, check_tests, ether_tests};
+ghost use Rattle.flt_ast.specs.Counts.{cast_tests, ip4_tests, ip6_test_count, transport_tests};
+ghost use Rattle.flt_ast.specs.Counts.{port_tests, address_tests, value_tests};
+ghost use Rattle.flt_ast.specs.Counts.{accessor_test_count};
+
+use crate::qualifiers::{CompleteQualifiers, Direction};
+use crate::value::Value;
+use flt_words::{Cast, Protocol, Side, ValueType};
+
+fn side_tests(direction: Direction, tests: u8) -> u8
+    requires { tests ≤ 4 }
+    ensures count { result ≡ side_tests direction tests }
+    ensures upper_bound { result ≤ 8 }
+{
+    match direction {
+        Direction::One(_) => tests,
+        Direction::Both(_) => tests + tests,
+    }
+}
+
+fn proto_tests(protocol: Option<Protocol>) -> u8
+    ensures count { result ≡ proto_tests protocol }
+    ensures upper_bound { result ≤ 4 }
+{
+    match protocol {
+        None => 4,
+        Some(_) => 2,
+    }
+}
+
+pub(crate) fn check_tests(protocol: Protocol) -> u8
+    ensures count { result ≡ check_tests protocol }
+    ensures upper_bound { result ≤ 4 }
+{
+    match protocol {
+        Protocol::Tcp | Protocol::Udp => proto_tests(None),
+        Protocol::Icmp => proto_tests(Some(Protocol::Ip)),
+        Protocol::Icmp6 => proto_tests(Some(Protocol::Ip6)),
+        _ => 1,
+    }
+}
+
+fn ether_tests(direction: Direction) -> u8
+    ensures count { result ≡ ether_tests direction }
+    ensures upper_bound { result ≤ 9 }
+{
+    1 + side_tests(direction, 2)
+}
+
+pub(crate) fn cast_tests(cast: Cast) -> u8
+    ensures count { result ≡ cast_tests cast }
+    ensures upper_bound { result ≤ 9 }
+{
+    match cast {
+        Cast::Broadcast => ether_tests(Direction::One(Side::Destination)),
+        Cast::Multicast => 2,
+    }
+}
+
+fn ip4_tests(protocol: Option<Protocol>, direction: Direction) -> u8
+    ensures count { result ≡ ip4_tests protocol direction }
+    ensures upper_bound { result ≤ 27 }
+{
+    let one_form = 1 + side_tests(direction, 1);
+    match protocol {
+        None => one_form + one_form + one_form,
+        Some(_) => one_form,
+    }
+}
+
+fn transport_tests(protocol: Option<Protocol>) -> u8
+    ensures count { result ≡ transport_tests protocol }
+    ensures upper_bound { result ≤ 2 }
+{
+    match protocol {
+        None => 2,
+        Some(_) => 1,
+    }
+}
+
+fn port_tests(protocol: Option<Protocol>, direction: Direction, tests: u8) -> u8
+    requires { tests ≤ 2 }
+    ensures count { result ≡ port_tests protocol direction tests }
+    ensures upper_bound { result ≤ 23 }
+{
+    let transport = transport_tests(protocol);
+    let sides = side_tests(direction, tests);
+    (1 + transport + 1 + sides) + (1 + transport + sides)
+}
+
+fn address_tests(protocol: Option<Protocol>, direction: Direction, value: Value) -> u8
+    ensures count { result ≡ address_tests protocol direction value }
+    ensures upper_bound { result ≤ 27 }
+{
+    match value {
+        Value::Mac(_) => ether_tests(direction),
+        Value::Ip6(_, _) => 1 + side_tests(direction, 4),
+        _ => ip4_tests(protocol, direction),
+    }
+}
+
+pub(crate) fn value_tests(qualifiers: CompleteQualifiers, value: Value) -> u8
+    ensures count { result ≡ value_tests qualifiers value }
+    ensures upper_bound { result ≤ 27 }
+{
+    match qualifiers.value_type {
+        ValueType::Host | ValueType::Net => address_tests(
+            qualifiers.protocol,
+            qualifiers.direction,
+            value,
+        ),
+        ValueType::Port => port_tests(qualifiers.protocol, qualifiers.direction, 1),
+        ValueType::PortRange => port_tests(qualifiers.protocol, qualifiers.direction, 2),
+        ValueType::Proto => proto_tests(qualifiers.protocol),
+    }
+}
+
+pub(crate) fn accessor_tests(protocol: Protocol) -> u8
+    ensures count { result ≡ accessor_test_count protocol }
+    ensures upper_bound { result ≤ 3 }
+{
+    match protocol {
+        Protocol::Tcp | Protocol::Udp | Protocol::Icmp => 3,
+        _ => 1,
+    }
+}

@@ -1,0 +1,138 @@
+-- The elementary tests, as a table for every link, and what they read of a packet.
+use Rattle.std.specs.Prelude.{ℕ, ◌+◌, ◌%◌, ◌^◌, ◌==◌, not, nat_lt, nat_le, Bool, true, false, List, Option, Some, None, bit_and}
+use Rattle.cap_octet.specs.Assigned.{ETHERTYPE_IPV4, ETHERTYPE_IPV6, ETHERTYPE_ARP, ETHERTYPE_RARP}
+use Rattle.cap_octet.specs.Link.{network_offset, type_offset}
+use Rattle.flt_bpf.specs.declared.operation.Width.{Width}
+use Rattle.flt_bpf.specs.declared.operation.Width.TheVariants.{HalfWord, Byte}
+use Rattle.flt_bpf.specs.Machine.{field, header_length}
+use Rattle.flt_words.specs.declared.token.Comparison.{Comparison}
+use Rattle.flt_words.specs.declared.token.Comparison.TheVariants.{Equal, NotEqual, Less, AtMost, Greater, AtLeast}
+use Rattle.cap_octet.specs.declared.link.Link.{Link}
+use Rattle.cap_octet.specs.declared.link.Link.TheVariants.{Ether}
+use Rattle.flt_emit.specs.declared.elementary.FrameKind.{FrameKind}
+use Rattle.flt_emit.specs.declared.elementary.FrameKind.TheVariants.{Ethernet, Ip, Ip6, Arp, Rarp}
+use Rattle.flt_emit.specs.declared.elementary.Offset.{Offset}
+use Rattle.flt_emit.specs.declared.elementary.Offset.TheVariants.{Fixed, AfterHeader}
+use Rattle.flt_emit.specs.declared.elementary.FieldTest.{FieldTest}
+use Rattle.flt_emit.specs.declared.elementary.Elementary.{Elementary}
+use Rattle.flt_emit.specs.declared.elementary.Elementary.TheVariants.{Outcome, Field}
+
+-- what is read of a packet: a rejection is neither yes nor no
+pub data Reading : Type 0 where
+  Yes : Reading
+  No : Reading
+  Rejected : Reading
+
+-- a truth, or where there is none, a rejection
+abbrev pub reading_of : Option Bool → Reading
+reading_of None = Rejected
+reading_of (Some true) = Yes
+reading_of (Some false) = No
+
+-- goes on with a value, if there is one
+abbrev pub with : {A B : Type 0} → Option A → (A → Option B) → Option B
+with None f = None
+with (Some a) f = f a
+
+-- whether one number compares so with another
+abbrev pub compares : Comparison → ℕ → ℕ → Bool
+compares Equal a b = a == b
+compares NotEqual a b = not (a == b)
+compares Less a b = nat_lt a b
+compares AtMost a b = nat_le a b
+compares Greater a b = nat_lt b a
+compares AtLeast a b = nat_le b a
+
+-- the length in bytes of the header that begins at a place
+abbrev pub header_at : List ℕ → ℕ → Option ℕ
+header_at p at = with (field p at Byte) (λ byte. Some (header_length byte))
+
+-- a field of a packet, or none where it isn't all captured; places are taken modulo 2^32
+abbrev pub field_at : Offset → Width → List ℕ → Option ℕ
+field_at (Fixed k) width p = field p k width
+field_at (AfterHeader header k) width p =
+    with (header_at p header) (λ x. field p ((x + k) % 2 ^ 32) width)
+
+-- the bits of a mask
+abbrev pub under_mask : Option ℕ → ℕ → ℕ
+under_mask None v = v
+under_mask (Some mask) v = bit_and v mask
+
+abbrev pub field_reads : FieldTest → List ℕ → Reading
+field_reads t p =
+    reading_of
+    (with (field_at t.offset t.width p)
+    (λ v. Some (compares t.comparison (under_mask t.mask v) t.value)))
+
+abbrev pub elementary_reads : Elementary → List ℕ → Reading
+elementary_reads (Outcome b) p = reading_of (Some b)
+elementary_reads (Field t) p = field_reads t p
+
+-- the field at a place is this number; its bits under a mask are; it is at least, or at most, this
+-- number
+abbrev pub is_at : ℕ → Width → ℕ → Elementary
+is_at at width value =
+    Field (record {
+      offset = Fixed at;
+      width = width;
+      mask = None;
+      comparison = Equal;
+      value = value;
+    })
+
+abbrev pub is_masked : ℕ → Width → ℕ → ℕ → Elementary
+is_masked at width mask value =
+    Field (record {
+      offset = Fixed at;
+      width = width;
+      mask = Some mask;
+      comparison = Equal;
+      value = value;
+    })
+
+abbrev pub compares_at : Offset → Width → Comparison → ℕ → Elementary
+compares_at offset width comparison value =
+    Field (record {
+      offset = offset;
+      width = width;
+      mask = None;
+      comparison = comparison;
+      value = value;
+    })
+
+-- the EtherType at a place in the link header is this number; raw IP has none
+abbrev pub has_type_at : Option ℕ → ℕ → Elementary
+has_type_at None n = Outcome false
+has_type_at (Some at) n = is_at at HalfWord n
+
+abbrev pub has_type : Link → ℕ → Elementary
+has_type link n = has_type_at (type_offset link) n
+
+-- a frame is of a kind: by the EtherType at a place, or of raw IP by the version in its first byte
+abbrev pub type_test : Option ℕ → FrameKind → Elementary
+type_test type_offset Ethernet = Outcome false
+type_test None Ip = is_masked 0 Byte 0xf0 0x40
+type_test None Ip6 = is_masked 0 Byte 0xf0 0x60
+type_test at Ip = has_type_at at ETHERTYPE_IPV4
+type_test at Ip6 = has_type_at at ETHERTYPE_IPV6
+type_test at Arp = has_type_at at ETHERTYPE_ARP
+type_test at Rarp = has_type_at at ETHERTYPE_RARP
+
+abbrev pub is_ethernet : Link → Bool
+is_ethernet Ether = true
+is_ethernet _ = false
+
+abbrev pub kind_test : Link → FrameKind → Elementary
+kind_test link Ethernet = Outcome (is_ethernet link)
+kind_test link kind = type_test (type_offset link) kind
+
+-- an IPv4 packet is no fragment but the first
+abbrev pub first_fragment : Link → Elementary
+first_fragment link = is_masked (network_offset link + 6) HalfWord 0x1fff 0
+
+-- the protocol after an IPv4 header, and after an IPv6 header
+abbrev pub has_ip_proto : Link → ℕ → Elementary
+has_ip_proto link n = is_at (network_offset link + 9) Byte n
+
+abbrev pub has_ip6_proto : Link → ℕ → Elementary
+has_ip6_proto link n = is_at (network_offset link + 6) Byte n

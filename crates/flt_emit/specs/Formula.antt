@@ -1,0 +1,131 @@
+-- Tests joined by and, or and not, and how they are read.
+use Rattle.std.specs.Prelude.{ℕ, ◌==◌, ◌||◌, nat_lt, if◌then◌else◌, Bool, true, false, List, [], ◌∷◌, length, Some, None}
+use Rattle.flt_bpf.specs.declared.operation.Width.{Width}
+use Rattle.flt_words.specs.declared.token.Comparison.{Comparison}
+use Rattle.flt_words.specs.declared.token.Comparison.TheVariants.{Equal}
+use Rattle.flt_words.specs.declared.token.Protocol.{Protocol}
+use Rattle.flt_words.specs.declared.token.Side.TheVariants.{Source, Destination}
+use Rattle.flt_words.specs.declared.token.Join.TheVariants.{And, Or}
+use Rattle.flt_ast.specs.declared.qualifiers.Direction.{Direction}
+use Rattle.flt_ast.specs.declared.qualifiers.Direction.TheVariants as direction
+use Rattle.flt_ast.specs.Tree.{NumberTree}
+use Rattle.cap_octet.specs.declared.link.Link.{Link}
+use Rattle.flt_emit.specs.declared.elementary.Elementary.{Elementary}
+use Rattle.flt_emit.specs.declared.elementary.MaskedField.{MaskedField}
+use Rattle.flt_emit.specs.declared.elementary.Offset.{Offset}
+use Rattle.flt_emit.specs.declared.elementary.Sides.{Sides}
+use Rattle.flt_emit.specs.declared.elementary.Elementary.TheVariants.{Outcome}
+use Rattle.flt_emit.specs.Elementary.{Reading, Yes, No, Rejected, reading_of, with, compares, field_at, under_mask, elementary_reads, compares_at}
+use Rattle.flt_emit.specs.Numbers.{number, accessor_tests}
+
+pub data Formula : Type 0 where
+  Single : Elementary → Formula
+  Compare : Comparison → NumberTree → NumberTree → Formula
+  Both : Formula → Formula → Formula
+  Either : Formula → Formula → Formula
+  Except : Formula → Formula
+  -- a test and then a formula: where the test was yes is known to the formula's code
+  Guard : Elementary → Formula → Formula
+  -- one of two tests and then a formula
+  Fork : Elementary → Elementary → Formula → Formula
+  -- (test and formula) or another formula, which the test excludes: so where the test was yes its
+  -- code skips the other formula
+  Choose : Elementary → Formula → Formula → Formula
+  -- a field is one of some numbers
+  Among : MaskedField → List ℕ → Formula
+
+-- the second is read only where the first is yes; only where it is no
+abbrev pub both : Reading → Reading → Reading
+both Yes b = b
+both No b = No
+both Rejected b = Rejected
+
+abbrev pub either : Reading → Reading → Reading
+either Yes b = Yes
+either No b = b
+either Rejected b = Rejected
+
+-- yes and no are exchanged
+abbrev pub negation : Reading → Reading
+negation Yes = No
+negation No = Yes
+negation Rejected = Rejected
+
+abbrev pub relation_reads : Link → Comparison → NumberTree → NumberTree → List ℕ → ℕ → Reading
+relation_reads link c l r p n =
+    reading_of (with (number link l p n)
+    (λ x. with (number link r p n) (λ y. Some (compares c x y))))
+
+abbrev pub is_one_of : ℕ → List ℕ → Bool
+is_one_of x [] = false
+is_one_of x (v ∷ vs) = x == v || is_one_of x vs
+
+-- a field that is one of some numbers is a yes, another one a no, and one that isn't all captured
+-- is rejected
+abbrev pub among_reads : MaskedField → List ℕ → List ℕ → Reading
+among_reads f vs p =
+    reading_of (with (field_at f.offset f.width p) (λ x. Some (is_one_of (under_mask f.mask x) vs)))
+
+-- the reading of a formula on a packet of original length n
+abbrev pub reads : Link → Formula → List ℕ → ℕ → Reading
+reads link (Single t) p n = elementary_reads t p
+reads link (Compare c l r) p n = relation_reads link c l r p n
+reads link (Both a b) p n = both (reads link a p n) (reads link b p n)
+reads link (Either a b) p n = either (reads link a p n) (reads link b p n)
+reads link (Except a) p n = negation (reads link a p n)
+reads link (Guard t a) p n = both (elementary_reads t p) (reads link a p n)
+reads link (Fork t u a) p n =
+    both (either (elementary_reads t p) (elementary_reads u p)) (reads link a p n)
+reads link (Choose t a b) p n =
+    either (both (elementary_reads t p) (reads link a p n)) (reads link b p n)
+reads link (Among f vs) p n = among_reads f vs p
+
+-- all of some tests
+abbrev pub all_of : List Elementary → Formula
+all_of [] = Single (Outcome true)
+all_of (t ∷ []) = Single t
+all_of (t ∷ u ∷ ts) = Both (Single t) (all_of (u ∷ ts))
+
+-- some tests, and then a formula
+abbrev pub guarded_formula : List Elementary → Formula → Formula
+guarded_formula [] f = f
+guarded_formula (t ∷ ts) f = Both (Single t) (guarded_formula ts f)
+
+-- the tests of accessors, and then a formula
+abbrev pub checked_formula : Link → List Protocol → Formula → Formula
+checked_formula link [] f = f
+checked_formula link (protocol ∷ rest) f =
+    guarded_formula (accessor_tests link protocol) (checked_formula link rest f)
+
+-- the tests of the source and of the destination, as a direction asks for them
+abbrev pub sides : Direction → List Elementary → List Elementary → Formula
+sides (direction.One Source) source destination = all_of source
+sides (direction.One Destination) source destination = all_of destination
+sides (direction.Both Or) source destination = Either (all_of source) (all_of destination)
+sides (direction.Both And) source destination = Both (all_of source) (all_of destination)
+
+-- several numbers on a side, or on either. The source is compared with the first alone before the
+-- destination is looked at: so a packet that ends between the two is read as by tests of one number
+-- after the other. After the destination the source is known not to be the first
+
+abbrev pub whole_field : Offset → Width → MaskedField
+whole_field offset width = record { offset = offset; width = width; mask = None }
+
+-- the numbers without one of them
+abbrev pub without : ℕ → List ℕ → List ℕ
+without a [] = []
+without a (v ∷ vs) = if v == a then vs else v ∷ without a vs
+
+-- those that are left after the first, of which there is one at least
+abbrev pub remaining : ℕ → List ℕ → List ℕ
+remaining first numbers = if nat_lt (length numbers) 2 then numbers else without first numbers
+
+abbrev pub any_sides : Direction → Sides → ℕ → List ℕ → Formula
+any_sides (direction.One Source) at first numbers = Among (whole_field at.source at.width) numbers
+any_sides (direction.One Destination) at first numbers =
+    Among (whole_field at.destination at.width) numbers
+any_sides (direction.Both Or) at first numbers =
+    Either (Single (compares_at at.source at.width Equal first))
+    (Either (Among (whole_field at.destination at.width) numbers)
+    (Among (whole_field at.source at.width) (remaining first numbers)))
+any_sides (direction.Both And) at first numbers = Single (Outcome false)

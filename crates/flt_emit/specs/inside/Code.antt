@@ -1,0 +1,277 @@
+-- The code of a formula, which is emitted in front of the code that is there.
+use Rattle.std.specs.Prelude.{ℕ, zero, suc, ◌+◌, ◌-◌, ◌/◌, true, false, nat_le, nat_lt, ◌==◌, not, ◌&&◌, if◌then◌else◌, Bool, List, [], ◌∷◌, length, take, drop, get_or, Option, Some, None}
+use Rattle.flt_bpf.specs.declared.insn.Insn.{Insn}
+use Rattle.flt_bpf.specs.declared.operation.Width.{Width}
+use Rattle.flt_bpf.specs.declared.operation.Test.{Test}
+use Rattle.flt_bpf.specs.declared.operation.Test.TheVariants as test
+use Rattle.flt_bpf.specs.declared.operation.Operand.{Operand}
+use Rattle.flt_bpf.specs.declared.operation.Operand.TheVariants.{Constant, IndexRegister}
+use Rattle.flt_words.specs.declared.token.Operator.{Operator}
+use Rattle.flt_words.specs.declared.token.Operator.TheVariants.{Or, And, ShiftLeft, ShiftRight, Add, Subtract, Multiply, Divide, Remainder, ExclusiveOr}
+use Rattle.flt_words.specs.declared.token.Comparison.{Comparison}
+use Rattle.flt_words.specs.declared.token.Comparison.TheVariants.{Equal, NotEqual, Less, AtMost, Greater, AtLeast}
+use Rattle.flt_words.specs.declared.token.Protocol.{Protocol}
+use Rattle.flt_words.specs.declared.token.Protocol.TheVariants.{Ether, Tcp, Udp, Icmp}
+use Rattle.flt_ast.specs.Tree.{NumberTree, literal, len, named, load, negated, applied}
+use Rattle.cap_octet.specs.declared.link.Link.{Link}
+use Rattle.flt_emit.specs.declared.code.Reach.{Reach}
+use Rattle.flt_emit.specs.declared.code.Reach.TheVariants.{Near, YesFar, NoFar, BothFar}
+use Rattle.flt_emit.specs.declared.follow.Knowledge.{Knowledge}
+use Rattle.flt_emit.specs.declared.elementary.Offset.{Offset}
+use Rattle.flt_emit.specs.declared.elementary.Offset.TheVariants.{Fixed, AfterHeader}
+use Rattle.flt_emit.specs.declared.elementary.FieldTest.{FieldTest}
+use Rattle.flt_emit.specs.declared.elementary.Elementary.{Elementary}
+use Rattle.flt_emit.specs.declared.elementary.MaskedField.{MaskedField}
+use Rattle.flt_emit.specs.declared.elementary.Elementary.TheVariants.{Outcome, Field}
+use Rattle.flt_emit.specs.Elementary.{with}
+use Rattle.cap_octet.specs.Link.{network_offset}
+use Rattle.flt_emit.specs.inside.Follow.{fact, always, and_fact, and_fork, target}
+use Rattle.flt_emit.specs.Numbers.{width_of}
+use Rattle.flt_emit.specs.Formula.{Formula, Single, Compare, Both, Either, Except, Guard, Fork, Choose, Among}
+use Rattle.flt_bpf.specs.declared.operation.Operation.{Operation}
+use Rattle.flt_bpf.specs.declared.operation.Operation.TheVariants.{LoadAbsolute, LoadIndirect, Load, LoadHeaderLength, Store, Compute, Negate, Jump, JumpIf, CopyToIndex}
+use Rattle.flt_bpf.specs.declared.operation.Register.TheVariants.{Accumulator}
+use Rattle.flt_bpf.specs.declared.operation.Source.TheVariants.{Immediate, Memory, Length}
+use Rattle.flt_bpf.specs.declared.operation.AluOperation.{AluOperation}
+use Rattle.flt_bpf.specs.declared.operation.AluOperation.TheVariants as arithmetic
+use Rattle.flt_bpf.specs.Instructions.{code_of}
+
+-- an instruction that isn't a test
+abbrev pub plain : Operation → ℕ → Insn
+plain operation k = record { code = code_of operation; jt = 0; jf = 0; k = k }
+
+-- the machine's operator for one of an expression
+abbrev pub alu_operation : Operator → AluOperation
+alu_operation Add = arithmetic.Add
+alu_operation Subtract = arithmetic.Subtract
+alu_operation Multiply = arithmetic.Multiply
+alu_operation Divide = arithmetic.Divide
+alu_operation Or = arithmetic.Or
+alu_operation And = arithmetic.And
+alu_operation ShiftLeft = arithmetic.ShiftLeft
+alu_operation ShiftRight = arithmetic.ShiftRight
+alu_operation Remainder = arithmetic.Remainder
+alu_operation ExclusiveOr = arithmetic.ExclusiveOr
+
+-- an operator with X, or with a constant
+abbrev pub computation : Operator → Operand → Operation
+computation operator operand = Compute (alu_operation operator) operand
+
+-- whether an operator's instruction may have a constant: a division by 0 and a shift by 32 or more
+-- aren't valid with one
+abbrev pub takes : Operator → ℕ → Bool
+takes Divide k = not (k == 0)
+takes Remainder k = not (k == 0)
+takes ShiftLeft k = nat_lt k 32
+takes ShiftRight k = nat_lt k 32
+takes _ k = true
+
+-- the constant that arithmetic is
+abbrev pub constant : NumberTree → Option ℕ
+constant (literal k) = Some k
+constant (named k) = Some k
+constant _ = None
+
+-- a right operand that is in the operator's instruction
+abbrev pub constant_operand : Operator → NumberTree → Option ℕ
+constant_operand operator r = with (constant r) (λ k. if takes operator k then Some k else None)
+
+-- the greatest offset of a conditional jump
+abbrev pub NEAR : ℕ
+NEAR = 255
+
+abbrev pub branch_insn : Test → Operand → ℕ → ℕ → ℕ → Insn
+branch_insn test operand k jt jf = record {
+  code = code_of (JumpIf test operand);
+  jt = jt;
+  jf = jf;
+  k = k;
+}
+
+-- a jump to a place, which is given as the number of instructions from there to the end
+abbrev pub emit_jump : ℕ → List Insn → List Insn
+emit_jump to c = plain Jump (length c - to) ∷ c
+
+-- how a test reaches its two places: one that is too far by a jump right after the test
+abbrev pub reach : ℕ → ℕ → List Insn → Reach
+reach hit miss c =
+    if nat_le (length c - hit) NEAR && nat_le (length c - miss) NEAR then Near
+    else (if nat_le (length c + 1 - miss) NEAR then YesFar
+    else (if nat_le (length c + 1 - hit) NEAR then NoFar else BothFar))
+
+abbrev pub emit_branch_by : Reach → Test → Operand → ℕ → ℕ → ℕ → List Insn → List Insn
+emit_branch_by Near test operand k hit miss c =
+    branch_insn test operand k (length c - hit) (length c - miss) ∷ c
+emit_branch_by YesFar test operand k hit miss c =
+    branch_insn test operand k 0 (length c + 1 - miss) ∷ emit_jump hit c
+emit_branch_by NoFar test operand k hit miss c =
+    branch_insn test operand k (length c + 1 - hit) 0 ∷ emit_jump miss c
+emit_branch_by BothFar test operand k hit miss c =
+    branch_insn test operand k 0 1 ∷ emit_jump hit (emit_jump miss c)
+
+-- a test that goes on at one of two places
+unfoldable pub emit_branch : Test → Operand → ℕ → ℕ → ℕ → List Insn → List Insn
+emit_branch test operand k hit miss c = emit_branch_by (reach hit miss c) test operand k hit miss c
+
+-- the machine has three of the six comparisons; the others exchange the places
+abbrev pub emit_comparison : Comparison → Operand → ℕ → ℕ → ℕ → List Insn → List Insn
+emit_comparison Equal operand k hit miss c = emit_branch test.Equal operand k hit miss c
+emit_comparison NotEqual operand k hit miss c = emit_branch test.Equal operand k miss hit c
+emit_comparison Less operand k hit miss c = emit_branch test.AtLeast operand k miss hit c
+emit_comparison AtMost operand k hit miss c = emit_branch test.Greater operand k miss hit c
+emit_comparison Greater operand k hit miss c = emit_branch test.Greater operand k hit miss c
+emit_comparison AtLeast operand k hit miss c = emit_branch test.AtLeast operand k hit miss c
+
+-- a field's number goes into A
+abbrev pub emit_field : Offset → Width → List Insn → List Insn
+emit_field (Fixed k) width c = plain (LoadAbsolute width) k ∷ c
+emit_field (AfterHeader header k) width c =
+    plain LoadHeaderLength header ∷ plain (LoadIndirect width) k ∷ c
+
+abbrev pub emit_mask : Option ℕ → List Insn → List Insn
+emit_mask None c = c
+emit_mask (Some mask) c = plain (Compute arithmetic.And Constant) mask ∷ c
+
+abbrev pub emit_test : FieldTest → ℕ → ℕ → List Insn → List Insn
+emit_test t hit miss c =
+    emit_field t.offset t.width (emit_mask t.mask
+    (emit_comparison t.comparison Constant t.value hit miss c))
+
+-- what loads an accessor's field where its first byte stands at the number in A
+abbrev pub emit_transport : Link → Width → List Insn → List Insn
+emit_transport link width c =
+    plain LoadHeaderLength (network_offset link) ∷ plain (Compute arithmetic.Add IndexRegister) 0
+    ∷ plain CopyToIndex 0 ∷ plain (LoadIndirect width) (network_offset link) ∷ c
+
+abbrev pub emit_base : ℕ → Width → List Insn → List Insn
+emit_base at width c = plain CopyToIndex 0 ∷ plain (LoadIndirect width) at ∷ c
+
+-- an accessor's field goes into A, its index being there
+abbrev pub emit_accessor : Link → Protocol → Width → List Insn → List Insn
+emit_accessor link Ether width c = emit_base 0 width c
+emit_accessor link Tcp width c = emit_transport link width c
+emit_accessor link Udp width c = emit_transport link width c
+emit_accessor link Icmp width c = emit_transport link width c
+emit_accessor link _ width c = emit_base (network_offset link) width c
+
+-- the left operand is in A when it goes into a word; later it comes back from there, and the right
+-- one is in X
+abbrev pub emit_operands : ℕ → List Insn → List Insn
+emit_operands slot c = plain CopyToIndex 0 ∷ plain (Load Accumulator Memory) slot ∷ c
+
+-- what is after a left operand: an instruction with the right one in it; or the left one goes into
+-- a word, and then the right one is computed
+abbrev pub emit_right : Option ℕ → ℕ → (ℕ → List Insn) → List Insn → List Insn
+emit_right (Some k) slot short long = short k
+emit_right None slot short long = plain (Store Accumulator) slot ∷ long
+
+-- arithmetic's value goes into A; the words from slot on are free for it
+abbrev pub emit_number : Link → NumberTree → ℕ → List Insn → List Insn
+emit_number link (literal k) slot c = plain (Load Accumulator Immediate) k ∷ c
+emit_number link (named k) slot c = plain (Load Accumulator Immediate) k ∷ c
+emit_number link len slot c = plain (Load Accumulator Length) 0 ∷ c
+emit_number link (load protocol size i) slot c =
+    emit_number link i slot (emit_accessor link protocol (width_of size) c)
+emit_number link (negated a) slot c = emit_number link a slot (plain Negate 0 ∷ c)
+emit_number link (applied operator l r) slot c =
+    emit_number link l slot (emit_right (constant_operand operator r) slot
+    (λ k. plain (computation operator Constant) k ∷ c)
+    (emit_number link r (slot + 1)
+    (emit_operands slot (plain (computation operator IndexRegister) 0 ∷ c))))
+
+abbrev pub emit_relation : Link → Comparison → NumberTree → NumberTree → ℕ → ℕ → List Insn
+    → List Insn
+emit_relation link comparison l r hit miss c =
+    emit_number link l 0 (emit_right (constant r) 0
+    (λ k. emit_comparison comparison Constant k hit miss c)
+    (emit_number link r 1 (emit_operands 0
+    (emit_comparison comparison IndexRegister 0 hit miss c))))
+
+-- code, and the place at which it is entered
+pub record Block : Type 0 where
+  pub code : List Insn
+  pub entry : ℕ
+
+abbrev pub block : List Insn → ℕ → Block
+block c entry = record { code = c; entry = entry }
+
+abbrev pub at_top : List Insn → Block
+at_top c = record { code = c; entry = length c }
+
+-- a test that is known takes no code; the targets of another are followed under what is known, and
+-- past a load of X that it made
+abbrev pub emit_elementary : Knowledge → Elementary → ℕ → ℕ → List Insn → Block
+emit_elementary known (Outcome true) hit miss c = record { code = c; entry = hit }
+emit_elementary known (Outcome false) hit miss c = record { code = c; entry = miss }
+emit_elementary known (Field t) hit miss c =
+    at_top (emit_test t (target c known t.offset (fact (Field t) true) hit)
+    (target c known t.offset (fact (Field t) false) miss) c)
+
+-- the code of one of two tests
+abbrev pub emit_fork : Knowledge → Elementary → Elementary → ℕ → ℕ → List Insn → Block
+emit_fork known t u hit miss c =
+    let e = emit_elementary (and_fact (fact t false) known) u hit miss c in
+    emit_elementary known t hit e.entry e.code
+
+-- a test in front of code, which is entered where the test is yes
+abbrev pub emit_after : Knowledge → Elementary → ℕ → Block → Block
+emit_after known t miss e = emit_elementary known t e.entry miss e.code
+
+-- whether A is one of some numbers, by one test after the other
+abbrev pub emit_chain : List ℕ → ℕ → ℕ → List Insn → Block
+emit_chain [] hit miss c = block c miss
+emit_chain (v ∷ vs) hit miss c =
+    let e = emit_chain vs hit miss c in
+    at_top (emit_branch test.Equal Constant v hit e.entry e.code)
+
+-- a test in front of the code of both halves: is A in the upper one, which begins with this number
+abbrev pub emit_halves : ℕ → Block → ℕ → Block
+emit_halves pivot lower upper =
+    at_top (emit_branch test.AtLeast Constant pivot upper lower.entry lower.code)
+
+-- whether A is one of some numbers, which ascend: halved so often, and then one after the other
+unfoldable pub emit_search : ℕ → List ℕ → ℕ → ℕ → List Insn → Block
+emit_search zero vs hit miss c = emit_chain vs hit miss c
+emit_search (suc k) vs hit miss c =
+    if nat_lt (length vs) 2 then emit_chain vs hit miss c else
+    (let upper = emit_search k (drop (length vs / 2) vs) hit miss c in
+    emit_halves (get_or vs (length vs / 2) 0)
+    (emit_search k (take (length vs / 2) vs) hit miss upper.code) upper.entry)
+
+-- how often numbers are halved at most
+abbrev pub LEVELS : ℕ
+LEVELS = 16
+
+-- the field goes into A; the targets are followed under what is known, and past a load of X that
+-- the field's made
+abbrev pub emit_among : Knowledge → MaskedField → List ℕ → ℕ → ℕ → List Insn → Block
+emit_among known f vs hit miss c =
+    let e = emit_search LEVELS vs (target c known f.offset always hit)
+    (target c known f.offset always miss) c in
+    at_top (emit_field f.offset f.width (emit_mask f.mask e.code))
+
+-- the code of a formula that goes on at one of two places
+abbrev pub emit_formula : Link → Knowledge → Formula → ℕ → ℕ → List Insn → Block
+emit_formula link known (Single t) hit miss c = emit_elementary known t hit miss c
+emit_formula link known (Compare comparison l r) hit miss c =
+    at_top (emit_relation link comparison l r hit miss c)
+emit_formula link known (Both a b) hit miss c =
+    let e = emit_formula link known b hit miss c in emit_formula link known a e.entry miss e.code
+emit_formula link known (Either a b) hit miss c =
+    let e = emit_formula link known b hit miss c in emit_formula link known a hit e.entry e.code
+emit_formula link known (Except a) hit miss c = emit_formula link known a miss hit c
+emit_formula link known (Guard t a) hit miss c =
+    emit_after known t miss (emit_formula link (and_fact (fact t true) known) a hit miss c)
+emit_formula link known (Fork t u a) hit miss c =
+    let e = emit_formula link (and_fork t u known) a hit miss c in
+    emit_fork known t u e.entry miss e.code
+emit_formula link known (Choose t a b) hit miss c =
+    let e = emit_formula link (and_fact (fact t false) known) b hit miss c in
+    emit_after known t e.entry (emit_formula link (and_fact (fact t true) known) a hit miss e.code)
+emit_formula link known (Among f vs) hit miss c = emit_among known f vs hit miss c
+
+-- all of some tests, from the last to the first
+abbrev pub emit_all : Knowledge → List Elementary → ℕ → ℕ → List Insn → Block
+emit_all known [] hit miss c = record { code = c; entry = hit }
+emit_all known (t ∷ ts) hit miss c =
+    let e = emit_all known ts hit miss c in emit_elementary known t e.entry miss e.code

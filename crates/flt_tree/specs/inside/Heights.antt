@@ -1,8 +1,0 @@
--- The height of a tree.
-use Rattle.std.specs.Prelude.{ℕ, max}
-use Rattle.flt_tree.specs.declared.node.Node.{Node}
-use Rattle.flt_tree.specs.Heights.{height_after, peak}
-
--- the number of them, and the greatest number so far
-abbrev pub climb : ℕ × ℕ → Node → ℕ × ℕ
-climb s n = (height_after s.0 n, max s.1 (peak s.0 n))
