@@ -24,6 +24,6 @@ pub use options::{BlockOption, Options};
 pub use read::{begins_section, block, frame};
 pub use table::Table;
 pub use write::{
-    fits, interface_end, interface_header, option_header, packet_end, packet_header,
-    padding_after, section_bytes, write_interface, write_packet,
+    fits, interface_end, interface_header, option_header, packet_end, packet_header, padding_after,
+    section_bytes, write_interface, write_packet,
 };

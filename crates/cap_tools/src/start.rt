@@ -11,8 +11,8 @@ ghost use Rattle.cap_tools.specs.Start.{assignment, lines_unless, preparing_of};
 use cap_command::{Command, Compile, Print};
 use cap_filter::filter::{Filter, read_code, read_words};
 use cap_filter::refusal::Refusal;
-use cap_process::{Policy, Writing};
 use cap_print::Options;
+use cap_process::{Policy, Writing};
 use std::alloc::Allocator;
 
 /// What a job does before its first packet.

@@ -8,8 +8,8 @@ use crate::line::Line;
 use crate::print_line::expression;
 use crate::usage::Usage;
 use crate::values::link;
-use capkit_args::ids;
 use cap_command::{Command, Compile};
+use capkit_args::ids;
 use clap::ArgMatches;
 use std::alloc::Global;
 

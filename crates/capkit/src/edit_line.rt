@@ -13,8 +13,8 @@ use crate::names::uses_name_twice;
 use crate::range::range_in;
 use crate::usage::Usage;
 use crate::values::{flag, format, short_number, span, text, text_if, texts, time};
-use capkit_args::ids;
 use cap_command::{Command, Edit, LEAST_WINDOW, MOST_RANGES, MOST_WINDOW, Shift};
+use capkit_args::ids;
 use clap::ArgMatches;
 use std::alloc::Global;
 

@@ -8,8 +8,8 @@ ghost use Rattle.capkit.specs.Line.{files_fault, files_in, IsUsageOf};
 use crate::names::uses_name_twice;
 use crate::usage::Usage;
 use crate::values::{text, texts};
-use capkit_args::ids;
 use cap_command::MOST_INPUTS;
+use capkit_args::ids;
 use clap::ArgMatches;
 use std::alloc::{AllocError, Global};
 

@@ -10,8 +10,8 @@ use crate::infos_line::infos_line;
 use crate::merge_line::merge_line;
 use crate::print_line::print_line;
 use crate::usage::Usage;
-use capkit_args::arguments::{Subcommand, matches_of, subcommand_named};
 use cap_command::{Command, Print};
+use capkit_args::arguments::{Subcommand, matches_of, subcommand_named};
 use clap::ArgMatches;
 use std::alloc::Global;
 

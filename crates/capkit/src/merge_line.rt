@@ -7,8 +7,8 @@ use crate::files::input_names;
 use crate::line::Line;
 use crate::usage::Usage;
 use crate::values::{flag, format, text};
-use capkit_args::ids;
 use cap_command::{Command, Merge};
+use capkit_args::ids;
 use clap::ArgMatches;
 use std::alloc::Global;
 

@@ -16,9 +16,9 @@ use crate::line::Line;
 use crate::names::uses_name_twice;
 use crate::usage::Usage;
 use crate::values::{flag, format, number, text, text_if, texts};
-use capkit_args::ids;
 use cap_command::{Command, Print};
 use cap_octet::Format;
+use capkit_args::ids;
 use clap::ArgMatches;
 use std::alloc::{AllocError, Global};
 

@@ -124,7 +124,10 @@ fn no_word_read_unwritten(insns: &[Insn]) -> bool
 pub extern "C" fn capkit_is_portable(insns: &[Insn]) -> u32
     ensures { result ≡ is_portable insns.now }
 {
-    if insns.len() <= MOST_ATTACHED && all_run_alike(insns, all_keep_x_small(insns)) && no_word_read_unwritten(insns) {
+    if insns.len() <= MOST_ATTACHED
+        && all_run_alike(insns, all_keep_x_small(insns))
+        && no_word_read_unwritten(insns)
+    {
         1
     } else {
         0

@@ -1,8 +1,8 @@
 //! The program again, over a capture that ends inside a record: the stored run of its status.
 #![tactic(auto)]
 
-use capkit_host::program::status;
 use capkit_engine::Jobs;
+use capkit_host::program::status;
 use std::process::ExitCode;
 
 fn main(rt: HostRuntime) -> ExitCode {

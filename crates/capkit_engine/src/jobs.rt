@@ -4,8 +4,8 @@ ghost use Rattle.cap_tools.specs.Start.{assignment};
 
 use cap_command::Command;
 use cap_octet::{Input, Output};
-use capkit_host::engine::Engine;
 use cap_tools::run;
+use capkit_host::engine::Engine;
 use std::alloc::Global;
 
 /// Runs each command by its job.

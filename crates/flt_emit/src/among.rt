@@ -11,8 +11,8 @@ use crate::context::Context;
 use crate::elementary::{Elementary, Fact, MaskedField, Offset, Sides};
 use crate::emit::{emit_elementary, emit_masked};
 use crate::table::compares_at;
-use flt_bpf::operation::{Operand, Test, Width};
 use flt_ast::Direction;
+use flt_bpf::operation::{Operand, Test, Width};
 use flt_words::{Comparison, Join, Side};
 use std::alloc::{AllocError, Allocator};
 

@@ -9,8 +9,8 @@ ghost use Rattle.flt_emit.specs.inside.Emits.{HasRoom, Emits, EmitsFormula};
 use crate::code::{Code, Targets};
 use crate::context::Context;
 use crate::elementary::{Elementary, Fact, FieldTest, Offset};
-use flt_bpf::operation::{AluOperation, Operand, Operation, Test, Width};
 use flt_ast::Direction;
+use flt_bpf::operation::{AluOperation, Operand, Operation, Test, Width};
 use flt_words::{Comparison, Join, Side};
 use std::alloc::{AllocError, Allocator};
 

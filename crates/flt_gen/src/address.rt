@@ -13,12 +13,12 @@ ghost use Rattle.flt_emit.specs.inside.Code.{emit_all};
 
 use crate::wanted::{Hosts, NetTest, partial_mask};
 use cap_octet::Link;
+use flt_ast::Direction;
 use flt_bpf::operation::Width;
 use flt_emit::{
     Code, Context, Elementary, FieldTest, FrameKind, Offset, Sides, emit_any_sides,
     emit_elementary, emit_sides, kind_test, network_offset,
 };
-use flt_ast::Direction;
 use flt_words::{Comparison, Join, Protocol, Side};
 use std::alloc::{AllocError, Allocator};
 
@@ -283,6 +283,12 @@ pub fn emit_ip6<A: Allocator>(
     let source = ip6_tests(prefix, address, start + 8);
     let destination = ip6_tests(prefix, address, start + 24);
     let kind = kind_test(context.link, FrameKind::Ip6);
-    let yes = emit_word_sides(code, context.following(kind), direction, &source, &destination)?;
+    let yes = emit_word_sides(
+        code,
+        context.following(kind),
+        direction,
+        &source,
+        &destination,
+    )?;
     emit_elementary(code, context.going_to(yes, context.to.no), kind)
 }

@@ -6,8 +6,8 @@ ghost use Rattle.flt_gen.specs.inside.Folding.{with_operator, with_folded};
 
 use crate::number::alu_operation;
 use crate::waiting::Stack;
-use flt_bpf::compute;
 use flt_ast::Node;
+use flt_bpf::compute;
 use flt_words::Operator;
 use std::alloc::{AllocError, Allocator};
 

@@ -8,13 +8,13 @@ ghost use Rattle.flt_gen.specs.Primitives.{ether_proto, check_formula, proto_for
 ghost use Rattle.flt_gen.specs.Primitives.{ether_host, mac_tests, is_group_address, cast_formula};
 
 use cap_octet::assigned::{IPPROTO_ICMP, IPPROTO_ICMPV6, IPPROTO_TCP, IPPROTO_UDP};
+use flt_ast::Direction;
 use flt_bpf::operation::Width;
 use flt_emit::{
     Code, Context, Elementary, FieldTest, FrameKind, Offset, compares_at, emit_all,
     emit_elementary, emit_sides, has_ip_proto, has_ip6_proto, has_type, is_at, kind_test,
     network_offset,
 };
-use flt_ast::Direction;
 use flt_words::{Cast, Comparison, Protocol, Side};
 use std::alloc::{AllocError, Allocator};
 

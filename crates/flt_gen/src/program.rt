@@ -9,11 +9,11 @@ ghost use Rattle.flt_gen.specs.inside.Walk.{emit_nodes, start_walk, insns_of};
 use crate::folding::folded_nodes;
 use crate::walk::Walk;
 use cap_octet::Link;
+use flt_ast::{Checked, Node};
 use flt_bpf::insn::Insn;
 use flt_bpf::program::{Program, check};
 use flt_passes::best_of;
 use flt_short::{pass_loads, shortened};
-use flt_ast::{Checked, Node};
 use std::alloc::{AllocError, Allocator};
 
 /// The instructions of a program for the tree with these nodes.

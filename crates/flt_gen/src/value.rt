@@ -12,9 +12,9 @@ use crate::group::Group;
 use crate::port::emit_ports;
 use crate::primitive::{emit_ether_host, emit_proto};
 use crate::wanted::{Hosts, NetTest, PortTest, Ports, partial_mask};
+use flt_ast::{CompleteQualifiers, Direction, Value};
 use flt_bpf::operation::{Operand, Operation, Register, Source};
 use flt_emit::{Code, Context, emit_comparison};
-use flt_ast::{CompleteQualifiers, Direction, Value};
 use flt_words::{Comparison, Protocol, Size, ValueType};
 use std::alloc::{AllocError, Allocator};
 

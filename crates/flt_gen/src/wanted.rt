@@ -3,8 +3,8 @@
 ghost use Rattle.std.specs.Prelude.{◌≡◌};
 ghost use Rattle.flt_gen.specs.Primitives.{partial_mask, net_test, port_test};
 
-use flt_emit::{Elementary, Offset};
 use flt_ast::Direction;
+use flt_emit::{Elementary, Offset};
 use flt_words::Protocol;
 
 /// The ports that are looked for.

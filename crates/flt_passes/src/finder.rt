@@ -215,7 +215,9 @@ impl<A: Allocator + Clone> Finder<'_, A> {
             return following(at, 0);
         };
         match decode(insn.code) {
-            Some(Operation::JumpIf(_, _)) => { following(at, if holds { insn.yes } else { insn.no }) }
+            Some(Operation::JumpIf(_, _)) => {
+                following(at, if holds { insn.yes } else { insn.no })
+            }
             _ => following(at, 0),
         }
     }

@@ -99,7 +99,10 @@ impl Node {
         let (yes, no) = match flow_of(operation) {
             Flow::Ends => (NOWHERE, NOWHERE),
             Flow::Goes => (indices.following(at, 0), indices.following(at, 0)),
-            Flow::Branches => (indices.following(at, insn.yes), indices.following(at, insn.no)),
+            Flow::Branches => (
+                indices.following(at, insn.yes),
+                indices.following(at, insn.no),
+            ),
         };
         Node {
             operation,

@@ -116,7 +116,13 @@ fn fits(following: &[Landing], way: Way, accumulator: bool, index: bool) -> bool
 }
 
 /// Both programs go on alike after an instruction that both have.
-fn goes_on(operation: Operation, new: Insn, landing: Landing, old: Insn, following: &[Landing]) -> bool
+fn goes_on(
+    operation: Operation,
+    new: Insn,
+    landing: Landing,
+    old: Insn,
+    following: &[Landing],
+) -> bool
     ensures { result ≡ goes_on operation new landing old following.now }
 {
     let Landing {
@@ -220,7 +226,13 @@ fn is_direct(indirect: u16, code: u16) -> bool
 
 /// It is one load for a number that goes to X by A, and a load at X.
 #[tactic(auto, unfolding(crate::specs::inside::Alike::direct_load))]
-fn direct_load(new: Insn, landing: Landing, old: Insn, after: &[Insn], following: &[Landing]) -> bool
+fn direct_load(
+    new: Insn,
+    landing: Landing,
+    old: Insn,
+    after: &[Insn],
+    following: &[Landing],
+) -> bool
     ensures { result ≡ direct_load new landing old after.now following.now }
 {
     let number = Operation::Load(Register::Accumulator, Source::Immediate).code();
@@ -286,7 +298,8 @@ fn header_load(
             };
             adds_header(old, *header_length, *add, *to_index)
                 && (loads_alike(*header_length, *length, *indirect, *load)
-                    && (old.k.wrapping_add(indirect.k) == load.k && fits(following, way, true, false)))
+                    && (old.k.wrapping_add(indirect.k) == load.k
+                        && fits(following, way, true, false)))
         }
         _ => false,
     }
@@ -307,7 +320,8 @@ fn stands(code: &[Insn], landing: Landing, old: Insn, after: &[Insn], following:
         [] => false,
         [new, ..] => {
             let new = *new;
-            (same_step(new, landing, old, following) || one_test(new, landing, old, after, following))
+            (same_step(new, landing, old, following)
+                || one_test(new, landing, old, after, following))
                 || (direct_load(new, landing, old, after, following)
                     || header_load(from, landing, old, after, following))
         }

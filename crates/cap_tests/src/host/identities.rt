@@ -1,11 +1,11 @@
 //! Files that are known again under other names.
 
 use super::folder::{CAPTURE, enter, leave, line_of, words_of};
+use capkit::Usage;
 use capkit_host::files::{Identify, Identity, is_plain};
 use capkit_host::overwrites::overwrites_input;
 use capkit_host::waiting::may_wait;
 use capkit_host::words;
-use capkit::Usage;
 use std::alloc::Global;
 use std::os::unix::fs::symlink;
 use std::{fs, io};

@@ -2,10 +2,10 @@
 
 use super::folder::{CAPTURE, LISTING, enter, leave, line_of, words_of};
 use super::streams::Streams;
-use capkit_host::progress::{Progress, can_write_over, is_in_foreground, start_of, total_size};
-use capkit_host::runner::run_command;
 use capkit::Line;
 use capkit_engine::Jobs;
+use capkit_host::progress::{Progress, can_write_over, is_in_foreground, start_of, total_size};
+use capkit_host::runner::run_command;
 use std::alloc::{AllocError, Global};
 use std::fs;
 use std::io::{self, IsTerminal};

@@ -1,11 +1,11 @@
 //! Runs over files: what is opened, read, created and left alone.
 
 use super::folder::{CAPTURE, enter, leave, line_of, words_of};
+use capkit_engine::Jobs;
 use capkit_host::opening::{create, open, read_listing};
 use capkit_host::progress::Progress;
 use capkit_host::runner::run;
 use capkit_host::stop::Stop;
-use capkit_engine::Jobs;
 use std::alloc::{AllocError, Global};
 use std::{fs, io};
 

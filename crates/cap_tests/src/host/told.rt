@@ -2,12 +2,12 @@
 
 use super::folder::words_of;
 use super::streams::{Streams, Written};
+use capkit::{Usage, command_of};
 use capkit_host::ending::end;
 use capkit_host::message::{Shown, ShownBytes, refusal_text};
 use capkit_host::refusal::{refuse, tell_refusal};
 use capkit_host::stop::{Stop, stopped};
 use capkit_host::words::with_help_option;
-use capkit::{Usage, command_of};
 use std::alloc::{AllocError, Global};
 use std::io::ErrorKind;
 
