@@ -49,8 +49,8 @@ PREPARED = ["IsPolicy None", "IsWhyRefused None"]
 COMMANDS = {"edit": [], "print": PREPARED, "merge": [], "infos": [], "compile": PREPARED}
 # Crates whose public functions are for other crates here.
 BETWEEN = {
-    "capkit_args", "cap_inputs", "cap_memory", "cap_process", "flt_emit", "flt_lay", "flt_opt", "flt_passes",
-    "flt_short", "flt_ast",
+    "capkit_args", "cap_inputs", "cap_process", "flt_emit", "flt_lay", "flt_opt", "flt_passes", "flt_short",
+    "flt_ast",
 }
 # What the pages promise of these.
 PROMISED = {

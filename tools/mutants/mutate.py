@@ -20,7 +20,7 @@ SHARES = {
     "flt_emit": 20, "flt_bpf": 30, "cap_octet": 28, "cap_pcap": 14, "cap_pcapng": 28, "cap_io": 26,
     "cap_command": 12, "cap_print": 28, "cap_filter": 10, "cap_window": 8, "cap_inputs": 12,
     "cap_process": 24, "cap_tools": 12, "capkit_args": 14, "capkit": 18, "capkit_host": 28,
-    "cap_memory": 26, "capkit_c": 26,
+    "capkit_c": 52,
 }  # fmt: skip
 
 # Proofs alone, examples, devices for tests, tests: files and folders.

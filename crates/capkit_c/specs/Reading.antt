@@ -2,12 +2,12 @@
 use Rattle.std.specs.Prelude.{◌≡◌, ℕ, List}
 use Rattle.cap_octet.specs.declared.fault.Fault.{Fault}
 use Rattle.cap_octet.specs.declared.fault.Fault.TheVariants as fault
-use Rattle.cap_memory.specs.Units.{NextLeaves}
-use Rattle.cap_memory.specs.declared.layout.Interface.{Interface}
-use Rattle.cap_memory.specs.declared.layout.Packet.{Packet}
-use Rattle.cap_memory.specs.declared.layout.Reader.{Reader}
-use Rattle.cap_memory.specs.declared.reader.Found.{Found}
-use Rattle.cap_memory.specs.declared.reader.Found.TheVariants as found
+use Rattle.capkit_c.specs.Units.{NextLeaves}
+use Rattle.capkit_c.specs.declared.memory.layout.Interface.{Interface}
+use Rattle.capkit_c.specs.declared.memory.layout.Packet.{Packet}
+use Rattle.capkit_c.specs.declared.memory.layout.Reader.{Reader}
+use Rattle.capkit_c.specs.declared.memory.reader.Found.{Found}
+use Rattle.capkit_c.specs.declared.memory.reader.Found.TheVariants as found
 
 -- the number of a fault, 201 to 221
 abbrev pub fault_number : Fault → ℕ

@@ -1,9 +1,9 @@
 -- What writes for C leave, in numbers.
 use Rattle.std.specs.Prelude.{◌≡◌, ℕ, List, Option}
 use Rattle.cap_octet.specs.declared.fault.Fault.{Fault}
-use Rattle.cap_memory.specs.Writing.{WriteLeaves}
-use Rattle.cap_memory.specs.declared.writing.Written.{Written}
-use Rattle.cap_memory.specs.declared.writing.Written.TheVariants as written
+use Rattle.capkit_c.specs.Buffers.{WriteLeaves}
+use Rattle.capkit_c.specs.declared.memory.writing.Written.{Written}
+use Rattle.capkit_c.specs.declared.memory.writing.Written.TheVariants as written
 use Rattle.capkit_c.specs.Reading.{fault_number}
 
 -- the number of what became of the bytes

@@ -1,13 +1,13 @@
 //! The units of a capture that lies in memory, pcap or pcapng.
 ghost use Rattle.std.specs.Prelude.{◌≡◌, List, length, take, drop};
-ghost use Rattle.cap_memory.specs.Layout.{declared_in};
-ghost use Rattle.cap_memory.specs.Units.{comment_by};
-ghost use Rattle.cap_memory.specs.declared.layout.Interface.{Interface};
+ghost use Rattle.capkit_c.specs.Layout.{declared_in};
+ghost use Rattle.capkit_c.specs.Units.{comment_by};
+ghost use Rattle.capkit_c.specs.declared.memory.layout.Interface.{Interface};
 ghost use Rattle.capkit_c.specs.Reading.{UnitLeaves, fault_number, found_number};
 ghost use Rattle.capkit_c.specs.Texts.{put_text};
 
+use crate::memory::{Found, Interface, Packet, Reader, comment_of, next_unit};
 use crate::texts::put;
-use cap_memory::{Found, Interface, Packet, Reader, comment_of, next_unit};
 use cap_octet::Fault;
 
 /// The number of a fault.

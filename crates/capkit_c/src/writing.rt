@@ -4,15 +4,15 @@ ghost use Rattle.cap_octet.specs.Checks.{first_failing};
 ghost use Rattle.cap_io.specs.Text.{record_text};
 ghost use Rattle.cap_pcap.specs.Encoding.{file_header};
 ghost use Rattle.cap_pcapng.specs.Encoding.{interface_text, packet_block, section_text};
-ghost use Rattle.cap_memory.specs.Layout.{resolution_by};
-ghost use Rattle.cap_memory.specs.Writing.{written_block_checks, interface_checks, written_packet};
-ghost use Rattle.cap_memory.specs.Writing.{written_record_checks};
+ghost use Rattle.capkit_c.specs.Layout.{resolution_by};
+ghost use Rattle.capkit_c.specs.Buffers.{written_block_checks, interface_checks, written_packet};
+ghost use Rattle.capkit_c.specs.Buffers.{written_record_checks};
 ghost use Rattle.capkit_c.specs.Writing.{WriteTells, written_length, written_number};
 
-use crate::reading::fault_number;
-use cap_memory::{
+use crate::memory::{
     Written, write_file_header, write_interface, write_packet, write_record, write_section,
 };
+use crate::reading::fault_number;
 
 /// Tells what became of bytes: its number is returned, and the length is set.
 fn tell(written: Written, length: &mut usize) -> u32

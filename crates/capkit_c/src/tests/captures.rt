@@ -1,7 +1,7 @@
 //! Captures that are read: one of each form, put together by the formats' drafts.
 
+use crate::memory::{Interface, Packet, Reader};
 use crate::reading::{capkit_comment, capkit_next};
-use cap_memory::{Interface, Packet, Reader};
 use std::test::Fail;
 
 /// The start of a capture.

@@ -1,6 +1,0 @@
-pub mod Entries
-pub mod Savefiles
-pub mod Stands
-pub mod Fronts
-pub mod Leaves
-pub mod Writes

@@ -1,4 +1,0 @@
-pub mod Layout
-pub mod Units
-pub mod Writing
-pub mod inside

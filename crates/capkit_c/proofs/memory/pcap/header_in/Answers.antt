@@ -1,0 +1,12 @@
+-- The first 24 bytes say what the text says.
+use Rattle.std.proofs.Common.{◌∙◌, ap}
+use Rattle.cap_octet.specs.Checks.{checked}
+use Rattle.cap_pcap.specs.Header.{header_fault, header_in}
+use Rattle.capkit_c.proofs.Savefiles.{head_taken}
+use Rattle.capkit_c.proofs.memory.pcap.header_in.Goals as goal
+
+pub returns : goal.returns
+returns c =
+    c.read_head.ensures
+    ∙ ap (λ b. checked (header_fault b) (header_in b)) c.in-Some.ensures.cases.same
+    ∙ head_taken c.args.text.now c.in-Some.ensures.cases.enough

@@ -1,0 +1,13 @@
+-- The parts lie within what they are in all.
+use Rattle.std.proofs.Common.{[], ℕ, List, arith}
+use Rattle.std.specs.Borrow.{Bor}
+use Rattle.std.proofs.lemmas.List.Folds.{length-flat_map-take}
+use Rattle.capkit_c.proofs.memory.writing.put_parts.Goals as goal
+
+abbrev none : Bor (List ℕ)
+none = record { ref_ptr = (0, 0); now = [] }
+
+pub slice_bounds-copy_from_slice-end : goal.slice_bounds-copy_from_slice-end
+slice_bounds-copy_from_slice-end c =
+    let within = length-flat_map-take (λ (part : Bor (List ℕ)). part.now) c.args.parts.now c.loop-part.part-index none c.loop-part-test.true in
+    omega (arith, within, c.loop-part.invariant.counted, c.requires)

@@ -1,0 +1,21 @@
+-- Every check passes, and the parts are the record.
+use Rattle.std.proofs.Common.{◌≡◌, ◌++◌, [], ◌∷◌, ◌^◌, List, ℕ, true, refl, ap, ap₂, sym, ◌∙◌, rules}
+use Rattle.std.specs.Prelude.{nat_lt}
+use Rattle.std.proofs.lemmas.List.{append-nil}
+use Rattle.cap_octet.specs.Checks.{first_failing}
+use Rattle.cap_octet.specs.declared.fault.Fault.TheVariants.{TimeOutOfRange}
+use Rattle.cap_octet.proofs.Checks.{checked_ok, met_front}
+use Rattle.cap_pcap.specs.Encoding.{record_fit_checks, record_header}
+use Rattle.capkit_c.specs.Buffers.{written_packet}
+use Rattle.capkit_c.proofs.Writes.{unrefused}
+use Rattle.capkit_c.proofs.memory.writing.write_record.Goals as goal
+
+pub returns-in-Ok : goal.returns-in-Ok
+returns-in-Ok c =
+    let p = written_packet c.args.time c.args.original c.args.bytes.now [] in
+    let early : nat_lt c.args.time (2 ^ 63) ≡ true = search rules in
+    let fits = checked_ok (first_failing (record_fit_checks p)) tt tt (sym c.in-Ok.ensures) in
+    unrefused _ _ _ _ _ c.put_parts.result
+    (met_front ((nat_lt c.args.time (2 ^ 63), TimeOutOfRange) ∷ []) (record_fit_checks p) (rw early refl) ∙ fits.0)
+    (ap₂ (λ (h t : List ℕ). h ++ t) (c.record_bytes-head.ensures ∙ ap (λ r. record_header r p) c.format_by-format.ensures.resolution) (append-nil c.args.bytes.now))
+    c.put_parts.ensures

@@ -1,0 +1,61 @@
+-- Bytes of captures in the caller's buffer, and which packets they can't hold.
+use Rattle.std.specs.Prelude.{◌≡◌, ℕ, ◌<◌, ◌≤◌, Bool, List, [], ◌∷◌, ◌++◌, length, drop, nat_lt, nat_le, Option, None, Some}
+use Rattle.cap_octet.specs.Date.{TIME_END}
+use Rattle.cap_octet.specs.Packet.{Captured}
+use Rattle.cap_octet.specs.declared.fault.Fault.{Fault}
+use Rattle.cap_octet.specs.declared.fault.Fault.TheVariants.{BadOption, TimeOutOfRange, TooManyOutputInterfaces}
+use Rattle.cap_io.specs.Text.{most_output_interfaces}
+use Rattle.cap_pcap.specs.Encoding as pcap
+use Rattle.cap_pcapng.specs.Encoding as pcapng
+use Rattle.capkit_c.specs.declared.memory.writing.Written.{Written}
+use Rattle.capkit_c.specs.declared.memory.writing.Written.TheVariants as written
+
+-- a packet by what its record or its block says of it
+abbrev pub written_packet : (time orig : ℕ) → (bytes comment : List ℕ) → Captured
+written_packet time orig bytes comment =
+    record {
+      link = 0;
+      snap = 0;
+      name = [];
+      time = time;
+      orig = orig;
+      bytes = bytes;
+      comment = comment;
+    }
+
+-- the checks of a packet that is to be written, in order: those that every packet passes that was
+-- read, and then those of the format
+abbrev pub written_record_checks : Captured → List (Bool × Fault)
+written_record_checks p = (nat_lt p.time TIME_END, TimeOutOfRange) ∷ pcap.record_fit_checks p
+
+abbrev pub written_block_checks : (number : ℕ) → Captured → List (Bool × Fault)
+written_block_checks number p =
+    (nat_lt p.time TIME_END, TimeOutOfRange)
+    ∷ (nat_le (length p.comment) 65535, BadOption)
+    ∷ pcapng.block_fit_checks p
+    ++ (nat_lt number most_output_interfaces, TooManyOutputInterfaces)
+    ∷ []
+
+abbrev pub interface_checks : (name : List ℕ) → List (Bool × Fault)
+interface_checks name = (nat_le (length name) 255, BadOption) ∷ []
+
+-- they stand whole at the start of the buffer, and what is after them is as it was
+pub record StandWhole (bytes old new : List ℕ) (count : ℕ) : Type 0 where
+  pub counted : count ≡ length bytes
+  pub fits : length bytes ≤ length old
+  pub put : new ≡ bytes ++ drop (length bytes) old
+
+-- the buffer has room for fewer, and is as it was
+pub record FindNoRoom (bytes old new : List ℕ) (count : ℕ) : Type 0 where
+  pub counted : count ≡ length bytes
+  pub short : length old < length bytes
+  pub kept : new ≡ old
+
+-- what a write leaves of a buffer: the bytes, unless a check fails or it has no room for all of
+-- them
+abbrev pub WriteLeaves : Option Fault → (bytes old new : List ℕ) → Written → Type 0
+WriteLeaves refusal bytes old new (written.Whole count) =
+    (refusal ≡ None) × StandWhole bytes old new count
+WriteLeaves refusal bytes old new (written.NoRoom count) =
+    (refusal ≡ None) × FindNoRoom bytes old new count
+WriteLeaves refusal bytes old new (written.Refused fault) = (refusal ≡ Some fault) × (new ≡ old)

@@ -1,0 +1,61 @@
+-- What the caller's structs say.
+use Rattle.std.specs.Prelude.{ℕ, ◌==◌, if◌then◌else◌, min, List, length, map, take, Option, Some, None}
+use Rattle.cap_octet.specs.declared.number.Order.{Order}
+use Rattle.cap_octet.specs.declared.number.Order.TheVariants.{Little, Big}
+use Rattle.cap_pcap.specs.declared.header.Resolution.{Resolution}
+use Rattle.cap_pcap.specs.declared.header.Resolution.TheVariants.{Microseconds, Nanoseconds}
+use Rattle.cap_pcapng.specs.Interface.{Described}
+use Rattle.cap_io.specs.Capture.{Declared}
+use Rattle.cap_io.specs.Reading.{declared_by}
+use Rattle.cap_io.specs.declared.file_state.FileState.{FileState}
+use Rattle.cap_io.specs.declared.file_state.FileState.TheVariants as form
+use Rattle.capkit_c.specs.declared.memory.layout.Interface.{Interface}
+use Rattle.capkit_c.specs.declared.memory.layout.Reader.{Reader}
+
+-- flags: 0 is no, and every other number yes
+abbrev pub order_by : ℕ → Order
+order_by flag = if flag == 0 then Little else Big
+
+abbrev pub resolution_by : ℕ → Resolution
+resolution_by flag = if flag == 0 then Microseconds else Nanoseconds
+
+abbrev pub link_by : ℕ → ℕ → Option ℕ
+link_by flag link = if flag == 0 then None else Some link
+
+-- what a reader says of the file
+abbrev pub reader_form : Reader → FileState
+reader_form r =
+    if r.form == 1 then form.Pcap
+    (record {
+      order = order_by r.big_endian;
+      resolution = resolution_by r.nanoseconds;
+      snap = r.snap;
+      link = r.link_type;
+    })
+    else (if r.form == 2 then form.Pcapng (order_by r.big_endian)
+    (link_by r.has_link_type r.link_type)
+    else form.Unknown)
+
+-- how many interfaces it knows, in a table with so much room
+abbrev pub most_known : Reader → ℕ → ℕ
+most_known r room = min (min r.interfaces room) 256
+
+-- an interface of the table
+abbrev pub described_of : Interface → Described
+described_of i =
+    record {
+      link = i.link_type;
+      snap = i.snap;
+      name = take i.name_length i.name;
+      units = if i.units == 0 then 1 else i.units;
+      offset = i.offset;
+    }
+
+-- the first of a table
+abbrev pub first_interfaces : ℕ → List Interface → List Described
+first_interfaces count table = map described_of (take count table)
+
+-- what is declared by a reader and its table
+abbrev pub declared_in : Reader → List Interface → Declared
+declared_in r table = declared_by (reader_form r)
+    (first_interfaces (most_known r (length table)) table)

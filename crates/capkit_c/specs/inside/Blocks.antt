@@ -1,0 +1,114 @@
+-- A block of a pcapng capture in memory, and the caller's table of interfaces.
+use Rattle.std.specs.Prelude.{◌≡◌, ℕ, ◌<◌, ◌≤◌, List, [], ◌∷◌, ◌++◌, length, take, Option, None, Some}
+use Rattle.std.specs.List.{slice_get}
+use Rattle.std.specs.Option.{option_map}
+use Rattle.cap_octet.specs.Packet.{Captured}
+use Rattle.cap_pcapng.specs.Interface.{Described}
+use Rattle.cap_octet.specs.declared.number.Order.{Order}
+use Rattle.cap_pcapng.specs.Unit.{IsBlock, Section, interfaces_before, order_before, packets_in, section_after, unit_fault}
+use Rattle.cap_pcapng.specs.declared.frames.Frame.{Frame}
+use Rattle.cap_pcapng.specs.Effect.{Enters, FitsIfAny, IsBlockFault, held_packet, section_of}
+use Rattle.cap_pcapng.specs.Effect.{span_bytes}
+use Rattle.cap_pcapng.specs.declared.effect.PacketSpans.{PacketSpans}
+use Rattle.capkit_c.specs.Layout.{first_interfaces}
+use Rattle.capkit_c.specs.declared.memory.block.BlockRead.{BlockRead}
+use Rattle.capkit_c.specs.declared.memory.block.BlockEffect.{BlockEffect}
+use Rattle.capkit_c.specs.declared.memory.layout.Interface.{Interface}
+use Rattle.capkit_c.specs.declared.memory.block.UnitPacket.{UnitPacket}
+use Rattle.capkit_c.specs.declared.memory.block.Refusal.{Refusal}
+use Rattle.capkit_c.specs.declared.memory.block.Refusal.TheVariants as refusal
+
+-- what is held of a packet in a unit of `size` bytes
+abbrev pub spans_of : ℕ → UnitPacket → PacketSpans
+spans_of size p = record {
+  size = size;
+  bytes = record { start = p.start; length = p.length };
+  options = record { start = p.options_start; length = p.options_length };
+  interface = p.interface;
+  time = p.time;
+  orig = p.orig;
+}
+
+-- its link type and snapshot length are those of its interface
+pub record IsOf (interfaces : List Described) (p : UnitPacket) : Type 0 where
+  pub link : option_map (λ (i : Described). i.link) (slice_get interfaces p.interface)
+      ≡ Some p.link_type
+  pub snap : option_map (λ (i : Described). i.snap) (slice_get interfaces p.interface) ≡ Some p.snap
+
+abbrev pub IsOfIfAny : List Described → Option UnitPacket → Type 0
+IsOfIfAny interfaces None = Unit {0}
+IsOfIfAny interfaces (Some p) = IsOf interfaces p
+
+-- the first check that a block fails; or that it declares an interface, and a table of so much room
+-- is full
+abbrev pub IsRefusal : Frame → List Described → List ℕ → ℕ → Refusal → Type 0
+IsRefusal frame interfaces block room (refusal.Fault fault) =
+    IsBlockFault frame interfaces block fault
+IsRefusal frame interfaces block room refusal.NoRoom =
+    (room ≤ length interfaces)
+    × ((i : Described) × Enters frame interfaces block None (interfaces ++ i ∷ []))
+
+-- a block passes all of its checks; after it these are the interfaces, and this is its packet
+pub record EntersTable (frame : Frame) (interfaces : List Described) (block : List ℕ)
+    (table' : List Interface) (effect : BlockEffect) : Type 0 where
+  pub enters : Enters frame interfaces block (option_map (spans_of frame.length) effect.packet)
+      (first_interfaces effect.interfaces table')
+  pub known : effect.interfaces ≤ length table'
+  pub upper_bound : effect.interfaces ≤ 256
+  pub of : IsOfIfAny interfaces effect.packet
+
+-- ---- a block that a text begins with
+
+-- given the section before it, as its byte order and its interfaces
+abbrev pub Following : Option Order → List Described → (Option Section → Type 0) → Type 0
+Following section interfaces P =
+    (before : Option Section) → order_before before ≡ section
+    → interfaces_before before ≡ interfaces → P before
+
+-- its packet, as its parts lie in it
+pub record BlockPacket (order : Order) (before : Option Section) (block : List ℕ)
+    (held : PacketSpans) : Type 0 where
+  pub packet : Captured
+  pub stands : packets_in before block ≡ packet ∷ []
+  pub lies : held_packet order (interfaces_before before) held (span_bytes held.bytes block)
+      (span_bytes held.options block) ≡ Some packet
+
+abbrev pub BlockPacketIfAny : Order → Option Section → List ℕ → Option PacketSpans → Type 0
+BlockPacketIfAny order before block None = packets_in before block ≡ []
+BlockPacketIfAny order before block (Some held) = BlockPacket order before block held
+
+-- it passes all of its checks; after it these are the interfaces, and this is its packet
+pub record BlockStands (before : Option Section) (text : List ℕ) (order : Order) (size : ℕ)
+    (interfaces' : List Described) (packet : Option UnitPacket) : Type 0 where
+  pub is_block : IsBlock before (take size text)
+  pub section : section_after before (take size text) ≡ section_of order interfaces'
+  pub carries : BlockPacketIfAny order before (take size text) (option_map (spans_of size) packet)
+  pub fits : FitsIfAny (option_map (spans_of size) packet) size
+  pub there : size ≤ length text
+  pub some : 0 < size
+
+pub record BlockIs (section : Option Order) (interfaces : List Described) (text : List ℕ)
+    (table' : List Interface) (read : BlockRead) : Type 0 where
+  pub stands : Following section interfaces
+      (λ before. BlockStands before text read.order read.size
+      (first_interfaces read.effect.interfaces table') read.effect.packet)
+  pub known : read.effect.interfaces ≤ length table'
+  pub upper_bound : read.effect.interfaces ≤ 256
+  pub of : IsOfIfAny interfaces read.effect.packet
+
+-- the text begins with a block that passes all checks and declares an interface
+pub record Declares (before : Option Section) (text : List ℕ)
+    (interfaces : List Described) : Type 0 where
+  pub order : Order
+  pub size : ℕ
+  pub interface : Described
+  pub stands : BlockStands before text order size (interfaces ++ interface ∷ []) None
+
+-- the first check that fails; or the table of so much room is full, and the block declares an
+-- interface
+abbrev pub IsNoBlock : Option Order → List Described → List ℕ → ℕ → Refusal → Type 0
+IsNoBlock section interfaces text room (refusal.Fault fault) =
+    Following section interfaces (λ before. unit_fault before text ≡ Some fault)
+IsNoBlock section interfaces text room refusal.NoRoom =
+    (room ≤ length interfaces)
+    × Following section interfaces (λ before. Declares before text interfaces)

@@ -1,0 +1,104 @@
+-- Where a unit's parts lie in a buffer.
+use Rattle.std.specs.Prelude.{◌≡◌, ℕ, ◌+◌, ◌<◌, ◌≤◌, List, [], ◌∷◌, length, take, drop, Option, Some, None, true}
+use Rattle.cap_octet.specs.Packet.{Captured}
+use Rattle.cap_pcapng.specs.Interface.{Described}
+use Rattle.cap_io.specs.Capture.{Declared, Whole, Stops, front_of, is_pcapng}
+use Rattle.cap_io.specs.Reading.{declared_by}
+use Rattle.capkit_c.specs.Layout.{first_interfaces, most_known}
+use Rattle.capkit_c.specs.declared.memory.block.UnitPacket.{UnitPacket}
+use Rattle.capkit_c.specs.declared.memory.block.Refusal.{Refusal}
+use Rattle.capkit_c.specs.declared.memory.block.Refusal.TheVariants as refusal
+use Rattle.cap_io.specs.declared.file_state.FileState.{FileState}
+use Rattle.cap_io.specs.declared.file_state.FileState.TheVariants as form
+use Rattle.cap_octet.specs.declared.number.Order.{Order}
+use Rattle.capkit_c.specs.declared.memory.layout.Interface.{Interface}
+use Rattle.capkit_c.specs.declared.memory.layout.Packet.{Packet}
+use Rattle.capkit_c.specs.declared.memory.layout.Reader.{Reader}
+use Rattle.capkit_c.specs.declared.memory.reader.Step.{Step}
+use Rattle.capkit_c.specs.Units.{comment_by, name_by, DeclaresOne}
+
+-- a packet of a unit of this size, which begins a text, and where its parts are in the unit
+pub record IsPlaced (declared : Declared) (text : List ℕ) (size : ℕ) (p : UnitPacket)
+    (q : Captured) : Type 0 where
+  pub link : q.link ≡ p.link_type
+  pub snap : q.snap ≡ p.snap
+  pub name : name_by declared p.interface ≡ Some q.name
+  pub time : q.time ≡ p.time
+  pub orig : q.orig ≡ p.orig
+  pub bytes : q.bytes ≡ take p.length (drop p.start text)
+  pub within : p.start + p.length ≤ size
+  pub comment : q.comment ≡ comment_by declared (take p.options_length (drop p.options_start text))
+  pub options : p.options_start + p.options_length ≤ size
+
+abbrev pub ArePlaced : Declared → List ℕ → ℕ → Option UnitPacket → List Captured → Type 0
+ArePlaced declared text size None packets = packets ≡ []
+ArePlaced declared text size (Some p) packets =
+    (q : Captured) × (packets ≡ q ∷ []) × IsPlaced declared text size p q
+
+-- a text begins with a unit: what it declares, and its packet
+pub record BeginsWithUnit (form : FileState) (interfaces : List Described) (text : List ℕ)
+    (table' : List Interface) (step : Step) : Type 0 where
+  pub packets : List Captured
+  pub front : front_of (declared_by form interfaces) text
+      ≡ Whole step.size packets
+      (declared_by step.form (first_interfaces step.interfaces table'))
+  pub placed : ArePlaced
+      (declared_by step.form (first_interfaces step.interfaces table'))
+      text step.size step.packet packets
+  pub there : step.size ≤ length text
+  pub some : 0 < step.size
+  pub known : step.interfaces ≤ length table'
+  pub upper_bound : step.interfaces ≤ 256
+
+-- it begins with no unit, but with a fault; or with an interface that a full table has no room for
+abbrev pub IsNoUnit : FileState → List Described → List ℕ → ℕ → Refusal → Type 0
+IsNoUnit form interfaces text room (refusal.Fault fault) =
+    front_of (declared_by form interfaces) text ≡ Stops (Some fault)
+IsNoUnit form interfaces text room refusal.NoRoom =
+    (room ≤ length interfaces) × DeclaresOne (declared_by form interfaces) text interfaces
+
+-- a block may begin here: its section before it is this one
+abbrev pub Begins : FileState → Option Order → Option ℕ → List Described → List ℕ → Type 0
+Begins form.Unknown section first interfaces text =
+    (section ≡ None) × (first ≡ None) × (interfaces ≡ []) × (is_pcapng text ≡ true)
+Begins (form.Pcap head) section first interfaces text = ⊥
+Begins (form.Pcapng order link) section first interfaces text =
+    (section ≡ Some order) × (first ≡ link) × (0 < length text)
+
+-- after a unit something is left
+abbrev pub IsSomeFor : FileState → List ℕ → Type 0
+IsSomeFor form.Unknown text = Unit {0}
+IsSomeFor (form.Pcap head) text = 0 < length text
+IsSomeFor (form.Pcapng order link) text = 0 < length text
+
+-- before a unit no interface is known
+abbrev pub IsBare : FileState → ℕ → Type 0
+IsBare form.Unknown count = count ≡ 0
+IsBare (form.Pcap head) count = Unit {0}
+IsBare (form.Pcapng order link) count = Unit {0}
+
+-- where the parts of a packet are, given the place of its unit
+abbrev pub placed_packet : ℕ → UnitPacket → Packet
+placed_packet at p = record {
+  time = p.time;
+  at = at + p.start;
+  options_at = at + p.options_start;
+  captured = p.length;
+  original = p.orig;
+  options_length = p.options_length;
+  interface = p.interface;
+  snap = p.snap;
+  link_type = p.link_type;
+}
+
+-- `count` interfaces are known
+abbrev pub Counts : FileState → Reader → ℕ → ℕ → Type 0
+Counts form.Unknown r room count = Unit {0}
+Counts (form.Pcap head) r room count = count ≡ most_known r room
+Counts (form.Pcapng order link) r room count = count ≡ most_known r room
+
+-- after a unit nothing is left
+abbrev pub IsAtEnd : FileState → List ℕ → Type 0
+IsAtEnd form.Unknown text = ⊥
+IsAtEnd (form.Pcap head) text = text ≡ []
+IsAtEnd (form.Pcapng order link) text = text ≡ []

@@ -1,0 +1,14 @@
+//! Captures in memory, pcap and pcapng, one unit at a time, read and written. What is known of one
+//! that is read, between two units, is the caller's, in C's layout. Nothing here takes memory.
+
+mod block;
+mod layout;
+mod pcap;
+mod reader;
+mod writing;
+
+pub use layout::{Interface, Packet, Reader};
+pub use reader::{Found, comment_of, next_unit};
+pub use writing::{
+    Written, write_file_header, write_interface, write_packet, write_record, write_section,
+};

@@ -1,0 +1,210 @@
+//! One block of a pcapng capture in memory, in the caller's table of interfaces.
+ghost use Rattle.std.specs.Prelude.{◌≡◌, ℕ, ◌+◌, ◌<◌, ◌≤◌, ◌++◌, ◌∷◌, [], IfOk, IfErr, OnErr};
+ghost use Rattle.std.specs.Prelude.{is_some, length, true};
+ghost use Rattle.std.specs.Option.{option_map};
+ghost use Rattle.std.specs.List.{slice_get};
+ghost use Rattle.cap_pcapng.specs.Interface.{description_of};
+ghost use Rattle.capkit_c.specs.Layout.{described_of, first_interfaces};
+ghost use Rattle.capkit_c.specs.inside.Blocks.{BlockIs, EntersTable, IsNoBlock, IsOf, IsRefusal};
+ghost use Rattle.capkit_c.specs.inside.Blocks.{spans_of};
+
+use crate::memory::layout::Interface;
+use cap_octet::{Fault, Order};
+use cap_pcapng::{
+    BlockEffect as Effect, Frame, Interface as ReadInterface, Interfaces, PacketSpans,
+    block_effect, frame,
+};
+
+/// A packet, and where its parts are in its unit.
+#[derive(Clone, Copy)]
+pub(crate) struct UnitPacket {
+    pub(crate) start: u32,
+    pub(crate) length: u32,
+    pub(crate) options_start: u32,
+    pub(crate) options_length: u32,
+    pub(crate) interface: u32,
+    pub(crate) link_type: u16,
+    pub(crate) snap: u32,
+    pub(crate) time: u64,
+    pub(crate) orig: u32,
+}
+
+/// Why a block isn't read.
+#[derive(Clone, Copy)]
+pub(crate) enum Refusal {
+    /// The first check that fails.
+    Fault(Fault),
+    /// Its interface finds no room in the table.
+    NoRoom,
+}
+
+/// A block that passed all of its checks: how many interfaces there are after it, and its packet.
+#[derive(Clone, Copy)]
+pub(crate) struct BlockEffect {
+    pub(crate) interfaces: usize,
+    pub(crate) packet: Option<UnitPacket>,
+}
+
+/// The interface with this number among the first of a table.
+fn get(table: &[Interface], count: usize, number: u32) -> Option<&Interface>
+    requires { count ≤ length table.now }
+    ensures { option_map (λ i. described_of i.now) result
+        ≡ slice_get (first_interfaces count table.now) number }
+{
+    if number as usize >= count {
+        return None;
+    }
+    table.get(number as usize)
+}
+
+/// Puts an interface after the first of a table.
+fn put(table: &mut [Interface], count: usize, interface: &ReadInterface<'_>)
+    requires { count < length table.old }
+    ensures put { first_interfaces (count + 1) table.new
+        ≡ first_interfaces count table.old ++ description_of interface.now ∷ [] }
+    ensures same { length table.new ≡ length table.old }
+{
+    table[count] = Interface::of(interface);
+}
+
+/// The first interfaces of a table.
+#[derive(Clone, Copy)]
+struct Known<'a> {
+    entries: &'a [Interface],
+    count: usize,
+}
+
+impl Interfaces for Known<'_> {
+    ghost list = { λ known. first_interfaces known.count known.entries.now };
+
+    fn count(&self) -> usize {
+        self.count.min(self.entries.len())
+    }
+
+    fn get(&self, number: u32) -> Option<ReadInterface<'_>> {
+        if number as usize >= self.count {
+            return None;
+        }
+        self.entries.get(number as usize).map(Interface::read)
+    }
+}
+
+/// A packet with what is known of its interface, which is among the first of a table.
+fn unit_packet(table: &[Interface], count: usize, spans: &PacketSpans) -> UnitPacket
+    requires known { count ≤ length table.now }
+    requires there { is_some (slice_get (first_interfaces count table.now) spans.now.interface)
+        ≡ true }
+    ensures spans { spans_of spans.now.size result ≡ spans.now }
+    ensures interface { IsOf (first_interfaces count table.now) result }
+{
+    let interface = get(table, count, spans.interface).unwrap();
+    UnitPacket {
+        start: spans.bytes.start,
+        length: spans.bytes.length,
+        options_start: spans.options.start,
+        options_length: spans.options.length,
+        interface: spans.interface,
+        link_type: interface.link_type,
+        snap: interface.snap,
+        time: spans.time,
+        orig: spans.orig,
+    }
+}
+
+/// Makes the checks of a whole block of this frame, and brings the table of interfaces after it. A
+/// refusal leaves the table unchanged.
+fn apply_block(
+    table: &mut [Interface],
+    count: usize,
+    frame: &Frame,
+    bytes: &[u8],
+) -> Result<BlockEffect, Refusal>
+    requires known { count ≤ length table.old }
+    requires bounds { count ≤ 256 }
+    requires whole { length bytes.now ≡ frame.now.length }
+    requires shortest { 12 ≤ frame.now.length }
+    ensures ok { IfOk result (EntersTable frame.now (first_interfaces count table.old) bytes.now
+        table.new) }
+    ensures same { length table.new ≡ length table.old }
+    ensures err { IfErr result (IsRefusal frame.now (first_interfaces count table.old) bytes.now
+        (length table.old)) }
+    ensures kept { OnErr result (table.new ≡ table.old) }
+{
+    let known = Known {
+        entries: table,
+        count,
+    };
+    match block_effect(&known, frame, bytes) {
+        Ok(Effect::Section) => Ok(BlockEffect {
+            interfaces: 0,
+            packet: None,
+        }),
+        Ok(Effect::Interface(interface)) => {
+            if count == table.len() {
+                return Err(Refusal::NoRoom);
+            }
+            put(table, count, &interface);
+            Ok(BlockEffect {
+                interfaces: count + 1,
+                packet: None,
+            })
+        }
+        Ok(Effect::Packet(spans)) => Ok(BlockEffect {
+            interfaces: count,
+            packet: Some(unit_packet(table, count, &spans)),
+        }),
+        Ok(Effect::Nothing) => Ok(BlockEffect {
+            interfaces: count,
+            packet: None,
+        }),
+        Err(fault) => Err(Refusal::Fault(fault)),
+    }
+}
+
+/// A block that was read.
+#[derive(Clone, Copy)]
+pub(crate) struct BlockRead {
+    pub(crate) size: usize,
+    /// The byte order of its section.
+    pub(crate) order: Order,
+    pub(crate) effect: BlockEffect,
+}
+
+/// Reads the block that a text begins with, after a section of this byte order or after none, and
+/// brings the table of interfaces after it. A refusal leaves the table unchanged.
+pub(crate) fn read_block(
+    section: Option<Order>,
+    table: &mut [Interface],
+    count: usize,
+    text: &[u8],
+) -> Result<BlockRead, Refusal>
+    requires known { count ≤ length table.old }
+    requires bounds { count ≤ 256 }
+    ensures ok { IfOk result (λ read. BlockIs section (first_interfaces count table.old) text.now
+        table.new
+        read) }
+    ensures same { length table.new ≡ length table.old }
+    ensures err { IfErr result (IsNoBlock section (first_interfaces count table.old) text.now
+        (length table.old)) }
+    ensures kept { OnErr result (table.new ≡ table.old) }
+{
+    let Some(first) = text.first_chunk::<12>() else {
+        return Err(Refusal::Fault(Fault::Truncated));
+    };
+    let found = match frame(section, first) {
+        Ok(found) => found,
+        Err(fault) => return Err(Refusal::Fault(fault)),
+    };
+    let size = found.length as usize;
+    if text.len() < size {
+        return Err(Refusal::Fault(Fault::Truncated));
+    }
+    match apply_block(table, count, &found, &text[..size]) {
+        Ok(effect) => Ok(BlockRead {
+            size,
+            order: found.order,
+            effect,
+        }),
+        Err(refusal) => Err(refusal),
+    }
+}

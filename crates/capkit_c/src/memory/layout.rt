@@ -1,0 +1,215 @@
+//! What the caller keeps of a capture, in C's layout.
+ghost use Rattle.std.specs.Prelude.{◌≡◌, ◌≤◌, length};
+ghost use Rattle.cap_pcapng.specs.Interface.{description_of};
+ghost use Rattle.capkit_c.specs.Layout.{described_of, reader_form, most_known, order_by};
+
+use cap_io::FileState;
+use cap_octet::Order;
+use cap_pcap::{Head, Resolution};
+use cap_pcapng::{Clock, Interface as ReadInterface};
+
+/// The most interfaces of a section.
+const MOST_INTERFACES: usize = 256;
+
+/// The most bytes of an interface's name.
+const MOST_NAME: usize = 255;
+
+/// How far a capture is read, and what its units declare of those after them. All zeros is the
+/// start of a capture.
+#[repr(C)]
+#[derive(Clone, Copy)]
+pub struct Reader {
+    /// Where the next unit begins, in bytes from the start.
+    pub offset: usize,
+    /// The snapshot length of a pcap file, in bytes; 0 is none.
+    pub snap: u32,
+    /// How many interfaces the current section of a pcapng file has so far.
+    pub interfaces: u32,
+    /// The first link type of the file, if one is declared.
+    pub link_type: u16,
+    /// 1 where it is.
+    pub has_link_type: u8,
+    /// 1 in pcap, 2 in pcapng, 0 where no unit was read.
+    pub form: u8,
+    /// 1 where the numbers of the file, or of the current section, have their high byte first.
+    pub big_endian: u8,
+    /// 1 where a pcap file has nanoseconds.
+    pub nanoseconds: u8,
+}
+
+/// An interface of a section.
+#[repr(C)]
+#[derive(Clone, Copy)]
+pub struct Interface {
+    /// How many ticks make a second; 0 counts as 1.
+    pub units: u64,
+    /// What is added to each time, in seconds.
+    pub offset: i64,
+    /// The snapshot length, in bytes; 0 is none.
+    pub snap: u32,
+    pub link_type: u16,
+    pub name_length: u8,
+    /// Its name is the first `name_length` of these bytes.
+    pub name: [u8; 255],
+}
+
+/// A packet.
+#[repr(C)]
+#[derive(Clone, Copy)]
+pub struct Packet {
+    /// Nanoseconds since 1970-01-01 00:00:00 UTC, below 2^63.
+    pub time: u64,
+    /// Where its bytes begin in the capture.
+    pub at: usize,
+    /// Where the options of its block begin in the capture.
+    pub options_at: usize,
+    /// How many bytes were captured.
+    pub captured: u32,
+    /// How many it had on the wire.
+    pub original: u32,
+    /// How many bytes of options there are; 0 in pcap.
+    pub options_length: u32,
+    /// The number of its interface, from 0 in its section; 0 in pcap.
+    pub interface: u32,
+    /// The snapshot length of its interface or its file, in bytes; 0 is none.
+    pub snap: u32,
+    pub link_type: u16,
+}
+
+/// The byte order by a flag.
+fn order_by(flag: u8) -> Order
+    ensures { result ≡ order_by flag }
+{
+    if flag == 0 { Order::Little } else { Order::Big }
+}
+
+/// The flag of a byte order.
+fn order_flag(order: Order) -> u8
+    ensures { order_by result ≡ order }
+{
+    match order {
+        Order::Little => 0,
+        Order::Big => 1,
+    }
+}
+
+impl Reader {
+    /// What is declared.
+    pub(crate) fn form(&self) -> FileState
+        ensures { result ≡ reader_form self.now }
+    {
+        match self.form {
+            1 => FileState::Pcap(Head {
+                order: order_by(self.big_endian),
+                resolution: if self.nanoseconds == 0 {
+                    Resolution::Microseconds
+                } else {
+                    Resolution::Nanoseconds
+                },
+                snap: self.snap,
+                link: self.link_type,
+            }),
+            2 => FileState::Pcapng(
+                order_by(self.big_endian),
+                if self.has_link_type == 0 {
+                    None
+                } else {
+                    Some(self.link_type)
+                },
+            ),
+            _ => FileState::Unknown,
+        }
+    }
+
+    /// How many interfaces there are, in a table with so much room.
+    pub(crate) fn known(&self, room: usize) -> usize
+        ensures value { result ≡ most_known self.now room }
+        ensures fits { result ≤ room }
+        ensures bounds { result ≤ 256 }
+    {
+        (self.interfaces as usize).min(room).min(MOST_INTERFACES)
+    }
+
+    /// A reader at this place of which this is declared.
+    pub(crate) fn at(offset: usize, form: FileState, interfaces: usize) -> Self
+        requires { interfaces ≤ 256 }
+        ensures offset { result.offset ≡ offset }
+        ensures form { reader_form result ≡ form }
+        ensures interfaces { result.interfaces ≡ interfaces }
+    {
+        let mut reader = Reader {
+            offset,
+            snap: 0,
+            interfaces: interfaces as u32,
+            link_type: 0,
+            has_link_type: 0,
+            form: 0,
+            big_endian: 0,
+            nanoseconds: 0,
+        };
+        match form {
+            FileState::Unknown => {}
+            FileState::Pcap(head) => {
+                reader.form = 1;
+                reader.big_endian = order_flag(head.order);
+                reader.nanoseconds = match head.resolution {
+                    Resolution::Microseconds => 0,
+                    Resolution::Nanoseconds => 1,
+                };
+                reader.snap = head.snap;
+                reader.link_type = head.link;
+                reader.has_link_type = 1;
+            }
+            FileState::Pcapng(order, first) => {
+                reader.form = 2;
+                reader.big_endian = order_flag(order);
+                if let Some(link) = first {
+                    reader.link_type = link;
+                    reader.has_link_type = 1;
+                }
+            }
+        }
+        reader
+    }
+}
+
+impl Interface {
+    /// The same as it was read.
+    pub(crate) fn of(read: &ReadInterface<'_>) -> Self
+        ensures { described_of result ≡ description_of read.now }
+    {
+        let mut name = [0; MOST_NAME];
+        name[..read.name.len()].copy_from_slice(read.name);
+        Interface {
+            units: read.clock.units,
+            offset: read.clock.offset,
+            snap: read.snap,
+            link_type: read.link,
+            name_length: read.name.len() as u8,
+            name,
+        }
+    }
+
+    /// The same, with its name lent.
+    pub(crate) fn read(&self) -> ReadInterface<'_>
+        ensures { description_of result ≡ described_of self.now }
+    {
+        ReadInterface {
+            link: self.link_type,
+            snap: self.snap,
+            name: &self.name[..self.name_length as usize],
+            clock: self.clock(),
+        }
+    }
+
+    /// How the ticks of its packets become times.
+    fn clock(&self) -> Clock
+        ensures units { result.units ≡ (described_of self.now).units }
+        ensures offset { result.offset ≡ self.now.offset }
+    {
+        Clock {
+            units: self.units.max(1),
+            offset: self.offset,
+        }
+    }
+}

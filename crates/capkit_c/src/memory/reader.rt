@@ -1,0 +1,275 @@
+//! The units of a capture in memory, one at a time.
+ghost use Rattle.std.specs.Prelude.{◌≡◌, ℕ, ◌+◌, ◌^◌, ◌≤◌, ◌<◌, IfOk, IfErr, IsTrue, OnErr, List};
+ghost use Rattle.std.specs.Prelude.{false, drop, length, take};
+ghost use Rattle.cap_pcapng.specs.Interface.{Described};
+ghost use Rattle.cap_pcapng.specs.Effect.{section_of};
+ghost use Rattle.cap_io.specs.Capture.{first_link_after, is_pcapng};
+ghost use Rattle.capkit_c.specs.Layout.{declared_in, first_interfaces};
+ghost use Rattle.capkit_c.specs.inside.Units.{Begins, Counts, IsBare, IsNoUnit, IsAtEnd, IsSomeFor};
+ghost use Rattle.capkit_c.specs.Units.{NextLeaves, comment_by};
+ghost use Rattle.capkit_c.specs.inside.Units.{BeginsWithUnit, placed_packet};
+ghost use Rattle.cap_io.specs.declared.file_state.FileState.TheVariants as form;
+
+use crate::memory::block::{Refusal, UnitPacket, read_block};
+use crate::memory::layout::{Interface, Packet, Reader};
+use crate::memory::pcap::{RECORD_HEADER, header_in, record_in};
+use cap_io::FileState;
+use cap_octet::{Fault, Order};
+use cap_pcap::Head;
+use cap_pcapng::{Options, begins_section};
+
+/// What a call found.
+#[derive(Clone, Copy)]
+pub enum Found {
+    /// A unit without a packet.
+    Unit,
+    Packet,
+    /// The clean end.
+    End,
+    /// An interface that the caller's table has no room for.
+    NoRoom,
+    /// A fault: the first check that the unit fails.
+    Fault(Fault),
+}
+
+/// A unit that was read.
+#[derive(Clone, Copy)]
+struct Step {
+    size: usize,
+    form: FileState,
+    interfaces: usize,
+    packet: Option<UnitPacket>,
+}
+
+/// The bytes from a place on; none where it is past the end.
+fn rest_of(text: &[u8], at: usize) -> &[u8]
+    ensures { result.now ≡ drop at text.now }
+{
+    match text.get(at..) {
+        Some(rest) => rest,
+        None => &[],
+    }
+}
+
+/// Whether a file that begins so is pcapng.
+fn is_pcapng(text: &[u8]) -> bool
+    ensures { result ≡ is_pcapng text.now }
+{
+    match text.first_chunk::<4>() {
+        Some(first) => begins_section(first),
+        None => false,
+    }
+}
+
+/// The first link type of a file after a block, given that before it and the interfaces after it.
+fn first_link_type(first: Option<u16>, table: &[Interface], count: usize) -> Option<u16>
+    requires { count ≤ length table.now }
+    ensures { (order : Order) → result ≡ first_link_after first
+        (section_of order (first_interfaces count table.now)) }
+{
+    if count == 0 {
+        return first;
+    }
+    first.or(table.first().map(|interface| interface.link_type))
+}
+
+/// The record that a text begins with.
+fn record_step(head: &Head, text: &[u8], interfaces: usize) -> Result<Step, Refusal>
+    ensures ok { IfOk result (λ step. (known : List Described) (table : List Interface)
+        → interfaces ≤ length table → interfaces ≤ 256 → BeginsWithUnit (form.Pcap head.now) known
+        text.now table step) }
+    ensures err { IfErr result (λ why. (known : List Described) (room : ℕ) → 0 < length text.now
+        → IsNoUnit (form.Pcap head.now) known text.now room why) }
+{
+    match record_in(head, text) {
+        Ok(record) => Ok(Step {
+            size: RECORD_HEADER as usize + record.captured as usize,
+            form: FileState::Pcap(*head),
+            interfaces,
+            packet: Some(UnitPacket {
+                start: RECORD_HEADER,
+                length: record.captured,
+                options_start: RECORD_HEADER,
+                options_length: 0,
+                interface: 0,
+                link_type: head.link,
+                snap: head.snap,
+                time: record.time,
+                orig: record.orig,
+            }),
+        }),
+        Err(fault) => Err(Refusal::Fault(fault)),
+    }
+}
+
+/// The block that a text begins with, after what is declared.
+fn block_step(
+    form: FileState,
+    section: Option<Order>,
+    first: Option<u16>,
+    table: &mut [Interface],
+    count: usize,
+    text: &[u8],
+) -> Result<Step, Refusal>
+    requires known { count ≤ length table.old }
+    requires bounds { count ≤ 256 }
+    requires begins { Begins form section first (first_interfaces count table.old) text.now }
+    ensures ok { IfOk result (BeginsWithUnit form (first_interfaces count table.old)
+        text.now table.new) }
+    ensures same { length table.new ≡ length table.old }
+    ensures err { IfErr result (IsNoUnit form (first_interfaces count table.old) text.now
+        (length table.old)) }
+    ensures kept { OnErr result (table.new ≡ table.old) }
+{
+    match read_block(section, table, count, text) {
+        Ok(read) => {
+            let link = first_link_type(first, table, read.effect.interfaces);
+            Ok(Step {
+                size: read.size,
+                form: FileState::Pcapng(read.order, link),
+                interfaces: read.effect.interfaces,
+                packet: read.effect.packet,
+            })
+        }
+        Err(why) => Err(why),
+    }
+}
+
+/// The unit that a text begins with, which isn't empty where units are declared.
+fn read_unit(
+    form: FileState,
+    table: &mut [Interface],
+    count: usize,
+    text: &[u8],
+) -> Result<Step, Refusal>
+    requires known { count ≤ length table.old }
+    requires bounds { count ≤ 256 }
+    requires some { IsSomeFor form text.now }
+    requires none { IsBare form count }
+    ensures ok { IfOk result (BeginsWithUnit form (first_interfaces count table.old)
+        text.now table.new) }
+    ensures same { length table.new ≡ length table.old }
+    ensures err { IfErr result (IsNoUnit form (first_interfaces count table.old) text.now
+        (length table.old)) }
+    ensures kept { OnErr result (table.new ≡ table.old) }
+{
+    match form {
+        FileState::Unknown => {
+            if is_pcapng(text) {
+                return block_step(form, None, None, table, count, text);
+            }
+            match header_in(text) {
+                Ok(head) => Ok(Step {
+                    size: 24,
+                    form: FileState::Pcap(head),
+                    interfaces: 0,
+                    packet: None,
+                }),
+                Err(fault) => Err(Refusal::Fault(fault)),
+            }
+        }
+        FileState::Pcap(head) => record_step(&head, text, count),
+        FileState::Pcapng(order, first) => block_step(form, Some(order), first, table, count, text),
+    }
+}
+
+/// A packet of the unit at this place of a capture.
+fn packet_at(at: usize, placed: &UnitPacket) -> Packet
+    requires bytes { at + placed.now.start < 2 ^ 64 }
+    requires options { at + placed.now.options_start < 2 ^ 64 }
+    ensures { result ≡ placed_packet at placed.now }
+{
+    Packet {
+        time: placed.time,
+        at: at + placed.start as usize,
+        options_at: at + placed.options_start as usize,
+        captured: placed.length,
+        original: placed.orig,
+        options_length: placed.options_length,
+        interface: placed.interface,
+        snap: placed.snap,
+        link_type: placed.link_type,
+    }
+}
+
+/// How many interfaces are known, in a table with so much room.
+fn known_in(reader: &Reader, form: FileState, room: usize) -> usize
+    ensures counts { Counts form reader.now room result }
+    ensures bare { IsBare form result }
+    ensures fits { result ≤ room }
+    ensures bounds { result ≤ 256 }
+{
+    match form {
+        FileState::Unknown => 0,
+        FileState::Pcap(_) | FileState::Pcapng(_, _) => reader.known(room),
+    }
+}
+
+/// Whether a capture of which this is declared is over where this is left.
+fn is_over(form: FileState, text: &[u8]) -> bool
+    ensures over { IsTrue result → IsAtEnd form text.now }
+    ensures some { result ≡ false → IsSomeFor form text.now }
+{
+    match form {
+        FileState::Unknown => false,
+        FileState::Pcap(_) | FileState::Pcapng(_, _) => text.is_empty(),
+    }
+}
+
+/// Reads the unit at the reader's place. By `Unit` and `Packet` the reader is after it, and by
+/// `Packet` the packet is where `packet` says; by the others nothing is written.
+pub fn next_unit(
+    reader: &mut Reader,
+    table: &mut [Interface],
+    capture: &[u8],
+    packet: &mut Packet,
+) -> Found
+    ensures left { NextLeaves capture.now reader.old reader.new table.old table.new packet.old
+        packet.new result }
+    ensures same { length table.new ≡ length table.old }
+{
+    let form = reader.form();
+    let count = known_in(reader, form, table.len());
+    let text = rest_of(capture, reader.offset);
+    if is_over(form, text) {
+        return Found::End;
+    }
+    let at = reader.offset;
+    match read_unit(form, table, count, text) {
+        Ok(step) => {
+            *reader = Reader::at(at + step.size, step.form, step.interfaces);
+            match step.packet {
+                Some(placed) => {
+                    *packet = packet_at(at, &placed);
+                    Found::Packet
+                }
+                None => Found::Unit,
+            }
+        }
+        Err(Refusal::Fault(fault)) => Found::Fault(fault),
+        Err(Refusal::NoRoom) => Found::NoRoom,
+    }
+}
+
+/// A given number of bytes from a place on, as far as they are there.
+fn part_of(text: &[u8], at: usize, length: u32) -> &[u8]
+    ensures { result.now ≡ take length (drop at text.now) }
+{
+    let rest = rest_of(text, at);
+    &rest[..rest.len().min(length as usize)]
+}
+
+/// The comment of the packet that this reader found last; empty if it has none. It needs the byte
+/// order alone, so the clauses hold whatever the table of interfaces is.
+pub fn comment_of<'a>(reader: &Reader, capture: &'a [u8], packet: &Packet) -> &'a [u8]
+    ensures { (table : List Interface) → result.now ≡ comment_by (declared_in reader.now table)
+        (take packet.now.options_length (drop packet.now.options_at capture.now)) }
+{
+    match reader.form() {
+        FileState::Unknown | FileState::Pcap(_) => &[],
+        FileState::Pcapng(order, _) => {
+            let rest = part_of(capture, packet.options_at, packet.options_length);
+            Options { order, rest }.comment()
+        }
+    }
+}

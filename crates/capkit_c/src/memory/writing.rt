@@ -1,0 +1,229 @@
+//! File headers, records and blocks into the caller's buffer, whole or not at all.
+ghost use Rattle.std.specs.Prelude.{◌≡◌, None, [], length};
+ghost use Rattle.std.specs.List.{flat_map};
+ghost use Rattle.cap_octet.specs.Checks.{first_failing};
+ghost use Rattle.cap_octet.specs.Packet.{captured};
+ghost use Rattle.cap_io.specs.Text.{record_text};
+ghost use Rattle.cap_pcap.specs.Encoding.{IsPcap, file_header, resolution_of};
+ghost use Rattle.cap_pcapng.specs.Encoding.{block_fit_checks, interface_text, packet_block};
+ghost use Rattle.cap_pcapng.specs.Encoding.{section_text};
+ghost use Rattle.capkit_c.specs.Layout.{resolution_by};
+ghost use Rattle.capkit_c.specs.Buffers.{WriteLeaves, written_block_checks, interface_checks};
+ghost use Rattle.capkit_c.specs.Buffers.{written_packet, written_record_checks};
+
+use cap_octet::date::TIME_END;
+use cap_octet::{Fault, Format, Packet};
+use cap_pcap::{head_bytes, record_bytes};
+use cap_pcapng::{
+    interface_end, interface_header, option_header, packet_end, packet_header, padding_after,
+    section_bytes,
+};
+
+/// The code of a comment (option opt_comment).
+const COMMENT: u16 = 1;
+
+/// The code of an interface's name (option if_name).
+const NAME: u16 = 2;
+
+/// The most bytes of a comment.
+const MOST_COMMENT: usize = 65535;
+
+/// The most bytes of an interface's name.
+const MOST_NAME: usize = 255;
+
+/// The most interfaces that a file is given.
+const MOST_INTERFACES: u32 = 4096;
+
+/// What became of bytes that were to be put into a buffer.
+#[derive(Clone, Copy)]
+pub enum Written {
+    /// This many bytes are at its start.
+    Whole(usize),
+    /// They are this many bytes, more than it has room for.
+    NoRoom(usize),
+    /// The first check that fails.
+    Refused(Fault),
+}
+
+/// Puts parts, `size` bytes in all, one after another at the start of a buffer, if it has room.
+fn put_parts(parts: &[&[u8]], size: usize, buffer: &mut [u8]) -> Written
+    requires { size ≡ length (flat_map (λ part. part.now) parts.now) }
+    ensures { WriteLeaves None (flat_map (λ part. part.now) parts.now) buffer.old buffer.new
+        result }
+{
+    if buffer.len() < size {
+        return Written::NoRoom(size);
+    }
+    let mut at = 0;
+    for part in parts {
+        buffer[at..at + part.len()].copy_from_slice(part);
+        at += part.len();
+    }
+    Written::Whole(size)
+}
+
+/// The pcap form with microseconds, or where the flag isn't 0 that with nanoseconds.
+fn format_by(nanoseconds: u32) -> Format
+    ensures form { IsPcap result }
+    ensures resolution { resolution_of result ≡ resolution_by nanoseconds }
+{
+    if nanoseconds == 0 {
+        Format::Pcap
+    } else {
+        Format::NsecPcap
+    }
+}
+
+/// Puts the file header of a pcap form.
+pub fn write_file_header(nanoseconds: u32, link_type: u16, buffer: &mut [u8]) -> Written
+    ensures { WriteLeaves None (file_header (resolution_by nanoseconds) link_type) buffer.old
+        buffer.new
+        result }
+{
+    let head = head_bytes(format_by(nanoseconds), link_type);
+    put_parts(&[&head], head.len(), buffer)
+}
+
+/// Puts the record of a packet of a pcap form. It is refused where its time is 2^63 nanoseconds or
+/// more, and then as `cap_pcap::fits` says.
+pub fn write_record(
+    nanoseconds: u32,
+    time: u64,
+    original: u32,
+    bytes: &[u8],
+    buffer: &mut [u8],
+) -> Written
+    ensures { let packet = written_packet time original bytes.now [] in
+        WriteLeaves (first_failing (written_record_checks packet))
+        (record_text (resolution_by nanoseconds) packet) buffer.old buffer.new result }
+{
+    if time >= TIME_END {
+        return Written::Refused(Fault::TimeOutOfRange);
+    }
+    let packet = Packet {
+        link: 0,
+        snap: 0,
+        name: &[],
+        time,
+        orig: original,
+        bytes,
+        comment: &[],
+    };
+    let format = format_by(nanoseconds);
+    match cap_pcap::fits(format, &packet) {
+        Ok(()) => {
+            let head = record_bytes(format, &packet);
+            put_parts(&[&head, bytes], head.len() + bytes.len(), buffer)
+        }
+        Err(fault) => Written::Refused(fault),
+    }
+}
+
+/// Puts a section header block.
+pub fn write_section(buffer: &mut [u8]) -> Written
+    ensures { WriteLeaves None section_text buffer.old buffer.new result }
+{
+    let section = section_bytes();
+    put_parts(&[&section], section.len(), buffer)
+}
+
+/// Puts an interface description block, in ticks of nanoseconds. A name of over 255 bytes is
+/// `BadOption`.
+pub fn write_interface(link_type: u16, snap: u32, name: &[u8], buffer: &mut [u8]) -> Written
+    ensures { WriteLeaves (first_failing (interface_checks name.now))
+        (interface_text link_type snap name.now) buffer.old buffer.new result }
+{
+    if name.len() > MOST_NAME {
+        return Written::Refused(Fault::BadOption);
+    }
+    let packet = Packet {
+        link: link_type,
+        snap,
+        name,
+        time: 0,
+        orig: 0,
+        bytes: &[],
+        comment: &[],
+    };
+    put_interface(&packet, buffer)
+}
+
+/// Puts the description of a packet's interface.
+fn put_interface(packet: &Packet<'_>, buffer: &mut [u8]) -> Written
+    ensures { WriteLeaves None
+        (interface_text packet.now.link packet.now.snap packet.now.name.now) buffer.old buffer.new
+        result }
+{
+    let name = packet.name;
+    let padding = padding_after(name.len());
+    let option = option_header(NAME, name);
+    let start = if name.is_empty() { 7 } else { 3 };
+    let option = &option[start..];
+    let size = 32 + option.len() + name.len() + padding;
+    let head = interface_header(size as u32, packet);
+    let end = interface_end(size as u32);
+    put_parts(&[&head, option, name, &end[3 - padding..]], size, buffer)
+}
+
+/// Puts the block of a packet of this interface, after its section and the descriptions of its
+/// interfaces. It is refused where its time is 2^63 nanoseconds or more, its comment has over
+/// 65,535 bytes (`BadOption`), as `cap_pcapng::fits` says, and where the interface isn't among the
+/// first 4,096.
+pub fn write_packet(
+    interface: u32,
+    time: u64,
+    original: u32,
+    bytes: &[u8],
+    comment: &[u8],
+    buffer: &mut [u8],
+) -> Written
+    ensures { let packet = written_packet time original bytes.now comment.now in
+        WriteLeaves (first_failing (written_block_checks interface packet))
+        (packet_block interface packet)
+        buffer.old buffer.new result }
+{
+    if time >= TIME_END {
+        return Written::Refused(Fault::TimeOutOfRange);
+    }
+    if comment.len() > MOST_COMMENT {
+        return Written::Refused(Fault::BadOption);
+    }
+    let packet = Packet {
+        link: 0,
+        snap: 0,
+        name: &[],
+        time,
+        orig: original,
+        bytes,
+        comment,
+    };
+    match cap_pcapng::fits(&packet) {
+        Ok(()) if interface < MOST_INTERFACES => put_packet(interface, &packet, buffer),
+        Ok(()) => Written::Refused(Fault::TooManyOutputInterfaces),
+        Err(fault) => Written::Refused(fault),
+    }
+}
+
+/// Puts the block of a packet that fits.
+fn put_packet(number: u32, packet: &Packet<'_>, buffer: &mut [u8]) -> Written
+    requires { first_failing (block_fit_checks (captured packet.now)) ≡ None }
+    ensures { WriteLeaves None (packet_block number (captured packet.now)) buffer.old buffer.new
+        result }
+{
+    let padding = padding_after(packet.bytes.len());
+    if packet.comment.is_empty() {
+        let size = 32 + packet.bytes.len() + padding;
+        let head = packet_header(size as u32, number, packet);
+        let end = packet_end(size as u32);
+        return put_parts(&[&head, packet.bytes, &end[7 - padding..]], size, buffer);
+    }
+    let comment = packet.comment;
+    let option = option_header(COMMENT, comment);
+    let option = &option[3 - padding..];
+    let zeros = padding_after(comment.len()) + 4;
+    let size = 32 + packet.bytes.len() + option.len() + comment.len() + zeros;
+    let head = packet_header(size as u32, number, packet);
+    let end = packet_end(size as u32);
+    let parts = [&head[..], packet.bytes, option, comment, &end[7 - zeros..]];
+    put_parts(&parts, size, buffer)
+}
