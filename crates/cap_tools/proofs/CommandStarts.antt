@@ -1,5 +1,5 @@
 -- The job of a command of which nothing is done.
-use Rattle.std.proofs.Common.{◌≡◌, inl, inr, ℕ, ◌+◌, ◌≤◌, Bool, true, not, List, [], ◌++◌, map, length, take, None, Some, Option, Ok, Err, ap₂, refl, sym, ap, arith, subst, ◌∙◌, nat_eq, nat_le, ◌&&◌, add-zero}
+use Rattle.std.proofs.Common.{◌≡◌, inl, inr, ℕ, ◌+◌, ◌≤◌, Bool, true, not, List, [], ◌++◌, map, length, take, None, Option, Ok, Err, refl, sym, ap, arith, subst, ◌∙◌, nat_eq, nat_le, ◌&&◌, add-zero}
 use Rattle.std.proofs.lemmas.List.{append-nil}
 use Rattle.cap_octet.specs.declared.device.Stopped.{Stopped}
 use Rattle.flt_bpf.specs.Listing.{listing}
@@ -30,14 +30,14 @@ use Rattle.cap_tools.specs.Jobs.{JobView, first_job, state_at, end_message}
 use Rattle.cap_inputs.specs.Fresh.{fresh_inputs, nothing_done}
 use Rattle.cap_io.specs.Sequence.{order_of}
 use Rattle.cap_tools.specs.declared.step.JobEnd.TheVariants as end
-use Rattle.cap_inputs.specs.Inputs.{InputsView, steps_left}
+use Rattle.cap_inputs.specs.Inputs.{InputsView}
 use Rattle.cap_tools.specs.FirstStep.{output_by}
 use Rattle.cap_tools.specs.inside.FirstStep.{EndsList, is_text}
 use Rattle.cap_tools.specs.inside.Step.{ending}
 use Rattle.cap_tools.specs.Start.{Assignment, FilterAsked, Preparing, assignment}
 use Rattle.cap_process.specs.Selector.{SelectorView, state_with}
-use Rattle.cap_tools.specs.Commands.{CompileGives, DecidedBy, FilterGives, PreparesOnly, StepKeeps, preparing_left}
-use Rattle.cap_tools.specs.inside.Commands.{IsReadyIf, KeepsFirst}
+use Rattle.cap_tools.specs.Commands.{CompileGives, DecidedBy, FilterGives, PreparesOnly}
+use Rattle.cap_tools.specs.inside.Commands.{IsReadyIf, with_preparing}
 use Rattle.cap_tools.proofs.CommandRuns.{RunsBy, RunsCommand}
 use Rattle.cap_tools.proofs.Programs.{new-for}
 use Rattle.cap_tools.proofs.Starts.{nothing-decided, first-few, first-less}
@@ -46,40 +46,17 @@ pub lists-some : (tells : Bool) (words : List ℕ) (link : Link) (prog : List In
 lists-some tells words link prog old new turn.More compiled lists = lists
 lists-some tells words link prog old new (turn.Done status) compiled lists = inl (record { prog = prog; compiled = compiled; lists = lists })
 
--- the job from which is taken what it prepares
-abbrev pub preparing_else : Option Preparing → JobView → JobView
-preparing_else p j = record { preparing = p; state = j.state; programs = j.programs; err = j.err; turns = j.turns; done = j.done }
-
-pub compile-gives : (words : List ℕ) (link : Link) (tells : Bool) (p : Option Preparing) (old : JobView) (r : Turn) (new : JobView) → CompileGives words link tells (preparing_else p old) r new → CompileGives words link tells old r new
+pub compile-gives : (words : List ℕ) (link : Link) (tells : Bool) (p : Option Preparing) (old : JobView) (r : Turn) (new : JobView) → CompileGives words link tells (with_preparing p old) r new → CompileGives words link tells old r new
 compile-gives words link tells p old turn.More new gives = gives
 compile-gives words link tells p old (turn.Done status) new (inl some) = inl (record { prog = some.prog; compiled = some.compiled; lists = record { runs = some.lists.runs } })
 compile-gives words link tells p old (turn.Done status) new (inr none) = inr (record { fault = none.fault; why = none.why; refuses = record { status_is = none.refuses.status_is; exact = none.refuses.exact; new_is = none.refuses.new_is } })
 
-pub filter-gives : (asked : FilterAsked) (tells : Bool) (p : Option Preparing) (old : JobView) (r : Turn) (new : JobView) → FilterGives asked tells (preparing_else p old) r new → FilterGives asked tells old r new
+pub filter-gives : (asked : FilterAsked) (tells : Bool) (p : Option Preparing) (old : JobView) (r : Turn) (new : JobView) → FilterGives asked tells (with_preparing p old) r new → FilterGives asked tells old r new
 filter-gives asked tells p old turn.More new gives = record { rule = gives.rule; is = gives.is; programs = gives.programs; made = gives.made; new_is = gives.new_is }
 filter-gives asked tells p old (turn.Done status) new gives = record { refusal = gives.refusal; why = gives.why; refuses = record { status_is = gives.refuses.status_is; exact = gives.refuses.exact; new_is = gives.refuses.new_is } }
 
-pub first-reads : (p : Option Preparing) (old new : JobView) → PreparesOnly (preparing_else p old) new → PreparesOnly old new
+pub first-reads : (p : Option Preparing) (old new : JobView) → PreparesOnly (with_preparing p old) new → PreparesOnly old new
 first-reads p old new only = record { inputs = only.inputs; decided = only.decided; unspent = only.unspent }
-
--- what is prepared is one step
-pub first-keeps : (p : Option Preparing) (q : Preparing) (old : JobView) (r : Turn) (new : JobView) → old.preparing ≡ Some q → KeepsFirst (preparing_else p old) r new → StepKeeps old r new
-first-keeps p q old r new some keeps = record {
-  prepared = keeps.prepared;
-  done = keeps.done;
-  status = keeps.status;
-  turns = λ none. keeps.turns;
-  upper_bound = λ none. keeps.upper_bound;
-  light = keeps.light;
-  sound = keeps.sound;
-  left = λ more.
-      let after = ap₂ (λ (o : Option Preparing) (f : InputsView). preparing_left o + steps_left f) keeps.prepared keeps.inputs in
-      let before = ap (λ (o : Option Preparing). preparing_left o + steps_left old.state.inputs) some in
-      omega (arith, after, before);
-  names = keeps.names;
-  quiet = keeps.quiet;
-  policy = λ none. (cc);
-}
 
 one-input : (n : ℕ) (other : Bool) → (nat_eq n 1 && other) ≡ true → n ≤ most_inputs
 one-input n other is = let one = eqb-true n 1 (and_parts (nat_eq n 1) other is).0 in omega (arith, one)

@@ -1,5 +1,5 @@
 -- How a job ends, in the words of its outcome.
-use Rattle.std.proofs.Common.{◌≡◌, ℕ, List, [], ◌∷◌, ◌++◌, length, Some, Bool, IsTrue, refl, sym, ◌∙◌, ap, subst}
+use Rattle.std.proofs.Common.{◌≡◌, ℕ, List, Some, Bool, IsTrue, refl, sym, ◌∙◌, ap, subst}
 use Rattle.std.specs.List.{slice_get}
 use Rattle.cap_octet.specs.Views.{OutputView}
 use Rattle.cap_process.specs.Messages.{IsTold}

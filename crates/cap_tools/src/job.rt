@@ -1,12 +1,11 @@
 //! Jobs: one for all commands, step by step.
-ghost use Rattle.std.specs.Prelude.{ℕ, ◌≡◌, ◌+◌, ◌<◌, ◌≤◌, IfErr, IfOk, IsTrue, None, Some, length};
+ghost use Rattle.std.specs.Prelude.{ℕ, ◌≡◌, ◌<◌, ◌≤◌, IfErr, IfOk, IsTrue, None, Some, length};
 ghost use Rattle.std.specs.Prelude.{map, string_bytes, true, vec_len};
 ghost use Rattle.cap_command.specs.Command.{is_proper};
 ghost use Rattle.cap_process.specs.Messages.{IsTold};
 ghost use Rattle.cap_octet.specs.Views.{device_view, fresh_input, fresh_output, output_view};
-ghost use Rattle.cap_tools.specs.Bounds.{IsLight, ReadsNothing, StepReads, most_turns};
+ghost use Rattle.cap_tools.specs.Bounds.{ReadsNothing, StepReads};
 ghost use Rattle.cap_command.specs.Call.{call_of, run_result};
-ghost use Rattle.cap_inputs.specs.Inputs.{steps_left};
 ghost use Rattle.cap_inputs.specs.inside.Inputs.{most_steps};
 ghost use Rattle.cap_inputs.specs.Inputs as input_spec;
 ghost use Rattle.cap_tools.specs.Jobs.{end_status, end_message};
@@ -120,11 +119,10 @@ impl<I: Input, O: Output, E: Output, A: Allocator + Copy + Drop> Job<I, O, E, A>
     ghost use Rattle.cap_tools.specs.FirstStep.{RefusesStart, filtering};
     ghost use Rattle.cap_tools.specs.inside.FirstStep.{EndsList, IsFresh};
     ghost use Rattle.cap_tools.specs.inside.FirstStep.{is_text};
-    ghost use Rattle.cap_tools.specs.Jobs.{IsStatus, JobGives, done_by, first_job};
+    ghost use Rattle.cap_tools.specs.Jobs.{JobGives, first_job};
     ghost use Rattle.cap_tools.specs.Jobs.{turn_goes_on};
     ghost use Rattle.cap_inputs.specs.Fresh.{nothing_done};
     ghost use Rattle.cap_tools.specs.Packets.{failures_by, written_by};
-    ghost use Rattle.cap_process.specs.Selector.{HavePrograms};
     ghost use Rattle.cap_tools.specs.Start.{asked_by};
     ghost use Rattle.cap_tools.specs.inside.Step.{IsStep, ending};
 
@@ -241,21 +239,8 @@ impl<I: Input, O: Output, E: Output, A: Allocator + Copy + Drop> Job<I, O, E, A>
             × (self.new ≡ self.old) }
         ensures exact { IsTrue I.tells → IsTrue O.tells → self.old.done ≡ None
             → JobGives E.tells self.old result self.new }
-        ensures prepared { self.new.preparing ≡ None }
-        ensures done { self.new.done ≡ done_by result }
-        ensures status { IsStatus result }
-        ensures turns { self.old.done ≡ None → self.new.turns ≡ self.old.turns + 1 }
-        ensures upper_bound { self.old.done ≡ None → self.new.turns
-            ≤ most_turns self.old.state.inputs + 1 }
-        ensures reads { StepReads I.tells (turn_goes_on result) self.old
-            self.new }
-        ensures light { IsLight self.new.state }
-        ensures sound { HavePrograms self.new.state.policy self.new.programs }
-        ensures quiet { result ≡ Turn.More → self.new.err ≡ self.old.err }
-        ensures left { result ≡ Turn.More → (self.new.turns ≡ self.old.turns + 1)
-            × (steps_left self.new.state.inputs < steps_left self.old.state.inputs) }
-        ensures kept { (self.new.state.output.names ≡ self.old.state.output.names)
-            × (self.new.state.policy ≡ self.old.state.policy) }
+        ensures keeps { StepKeeps self.old result self.new }
+        ensures reads { StepReads I.tells (turn_goes_on result) self.old self.new }
     {
         if let Some(status) = self.done {
             return Turn::Done(status);
@@ -392,8 +377,7 @@ impl<I: Input, O: Output, E: Output, A: Allocator + Copy + Drop> Job<I, O, E, A>
         ensures more { result ≡ Turn.More }
         ensures filtered { self.new ≡ filtering (rule_of filter) count (programs_of filter)
             self.old }
-        ensures light { IsLight self.new.state }
-        ensures sound { HavePrograms self.new.state.policy self.new.programs }
+        ensures keeps { KeepsFirst self.old result self.new }
     {
         self.selector = Selector::filtering(filter, count);
         self.turns += 1;
@@ -405,10 +389,8 @@ impl<I: Input, O: Output, E: Output, A: Allocator + Copy + Drop> Job<I, O, E, A>
         requires fresh { IsFresh self.old }
         requires taken { self.old.preparing ≡ None }
         ensures done { result ≡ Turn.Done (refusal_status refusal) }
-        ensures status { IsStatus result }
         ensures refused { RefusesStart refusal E.tells self.old (refusal_status refusal) self.new }
-        ensures light { IsLight self.new.state }
-        ensures sound { HavePrograms self.new.state.policy self.new.programs }
+        ensures keeps { KeepsFirst self.old result self.new }
     {
         self.messages.refuse(refusal);
         let status = refusal.status();
@@ -424,16 +406,8 @@ impl<I: Input, O: Output, E: Output, A: Allocator + Copy + Drop> Job<I, O, E, A>
         requires text { is_text self.old.state.output.target ≡ true }
         ensures exact { IsTrue O.tells → EndsList program.now.insns E.tells self.old result
             self.new }
-        ensures prepared { self.new.preparing ≡ None }
-        ensures done { self.new.done ≡ done_by result }
-        ensures status { IsStatus result }
-        ensures turns { self.new.turns ≡ self.old.turns + 1 }
-        ensures inputs { self.new.state.inputs ≡ self.old.state.inputs }
+        ensures keeps { KeepsFirst self.old result self.new }
         ensures reads { ReadsNothing self.old self.new }
-        ensures light { IsLight self.new.state }
-        ensures sound { HavePrograms self.new.state.policy self.new.programs }
-        ensures names { self.new.state.output.names ≡ self.old.state.output.names }
-        ensures ends { result ≡ Turn.More → ⊥ }
     {
         match self.output.list(program) {
             Ok(()) => self.end(JobEnd::Complete),

@@ -1,11 +1,9 @@
 -- What is kept while nothing was decided, and how a run follows from its steps.
-use Rattle.std.specs.Prelude.{◌≡◌, ◌+◌, ◌≤◌, true, Option, None, Some}
+use Rattle.std.specs.Prelude.{◌≡◌, true, Option, None, Some}
 use Rattle.cap_tools.specs.declared.job.Turn.{Turn}
-use Rattle.cap_tools.specs.declared.job.Turn.TheVariants as turn
 use Rattle.cap_tools.specs.Start.{Preparing, ReadsFilter, Compiles}
-use Rattle.cap_process.specs.Selector.{HavePrograms}
-use Rattle.cap_tools.specs.Bounds.{IsLight, most_turns}
-use Rattle.cap_tools.specs.Jobs.{JobView, IsStatus, done_by}
+use Rattle.cap_tools.specs.Jobs.{JobView}
+use Rattle.cap_tools.specs.Commands.{StepKeeps}
 use Rattle.cap_tools.specs.inside.FirstStep.{IsFresh, is_text}
 
 -- a job that still prepares made no step; what is compiled is written as text
@@ -17,15 +15,17 @@ abbrev pub IsReadyIf : Option Preparing → JobView → Type 0
 IsReadyIf None j = Unit {0}
 IsReadyIf (Some preparing) j = HasMadeNoStep preparing j
 
--- What the first step of a job keeps that reads a filter or compiles: no input is touched.
-pub record KeepsFirst (old : JobView) (r : Turn) (new : JobView) : Type 0 where
-  pub prepared : new.preparing ≡ None
-  pub done : new.done ≡ done_by r
-  pub status : IsStatus r
-  pub turns : new.turns ≡ old.turns + 1
-  pub upper_bound : new.turns ≤ most_turns old.state.inputs + 1
-  pub light : IsLight new.state
-  pub sound : HavePrograms new.state.policy new.programs
-  pub inputs : new.state.inputs ≡ old.state.inputs
-  pub names : new.state.output.names ≡ old.state.output.names
-  pub quiet : r ≡ turn.More → new.err ≡ old.err
+-- the job that has still this to prepare
+abbrev pub with_preparing : Option Preparing → JobView → JobView
+with_preparing p j = record {
+  preparing = p;
+  state = j.state;
+  programs = j.programs;
+  err = j.err;
+  turns = j.turns;
+  done = j.done;
+}
+
+-- What the first step of a job keeps that reads a filter or compiles: it prepares that no more.
+abbrev pub KeepsFirst : JobView → Turn → JobView → Type 0
+KeepsFirst old r new = (p : Preparing) → StepKeeps (with_preparing (Some p) old) r new

@@ -1,4 +1,4 @@
-use Rattle.std.proofs.Common.{ℕ, List, arith, subst}
+use Rattle.std.proofs.Common.{ℕ, List, subst}
 use Rattle.cap_filter.specs.Compilation.{IsCompiled}
 use Rattle.cap_tools.proofs.CommandStarts.{lists-some}
 use Rattle.cap_tools.proofs.job.Job.compile.Goals as goal
@@ -9,18 +9,4 @@ returns-in-Ok-clause-gives g c = λ to.
     lists-some g.E.Output.tells _ c.args.compile.now.link c.in-Ok.program.insns c.args.self.now c.list.new.self c.list.result (subst P c.as_str.ensures.value c.in-Ok.ensures.compiled) (c.list.ensures.exact to)
 
 pub returns-in-Ok-clause-keeps : goal.returns-in-Ok-clause-keeps
-returns-in-Ok-clause-keeps g c =
-    let turns = c.list.ensures.turns in
-    let none = c.requires.fresh.turns in
-    record {
-      prepared = c.list.ensures.prepared;
-      done = c.list.ensures.done;
-      status = c.list.ensures.status;
-      turns = turns;
-      upper_bound = omega (arith, turns, none);
-      light = c.list.ensures.light;
-      sound = c.list.ensures.sound;
-      inputs = c.list.ensures.inputs;
-      names = c.list.ensures.names;
-      quiet = λ more. absurd (c.list.ensures.ends more);
-    }
+returns-in-Ok-clause-keeps g c = c.list.ensures.keeps

@@ -12,11 +12,6 @@ use Rattle.cap_tools.proofs.Kept.{reads-kept}
 use Rattle.cap_tools.proofs.Weights.{is-light}
 use Rattle.cap_tools.proofs.job.Job.go_on.Goals as goal
 
-pub returns-in-Some-clause-light : goal.returns-in-Some-clause-light
-returns-in-Some-clause-light g c =
-    let L : JobView → Type 0 = λ v. IsLight v.state in
-    subst L c.self.view_is (is-light (state_at c.self.inside.inputs c.self.inside.selector (output_at c.self.inside.messages.names c.self.inside.output) c.self.inside.decided) c.self.invariant.1 c.self.invariant.2)
-
 pub returns-in-None-clause-reads : goal.returns-in-None-clause-reads
 returns-in-None-clause-reads g c =
     let P : JobView → Type 0 = λ v. StepReads g.I.Input.tells true c.args.self.now (record { preparing = v.preparing; state = v.state; programs = v.programs; err = v.err; turns = v.turns + 1; done = v.done }) in
@@ -39,35 +34,20 @@ returns-in-Some-do_next-clause-reads g c =
     let mid : JobView = c.do_next.new.self in
     rw c.end.ensures.done (subst P (sym c.end.ensures.ended) (reads-kept g.I.Input.tells false c.args.self.now mid mid.preparing c.end.new.self.err (mid.turns + 1) (Some (end_status c.in-Some-do_next.end)) c.in-Some-do_next.ensures.reads))
 
-pub returns-in-None-clause-upper_bound : goal.returns-in-None-clause-upper_bound
-returns-in-None-clause-upper_bound g c = grind (arith, common_steps)
-
-pub returns-in-None-clause-left : goal.returns-in-None-clause-left
-returns-in-None-clause-left g c = grind (arith, common_steps)
-
-pub returns-in-None-clause-kept : goal.returns-in-None-clause-kept
-returns-in-None-clause-kept g c = grind (arith, common_steps)
-
-pub returns-in-Some-clause-upper_bound : goal.returns-in-Some-clause-upper_bound
-returns-in-Some-clause-upper_bound g c = grind (arith, common_steps)
-
-pub returns-in-Some-clause-left : goal.returns-in-Some-clause-left
-returns-in-Some-clause-left g c = grind (arith, common_steps)
-
-pub returns-in-Some-clause-kept : goal.returns-in-Some-clause-kept
-returns-in-Some-clause-kept g c = grind (arith, common_steps)
-
 pub returns-in-Some-clause-reads : goal.returns-in-Some-clause-reads
 returns-in-Some-clause-reads g c = grind (arith, common_steps)
 
 pub returns-in-Some-clause-exact : goal.returns-in-Some-clause-exact
 returns-in-Some-clause-exact g c = grind (arith, common_steps)
 
-pub returns-in-Some-do_next-clause-upper_bound : goal.returns-in-Some-do_next-clause-upper_bound
-returns-in-Some-do_next-clause-upper_bound g c = grind (arith, common_steps)
+pub returns-in-Some-clause-keeps : goal.returns-in-Some-clause-keeps
+returns-in-Some-clause-keeps g c =
+    let L : JobView → Type 0 = λ v. IsLight v.state in
+    let light = subst L c.self.view_is (is-light (state_at c.self.inside.inputs c.self.inside.selector (output_at c.self.inside.messages.names c.self.inside.output) c.self.inside.decided) c.self.invariant.1 c.self.invariant.2) in
+    grind (arith, common_steps, light)
 
-pub returns-in-Some-do_next-clause-left : goal.returns-in-Some-do_next-clause-left
-returns-in-Some-do_next-clause-left g c = grind (arith, common_steps)
+pub returns-in-None-clause-keeps : goal.returns-in-None-clause-keeps
+returns-in-None-clause-keeps g c = grind (arith, common_steps)
 
-pub returns-in-Some-do_next-clause-kept : goal.returns-in-Some-do_next-clause-kept
-returns-in-Some-do_next-clause-kept g c = grind (arith, common_steps)
+pub returns-in-Some-do_next-clause-keeps : goal.returns-in-Some-do_next-clause-keeps
+returns-in-Some-do_next-clause-keeps g c = grind (arith, common_steps)

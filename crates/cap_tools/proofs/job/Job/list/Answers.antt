@@ -1,4 +1,5 @@
-use Rattle.std.proofs.Common.{◌≡◌, true, refl, subst, sym, Option}
+use Rattle.std.proofs.Common.{◌≡◌, true, refl, subst, sym, Option, arith}
+use Rattle.std.proofs.lemmas.Grind.{common_steps}
 use Rattle.cap_octet.specs.Views.{OutputView}
 use Rattle.cap_process.specs.Output.{output_at}
 use Rattle.cap_tools.specs.declared.job.Turn.TheVariants as turn
@@ -21,10 +22,11 @@ returns-in-Ok-clause-exact g c = λ to.
     let P : JobView → Type 0 = λ v. EndsList c.args.program.now.insns g.E.Output.tells v (turn.Done 0) c.end.new.self in
     rw c.end.ensures.done (subst P c.self.view_is (listed-ok c.args.program.now.insns g.E.Output.tells was mid c.end.new.self (subst T (sym c.self.view_is) c.requires.text) (c.in-Ok.ensures.exact to) refl c.end.ensures.ended (c.end.ensures.quiet refl)))
 
-pub returns-in-Ok-clause-light : goal.returns-in-Ok-clause-light
-returns-in-Ok-clause-light g c =
+pub returns-in-Ok-clause-keeps : goal.returns-in-Ok-clause-keeps
+returns-in-Ok-clause-keeps g c = λ p.
     let L : JobView → Type 0 = λ v. IsLight v.state in
-    subst L (sym c.end.ensures.ended) (is-light (record { inputs = c.self.inside.inputs; policy = c.self.inside.selector.policy; state = c.self.inside.selector.state; output = output_at c.self.inside.messages.names c.list.new.self; decided = c.self.inside.decided }) (c.self.invariant.1.0, c.list.ensures.upper_bound c.self.invariant.1.1) c.self.invariant.2)
+    let light = subst L (sym c.end.ensures.ended) (is-light (record { inputs = c.self.inside.inputs; policy = c.self.inside.selector.policy; state = c.self.inside.selector.state; output = output_at c.self.inside.messages.names c.list.new.self; decided = c.self.inside.decided }) (c.self.invariant.1.0, c.list.ensures.upper_bound c.self.invariant.1.1) c.self.invariant.2) in
+    grind (arith, common_steps, light)
 
 pub returns-in-Err-clause-exact : goal.returns-in-Err-clause-exact
 returns-in-Err-clause-exact g c = λ to.
@@ -36,7 +38,8 @@ returns-in-Err-clause-exact g c = λ to.
     let P : JobView → Type 0 = λ v. EndsList c.args.program.now.insns g.E.Output.tells v (turn.Done 1) c.end-in-Err.new.self in
     rw c.end-in-Err.ensures.done (subst P c.self.view_is (listed-err c.args.program.now.insns g.E.Output.tells was mid c.end-in-Err.new.self c.in-Err.field-0 (subst T (sym c.self.view_is) c.requires.text) (c.in-Err.ensures.exact to) refl refl refl c.end-in-Err.ensures.ended c.end-in-Err.ensures.exact))
 
-pub returns-in-Err-clause-light : goal.returns-in-Err-clause-light
-returns-in-Err-clause-light g c =
+pub returns-in-Err-clause-keeps : goal.returns-in-Err-clause-keeps
+returns-in-Err-clause-keeps g c = λ p.
     let L : JobView → Type 0 = λ v. IsLight v.state in
-    subst L (sym c.end-in-Err.ensures.ended) (is-light (record { inputs = c.self.inside.inputs; policy = c.self.inside.selector.policy; state = c.self.inside.selector.state; output = output_at c.self.inside.messages.names c.list.new.self; decided = c.self.inside.decided }) (c.self.invariant.1.0, c.list.ensures.upper_bound c.self.invariant.1.1) c.self.invariant.2)
+    let light = subst L (sym c.end-in-Err.ensures.ended) (is-light (record { inputs = c.self.inside.inputs; policy = c.self.inside.selector.policy; state = c.self.inside.selector.state; output = output_at c.self.inside.messages.names c.list.new.self; decided = c.self.inside.decided }) (c.self.invariant.1.0, c.list.ensures.upper_bound c.self.invariant.1.1) c.self.invariant.2) in
+    grind (arith, common_steps, light)

@@ -1,4 +1,5 @@
-use Rattle.std.proofs.Common.{◌≡◌, ◌∙◌, ℕ, ◌+◌, List, Option, None, Some, refl, ap, ap₂, subst}
+use Rattle.std.proofs.Common.{◌≡◌, ◌∙◌, ℕ, ◌+◌, List, Option, None, Some, refl, ap, ap₂, arith, subst}
+use Rattle.std.proofs.lemmas.Grind.{common_steps}
 use Rattle.std.specs.Option.{option_map}
 use Rattle.cap_filter.specs.Refusals.{refusal_status}
 use Rattle.cap_process.specs.Output.{output_at}
@@ -24,7 +25,7 @@ returns-clause-refused g c =
     let N : Option Preparing → JobView = λ p. with p c.refuse.new.self.names c.status-status.result in
     subst P c.self.view_is (record { status_is = refl; exact = c.refuse.ensures.exact; new_is = ap N none ∙ ap₂ (with None) c.refuse.ensures.names c.status-status.ensures })
 
-pub returns-clause-light : goal.returns-clause-light
-returns-clause-light g c =
-    is-light (state_at c.self.inside.inputs c.self.inside.selector (output_at c.refuse.new.self.names c.self.inside.output) c.self.inside.decided)
-    c.self.invariant.1 c.self.invariant.2
+pub returns-clause-keeps : goal.returns-clause-keeps
+returns-clause-keeps g c = λ p.
+    let light = is-light (state_at c.self.inside.inputs c.self.inside.selector (output_at c.refuse.new.self.names c.self.inside.output) c.self.inside.decided) c.self.invariant.1 c.self.invariant.2 in
+    grind (arith, common_steps, light)

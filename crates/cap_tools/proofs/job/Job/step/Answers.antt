@@ -1,32 +1,16 @@
-use Rattle.std.proofs.Common.{◌≡◌, Option, None, Some, string_bytes, sym, ◌∙◌, ap, subst, arith}
+use Rattle.std.proofs.Common.{◌≡◌, Option, None, Some, string_bytes, sym, ◌∙◌, ap, subst}
 use Rattle.std.specs.Option.{option_map}
 use Rattle.cap_process.specs.Output.{output_at}
 use Rattle.cap_tools.specs.Start.{Preparing, ReadsFilter, Compiles, asked_by, preparing_of}
 use Rattle.cap_tools.specs.Jobs.{JobView, state_at, turn_goes_on}
-use Rattle.cap_tools.specs.Commands.{PreparesBy, StepKeeps, StepReadsBy, preparing_left}
-use Rattle.cap_tools.specs.inside.Commands.{IsReadyIf}
-use Rattle.cap_tools.proofs.CommandStarts.{compile-gives, filter-gives, first-keeps, first-reads}
+use Rattle.cap_tools.specs.Commands.{PreparesBy, StepKeeps, StepReadsBy}
+use Rattle.cap_tools.specs.inside.Commands.{IsReadyIf, with_preparing}
+use Rattle.cap_tools.proofs.CommandStarts.{compile-gives, filter-gives, first-reads}
 use Rattle.cap_tools.proofs.Preparing.{none-before, none-taken}
 use Rattle.cap_tools.proofs.job.Job.step.Goals as goal
 
 pub returns-then-is_none-clause-keeps : goal.returns-then-is_none-clause-keeps
-returns-then-is_none-clause-keeps g c =
-    record {
-      prepared = c.go_on.ensures.prepared;
-      done = c.go_on.ensures.done;
-      status = c.go_on.ensures.status;
-      turns = c.go_on.ensures.turns;
-      upper_bound = c.go_on.ensures.upper_bound;
-      light = c.go_on.ensures.light;
-      sound = c.go_on.ensures.sound;
-      left = λ more.
-          let none = ap preparing_left c.go_on.ensures.prepared in
-          let less = (c.go_on.ensures.left more).1 in
-          omega (arith, none, less);
-      names = c.go_on.ensures.kept.0;
-      quiet = c.go_on.ensures.quiet;
-      policy = λ none. c.go_on.ensures.kept.1;
-    }
+returns-then-is_none-clause-keeps g c = c.go_on.ensures.keeps
 
 pub returns-then-is_none-clause-prepares : goal.returns-then-is_none-clause-prepares
 returns-then-is_none-clause-prepares g c =
@@ -65,7 +49,8 @@ returns-in-Some-Filter-clause-keeps g c =
     let was : JobView = record { preparing = preparing; state = state_at c.self.inside.inputs c.self.inside.selector (output_at c.self.inside.messages.names c.self.inside.output) c.self.inside.decided; programs = c.self.inside.selector.programs; err = c.self.inside.messages.device; turns = c.self.inside.turns; done = c.self.inside.done } in
     let some : preparing ≡ Some (ReadsFilter (asked_by c.in-Some-Filter.print)) = ap (option_map preparing_of) (sym c.take.ensures.value ∙ c.in-Some-Filter.is ∙ ap Some c.in-Some-Filter.field-0-is) in
     let P : JobView → Type 0 = λ v. StepKeeps v c.read_filter.result c.read_filter.new.self in
-    subst P c.self.view_is (first-keeps (option_map preparing_of c.take.new.self) (ReadsFilter (asked_by c.in-Some-Filter.print)) was c.read_filter.result c.read_filter.new.self some c.read_filter.ensures.keeps)
+    let Q : Option Preparing → Type 0 = λ p. StepKeeps (with_preparing p was) c.read_filter.result c.read_filter.new.self in
+    subst P c.self.view_is (subst Q (sym some) (c.read_filter.ensures.keeps (ReadsFilter (asked_by c.in-Some-Filter.print))))
 
 pub returns-in-Some-Filter-clause-exact : goal.returns-in-Some-Filter-clause-exact
 returns-in-Some-Filter-clause-exact g c = λ ti to undone none.
@@ -98,7 +83,8 @@ returns-in-Some-Listing-clause-keeps g c =
     let was : JobView = record { preparing = preparing; state = state_at c.self.inside.inputs c.self.inside.selector (output_at c.self.inside.messages.names c.self.inside.output) c.self.inside.decided; programs = c.self.inside.selector.programs; err = c.self.inside.messages.device; turns = c.self.inside.turns; done = c.self.inside.done } in
     let some : preparing ≡ Some (Compiles (string_bytes c.in-Some-Listing.compile.expr) c.in-Some-Listing.compile.link) = ap (option_map preparing_of) (sym c.take.ensures.value ∙ c.in-Some-Listing.is ∙ ap Some c.in-Some-Listing.field-0-is) in
     let P : JobView → Type 0 = λ v. StepKeeps v c.compile.result c.compile.new.self in
-    subst P c.self.view_is (first-keeps (option_map preparing_of c.take.new.self) (Compiles (string_bytes c.in-Some-Listing.compile.expr) c.in-Some-Listing.compile.link) was c.compile.result c.compile.new.self some c.compile.ensures.keeps)
+    let Q : Option Preparing → Type 0 = λ p. StepKeeps (with_preparing p was) c.compile.result c.compile.new.self in
+    subst P c.self.view_is (subst Q (sym some) (c.compile.ensures.keeps (Compiles (string_bytes c.in-Some-Listing.compile.expr) c.in-Some-Listing.compile.link)))
 
 pub returns-in-Some-Listing-clause-exact : goal.returns-in-Some-Listing-clause-exact
 returns-in-Some-Listing-clause-exact g c = λ ti to undone none.
