@@ -42,7 +42,7 @@ def unnamed(tab):
 
 
 def unreached(tab):
-    """Elements for the focus that Tab doesn't come to in their order, or that don't show it."""
+    """Elements for the focus that Tab doesn't reach in their order, or that don't show it."""
     wanted = tab.value(REACHED)
     tab.value("document.querySelector('.skip').focus({focusVisible: true})")
     met, found = [], []

@@ -183,7 +183,7 @@ def table_of(texts):
 
 
 def verdict_of(program, trace, answer):
-    """What a run comes to: only a return ends it otherwise than by a rejection."""
+    """How a run ends: only a return ends it otherwise than by a rejection."""
     last = program.instructions[trace.places[-1]]
     if last.code & words.CLASS != words.RETURN:
         return REJECTED

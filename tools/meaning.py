@@ -7,13 +7,13 @@ usage: meaning.py NAME              the text of a function or type by its path, 
        meaning.py --folders [--strict] [--names]
                                     how many definitions of each file of specs/ a promise rests on, only a contract
                                     between crates, and no public contract
-       meaning.py --why NAME        how a public contract comes to a definition or type
+       meaning.py --why NAME        how a public contract leads to a definition or type
 
 A contract rests on the definitions, types and constants that its clauses and its signature name, on what these name,
 and so on: its closure. A type brings along how contracts see it (its `view`), a bound its trait, with the contracts
 there. What invariants of types and proofs/ cite is left out. Names are followed to the module that they come from.
 
-A command is the contract of `cap_tools::run` without the cases that the command never comes to: an edit compiles
+A command is the contract of `cap_tools::run` without the cases that the command never reaches: an edit compiles
 nothing. Which these are follows from `assignment`; each text names what it leaves out.
 
 A text goes from the contract down: what a definition names comes further down, or before it in its own file. The tables
@@ -35,7 +35,7 @@ from sources import ROOT, WORD, Sources, blanked
 
 POLICY = ("cap_process", "specs.Verdict", "Policy")
 COMMAND = ("cap_command", "src.command", "Command")
-# What a command chooses: of these types a text has only the cases that its command comes to.
+# What a command chooses: of these types a text has only the cases that its command reaches.
 CHOICES = {
     COMMAND,
     POLICY,
@@ -44,7 +44,7 @@ CHOICES = {
     ("cap_tools", "specs.Start", "Preparing"),
     ("cap_io", "specs.Sequence", "PacketOrder"),
 }
-# The equations, by their first words, that a command with something to prepare never comes to.
+# The equations, by their first words, that a command with something to prepare never reaches.
 PREPARED = ["IsPolicy None", "IsWhyRefused None"]
 COMMANDS = {"edit": [], "print": PREPARED, "merge": [], "infos": [], "compile": PREPARED}
 # Crates whose public functions are for other crates here.
@@ -63,14 +63,14 @@ HEADLINE = [
 
 
 class Cases:
-    """The cases that a command comes to, found from its variant on."""
+    """The cases that a command reaches, found from its variant on."""
 
     def __init__(self, command, never):
         self.command = {(*COMMAND, command.capitalize())}
         self.never, self.alive, self.impossible = never, set(self.command), set()
 
     def has(self, piece):
-        """Whether the command comes to this equation, constructor or variant."""
+        """Whether the command reaches this equation, constructor or variant."""
         asked = piece.patterns | (piece.uses if piece.kind == "rule" else set())
         if any(len(use) == 4 and use[:3] in CHOICES and use not in self.alive for use in asked):
             return False
@@ -318,7 +318,7 @@ def print_folder(name, numbers):
 
 
 def print_chain(meaning, name):
-    """How a public contract comes to an item; each line is used by the one above."""
+    """How a public contract leads to an item; each line is used by the one above."""
     chain = meaning.chain(name)
     for crate, module, item in chain or []:
         print(f"{crate} {module} {item}")
