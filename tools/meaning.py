@@ -55,6 +55,7 @@ BETWEEN = {
 # What the pages promise of these.
 PROMISED = {
     "flt_lay::laid_out", "flt_opt::replaces", "flt_passes::best_of", "flt_passes::optimised", "flt_short::shortened",
+    "flt_short::threaded",
 }
 # The headline: what is written, reported and returned, and what each step costs; the compiler; the command line; files.
 HEADLINE = [

@@ -10,9 +10,13 @@ use Rattle.cap_command.specs.declared.command.Print.{Print}
 use Rattle.cap_command.specs.declared.command.Shift.{Shift}
 use Rattle.cap_command.specs.declared.command.Shift.TheVariants as shift
 
--- the numbers of a range: from 1 on, in order, below 2^63
+-- packets' numbers are below this
+abbrev pub PACKET_NUMBER_END : ℕ
+PACKET_NUMBER_END = 2 ^ 63
+
+-- the numbers of a range: from 1 on, in order
 abbrev pub is_range : ℕ → ℕ → Bool
-is_range first last = nat_le 1 first && nat_le first last && nat_lt last (2 ^ 63)
+is_range first last = nat_le 1 first && nat_le first last && nat_lt last PACKET_NUMBER_END
 
 -- how many ranges an edit has at most
 abbrev pub most_ranges : ℕ

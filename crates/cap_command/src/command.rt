@@ -15,6 +15,9 @@ use std::alloc::{Allocator, Global};
 /// How many ranges an edit has at most.
 pub const MOST_RANGES: usize = 512;
 
+/// Packets' numbers are below this.
+pub const PACKET_NUMBER_END: u64 = 1 << 63;
+
 /// How many inputs a merge or a report has at most.
 pub const MOST_INPUTS: usize = 256;
 
@@ -142,7 +145,7 @@ fn is_input_count(inputs: usize) -> bool
 pub fn is_range(first: u64, last: u64) -> bool
     ensures { result ≡ is_range first last }
 {
-    1 <= first && first <= last && last < 1 << 63
+    1 <= first && first <= last && last < PACKET_NUMBER_END
 }
 
 fn are_ranges(ranges: &[(u64, u64)]) -> bool

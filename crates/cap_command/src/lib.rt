@@ -4,6 +4,6 @@
 mod command;
 
 pub use command::{
-    Command, Compile, Edit, LEAST_WINDOW, MOST_INPUTS, MOST_RANGES, MOST_WINDOW, Merge, Print,
-    Shift, is_range,
+    Command, Compile, Edit, LEAST_WINDOW, MOST_INPUTS, MOST_RANGES, MOST_WINDOW, Merge,
+    PACKET_NUMBER_END, Print, Shift, is_range,
 };

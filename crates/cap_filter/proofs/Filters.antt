@@ -16,7 +16,7 @@ use Rattle.flt_ast.specs.Tree.{Expression, empty, truth}
 use Rattle.cap_octet.specs.declared.link.Link.{Link}
 use Rattle.cap_octet.specs.declared.link.Link.TheVariants.{Ether}
 use Rattle.flt_gen.specs.Correct.{IsProgramOf}
-use Rattle.flt_emit.specs.Elementary.{Reading, Yes, No, Rejected}
+use Rattle.flt_emit.specs.Elementary.{MatchResult, Yes, No, Rejected}
 use Rattle.flt_gen.specs.Reading.{holds}
 use Rattle.cap_filter.specs.Decisions.{ReturnsDecision}
 use Rattle.cap_filter.specs.Programs.{AreMade, IsMade, steps_of_run, met_on, ran_at, ran_if, ran_on}
@@ -34,7 +34,7 @@ zero-unless : (a : ℕ) → (a ≢ 0 → ⊥) → not (nat_eq a 0) ≡ false
 zero-unless zero never = refl
 zero-unless (suc a) never = absurd (never (λ (same : suc a ≡ 0). absurd (omega arith)))
 
-answers-by : (r : Reading) (a : ℕ) → (a ≢ 0) ↔ (r ≡ Yes) → ReturnsDecision (decision_of r) (Ok (not (nat_eq a 0)))
+answers-by : (r : MatchResult) (a : ℕ) → (a ≢ 0) ↔ (r ≡ Yes) → ReturnsDecision (decision_of r) (Ok (not (nat_eq a 0)))
 answers-by Yes a right = nonzero a (right.1 refl)
 answers-by No a right = zero-unless a (λ other. let same : No ≡ Yes = right.0 other in absurd (cc))
 answers-by Rejected a right = zero-unless a (λ other. let same : Rejected ≡ Yes = right.0 other in absurd (cc))

@@ -9,7 +9,7 @@ use Rattle.flt_bpf.specs.Refusal as listing
 use Rattle.flt_bpf.specs.Valid.{IsValid, BreaksFirst}
 use Rattle.flt_ast.specs.Tree.{Expression, empty, truth}
 use Rattle.cap_octet.specs.declared.link.Link.{Link}
-use Rattle.flt_emit.specs.Elementary.{Reading, Yes, No, Rejected}
+use Rattle.flt_emit.specs.Elementary.{MatchResult, Yes, No, Rejected}
 use Rattle.flt_gen.specs.Reading.{holds}
 use Rattle.cap_filter.specs.declared.refusal.Refusal.{Refusal}
 use Rattle.cap_filter.specs.declared.refusal.Refusal.TheVariants as refusal
@@ -25,7 +25,7 @@ pub data Rule : Type 0 where
   by_answer : (prog : List Insn) → Rule
 
 -- a packet passes where an expression matches; one that is rejected doesn't
-abbrev pub decision_of : Reading → Decision
+abbrev pub decision_of : MatchResult → Decision
 decision_of Yes = Keep
 decision_of No = Skip
 decision_of Rejected = Skip

@@ -1,4 +1,4 @@
-//! An expression with its programs.
+//! A compiled expression: its tree, and its program for each link.
 ghost use Rattle.std.specs.Prelude.{◌≡◌, ◌==◌, ◌<◌, All, IfOk, length, position, slice_index_or};
 ghost use Rattle.cap_octet.specs.Packet.{captured};
 ghost use Rattle.flt_bpf.specs.Content.{Content};
@@ -35,18 +35,19 @@ impl<A: Allocator> Model for Compiled<A> {
     ghost invariant = { λ c. HasPrograms c.tree.expr c.programs.items };
 }
 
-fn place_in(links: &[Link], number: u16) -> Option<usize>
+/// The place among links of the one with this link type, from 0; `None` where none has it.
+fn place_of_link_type(links: &[Link], number: u16) -> Option<usize>
     ensures { result ≡ position (λ link. link_type link == number) links.now }
 {
     links.iter().position(|link| link.link_type() == number)
 }
 
-/// The place of the program for a link type, if expressions are read on it.
+/// The place in `programs` of the program for a link type, if expressions are read on it.
 #[tactic(auto, unfolding(cap_octet::specs::Link::all_links))]
 fn program_place(number: u16) -> Option<usize>
     ensures { result ≡ program_place number }
 {
-    place_in(&Link::ALL, number)
+    place_of_link_type(&Link::ALL, number)
 }
 
 /// A program for each of some links. An error means that memory ran out.
@@ -68,8 +69,8 @@ fn make_programs<A: Allocator + Copy + Drop>(
     Ok(programs)
 }
 
-/// Runs the program at a place on a packet, and gives the answer and how many instructions were
-/// met.
+/// Runs the program at a place on a packet, and returns its answer, 0 where it doesn't accept the
+/// packet, and how many instructions the run met.
 fn run_at<A: Allocator>(
     programs: &mut [Program<A>],
     place: usize,
@@ -93,7 +94,8 @@ impl<A: Allocator> Compiled<A> {
     ghost use Rattle.cap_filter.specs.FilterRules.{by_reading, expression_decides};
     ghost use Rattle.cap_filter.specs.Filters.{most_cost, spent_on};
 
-    /// Makes the programs of a tree. An error means that memory ran out.
+    /// A checked tree, of an expression that isn't empty, with its programs, which are made here.
+    /// An error means that memory ran out.
     #[tactic(auto, unfolding(cap_octet::specs::Link::all_links))]
     pub fn new(alloc: A, tree: Checked<A>) -> Result<Self, AllocError>
     where
@@ -108,7 +110,8 @@ impl<A: Allocator> Compiled<A> {
         Ok(Compiled { tree, programs })
     }
 
-    /// Whether a packet matches. It takes no memory; `LinkTypeNotFiltered` is its only error.
+    /// Whether a packet matches, by one run of the program for its link type. It takes no memory;
+    /// `LinkTypeNotFiltered` is its only error.
     pub fn passes(&mut self, packet: &Packet<'_>) -> Result<bool, Fault>
         ensures answers { ReturnsDecision (expression_decides self.old.tree (captured packet.now))
             result }

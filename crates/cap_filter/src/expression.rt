@@ -7,7 +7,7 @@ use flt_lang::{Checked, Expr, check, parse, resolve};
 use flt_words::{ExprFault, lex};
 use std::alloc::Allocator;
 
-/// The tree of a text, as it is written.
+/// The tree of a text as it is written, by its tokens; or the first fault of either.
 fn read_tree<A: Allocator + Copy + Drop>(alloc: A, text: &str) -> Result<Expr<A>, ExprFault>
     ensures read { IfOk result (λ tree. HasTree text.now tree) }
     ensures refused { IfErr result (IsTextFault text.now) }
@@ -18,8 +18,8 @@ fn read_tree<A: Allocator + Copy + Drop>(alloc: A, text: &str) -> Result<Expr<A>
     }
 }
 
-/// The tree with what is left out filled in, checked.
-fn settle<A: Allocator>(tree: Expr<A>) -> Result<Checked<A>, ExprFault>
+/// Fills in what a tree leaves out, and checks it; or the first fault of either.
+fn resolve_and_check<A: Allocator>(tree: Expr<A>) -> Result<Checked<A>, ExprFault>
     ensures settled { IfOk result (λ checked. IsSettled tree checked.expr) }
     ensures refused { IfErr result (HasFault tree) }
 {
@@ -39,7 +39,7 @@ pub fn read_expression<A: Allocator + Copy + Drop>(
     ensures refused { IfErr result (IsTextFault text.now) }
 {
     match read_tree(alloc, text) {
-        Ok(tree) => settle(tree),
+        Ok(tree) => resolve_and_check(tree),
         Err(fault) => Err(fault),
     }
 }

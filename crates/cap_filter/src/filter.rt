@@ -1,4 +1,4 @@
-//! What decides which packets pass.
+//! Filters: what decides which packets pass, made of an expression's words or of a listing.
 ghost use Rattle.std.specs.Prelude.{◌≡◌, IfErr, IfOk, None, Some};
 ghost use Rattle.cap_filter.specs.FilterRules.{IsRule, IsWhy, by_reading};
 ghost use Rattle.cap_filter.specs.Filters.{AreNew, programs_of, rule_of};
@@ -55,8 +55,9 @@ impl<A: Allocator> Filter<A> {
     }
 }
 
-/// The filter of a checked tree, with its programs. An error means that memory ran out.
-fn filter_of<A: Allocator + Copy + Drop>(
+/// The filter of a checked tree, with its programs; of the empty tree all packets pass. An error
+/// means that memory ran out.
+fn filter_of_tree<A: Allocator + Copy + Drop>(
     alloc: A,
     tree: Checked<A>,
 ) -> Result<Filter<A>, AllocError>
@@ -70,10 +71,13 @@ fn filter_of<A: Allocator + Copy + Drop>(
     }
 }
 
-/// The filter of an expression, whose programs for all link types are made here.
+/// The filter of the words of an expression, whose programs for all links are made here.
 ///
 /// An error is the first of the text's faults, or out of memory (`ExprFault::Memory`).
-pub fn read_words<A: Allocator + Copy + Drop>(alloc: A, words: &str) -> Result<Filter<A>, Refusal>
+pub fn filter_of_words<A: Allocator + Copy + Drop>(
+    alloc: A,
+    words: &str,
+) -> Result<Filter<A>, Refusal>
     ensures rule { IfOk result (λ filter. IsRule words.now None (rule_of filter)) }
     ensures programs { IfOk result (λ filter. AreNew (rule_of filter) (programs_of filter)) }
     ensures refused { IfErr result (IsWhy words.now None) }
@@ -82,14 +86,15 @@ pub fn read_words<A: Allocator + Copy + Drop>(alloc: A, words: &str) -> Result<F
         Ok(tree) => tree,
         Err(fault) => return Err(Refusal::Expression(fault)),
     };
-    match filter_of(alloc, tree) {
+    match filter_of_tree(alloc, tree) {
         Ok(filter) => Ok(filter),
         Err(_) => Err(Refusal::Expression(ExprFault::Memory)),
     }
 }
 
-/// The filter of a listing, whatever the words.
-pub fn read_code<A: Allocator + Drop>(
+/// The filter of a listing's text, whatever the words. An error is its first fault as a listing,
+/// then the first rule of valid programs that it breaks, or out of memory (`ListingFault::Memory`).
+pub fn filter_of_listing<A: Allocator + Drop>(
     alloc: A,
     words: &str,
     text: &[u8],

@@ -14,8 +14,8 @@ use Rattle.cap_inputs.specs.Queue.{Queue}
 use Rattle.cap_inputs.specs.inside.Queue.{NotAfter, Precedes, IsFirstWaiting, is_entered}
 use Rattle.cap_octet.specs.declared.fault.Fault.{Fault}
 use Rattle.cap_inputs.specs.inside.Cursor.{EntersQueue, HasPlaceFor, HoldsQueue, IsNextAt, IsQueued, Leaves, TakesFirst, first_schedule, is_merge, schedule_after, schedule_after_decided, waiting_total, waits_with}
-use Rattle.cap_inputs.specs.Inputs.{InputView, NoneWaits, IsLeast, KeysOver, KeysFrom, IsInput, is_packet_found, key_of}
-use Rattle.cap_inputs.specs.inside.Inputs.{waiting_count}
+use Rattle.cap_inputs.specs.Inputs.{InputView, IsInput, is_packet_found, key_of}
+use Rattle.cap_inputs.specs.inside.Inputs.{NoneWaits, IsLeast, KeysOver, KeysFrom, waiting_count}
 use Rattle.cap_io.specs.Sequence.{order_of}
 use Rattle.cap_inputs.proofs.Cursors.{set-here}
 

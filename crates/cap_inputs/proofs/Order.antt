@@ -79,7 +79,7 @@ AllFrom k (r ∷ rs) = IsFrom k r.greatest r.items.packets × AllFrom k rs
 entries-over : (e : Entry) (input : ℕ) (ending : Ending) (greatest : ℕ) (ps : List Placed) → IsOver e.key greatest ps → Each (λ x. comes_before e x ≡ true) (entries_of input ending greatest ps)
 entries-over e input ending greatest [] h = tt
 entries-over e input ending greatest (p ∷ ps) h = (
-  ahead e (record { key = max greatest p.packet.time; input = input; p = p; last = end_after input ending ps }) h,
+  ahead e (record { key = max greatest p.packet.time; input = input; p = p; end = end_after input ending ps }) h,
   Each-weaker (FollowsIn input (max greatest p.packet.time)) (λ x. comes_before e x ≡ true) (λ x f. ahead e x (omega (arith, h, f.1))) (entries_of input ending (max greatest p.packet.time) ps)
       (entries-follow input ending (max greatest p.packet.time) ps),
 )
@@ -87,7 +87,7 @@ entries-over e input ending greatest (p ∷ ps) h = (
 entries-from : (e : Entry) (input : ℕ) (ending : Ending) (greatest : ℕ) (ps : List Placed) → e.input < input → IsFrom e.key greatest ps → Each (λ x. comes_before x e ≡ false) (entries_of input ending greatest ps)
 entries-from e input ending greatest [] l h = tt
 entries-from e input ending greatest (p ∷ ps) l h = (
-  not-after e (record { key = max greatest p.packet.time; input = input; p = p; last = end_after input ending ps }) h l,
+  not-after e (record { key = max greatest p.packet.time; input = input; p = p; end = end_after input ending ps }) h l,
   Each-weaker (FollowsIn input (max greatest p.packet.time)) (λ x. comes_before x e ≡ false) (λ x f. not-after e x (omega (arith, h, f.1)) (omega (arith, l, f.0))) (entries_of input ending (max greatest p.packet.time) ps)
       (entries-follow input ending (max greatest p.packet.time) ps),
 )
@@ -142,7 +142,7 @@ merged-next xs ys g p items ps size is whole over from =
     let same : record { greatest = g; items = items; size = size } ≡ r = ap (λ (l : List Placed). record { greatest = g; items = record { packets = l; declared = items.declared; ending = items.ending }; size = size }) is in
     let B : InputItems → Type 0 = λ z. fault_without_packets 0 (xs ++ z ∷ ys) ≡ Complete in
     let whole' : fault_without_packets 0 (xs ++ r ∷ ys) ≡ Complete = subst B same whole in
-    let e : Entry = record { key = k; input = n; p = p; last = end_after n items.ending ps } in
+    let e : Entry = record { key = k; input = n; p = p; end = end_after n items.ending ps } in
     let zero : 0 + n ≡ n = omega arith in
     let apart = first-over (fault_without_packets 0 xs) (fault_without_packets (0 + n) (r ∷ ys)) (sym (broken-append 0 xs (r ∷ ys)) ∙ whole') in
     let rest = first-over (end_at (0 + n) r) (fault_without_packets (0 + n + 1) ys) apart.1 in

@@ -10,7 +10,8 @@ use Rattle.cap_inputs.specs.declared.inputs.Next.TheVariants as next
 use Rattle.cap_inputs.specs.Cursor.{ordering_of}
 use Rattle.cap_inputs.specs.inside.Cursor.{AreToRead, IsNextAt, IsScheduled, IsTurnOf, first_schedule, schedule_after, schedule_after_decided}
 use Rattle.cap_io.specs.Sequence.{PacketOrder, InTurn, ByTime}
-use Rattle.cap_inputs.specs.Inputs.{InputView, AllEnded, AllReady, IsInput, IsNextIn, IsOpen, IsReady, NoneEnded, NoneWaits, input_after_decided, is_packet_found}
+use Rattle.cap_inputs.specs.Inputs.{InputView, IsInput, input_after_decided, is_packet_found}
+use Rattle.cap_inputs.specs.inside.Inputs.{AllEnded, AllReady, IsNextIn, IsOpen, IsReady, NoneEnded, NoneWaits}
 use Rattle.cap_inputs.proofs.Cursors.{set-here}
 
 -- ---- in turn

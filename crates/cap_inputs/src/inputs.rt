@@ -199,7 +199,8 @@ impl<I: Input, A: Allocator> Model for Inputs<I, A> {
 impl<I: Input, A: Allocator> Inputs<I, A> {
     ghost use Rattle.cap_inputs.specs.Fresh.{fresh_inputs};
     ghost use Rattle.cap_inputs.specs.Inputs.{offset_at};
-    ghost use Rattle.cap_inputs.specs.Inputs.{InputsView, IsInput, IsNext, MarksDecided};
+    ghost use Rattle.cap_inputs.specs.Inputs.{InputsView, IsInput, MarksDecided};
+    ghost use Rattle.cap_inputs.specs.inside.Inputs.{IsNext};
     ghost use Rattle.cap_inputs.specs.Inputs.{ReadSteps, ReadsInput};
     ghost use Rattle.cap_inputs.specs.inside.Inputs.{first_declared_link};
     ghost use Rattle.cap_inputs.specs.inside.Inputs.{is_in_turn};

@@ -18,9 +18,9 @@ use Rattle.cap_pcapng.specs.Encoding.{interface_text, packet_block as pcapng_pac
 use Rattle.cap_io.specs.declared.numbering.InterfaceNumber.{InterfaceNumber}
 use Rattle.cap_io.specs.declared.sink.SinkState.{SinkState}
 use Rattle.cap_io.specs.inside.Numbering.{HasNumber}
-use Rattle.cap_io.specs.Sink.{WritesPacket, file_start_in, appended_packet}
+use Rattle.cap_io.specs.Sink.{WritesPacket}
+use Rattle.cap_io.specs.Text.{file_start_in, appended_packet, Interface, interface_of, is_among, number_among, descriptions, file_start, record_text}
 use Rattle.cap_io.specs.inside.Sink.{Appends, packet_block_text, description_text}
-use Rattle.cap_io.specs.Text.{Interface, interface_of, is_among, number_among, descriptions, file_start, record_text}
 
 pub appends-as : {E : Type 0} (r : Result (Unit {0}) E) (written bytes bytes' written' : List ℕ) → bytes ≡ bytes' → AppendsOrStops r written bytes written' → AppendsOrStops r written bytes' written'
 appends-as r written bytes bytes' written' same appends = let P : List ℕ → Type 0 = λ b. AppendsOrStops r written b written' in subst P same appends

@@ -1,5 +1,5 @@
 -- What is written in a pcap form reads back.
-use Rattle.std.proofs.Common.{◌≡◌, ℕ, ◌+◌, ◌*◌, ◌/◌, ◌%◌, ◌^◌, ◌<◌, ◌≤◌, Bool, List, [], ◌∷◌, ◌++◌, length, drop, nat_lt, None, refl, sym, ap, ◌∙◌, arith, le-leb, leb-true, lt-ltb}
+use Rattle.std.proofs.Common.{◌≡◌, ℕ, ◌+◌, ◌*◌, ◌/◌, ◌%◌, ◌^◌, ◌<◌, ◌≤◌, Bool, List, [], ◌∷◌, ◌++◌, length, drop, nat_lt, None, refl, sym, ap, subst, ◌∙◌, arith, le-leb, leb-true, lt-ltb}
 use Rattle.std.specs.List.{AllByRecursion, flat_map}
 use Rattle.std.proofs.lemmas.Bool.{eqb-true, ltb-true}
 use Rattle.cap_octet.specs.Checks.{first_failing}
@@ -20,7 +20,8 @@ use Rattle.cap_pcap.proofs.Records.{record_fault-whole}
 use Rattle.cap_pcapng.proofs.Numerals.{number_at}
 use Rattle.cap_io.specs.Capture.{PcapFile, a_pcap_header, a_pcap_record}
 use Rattle.cap_io.specs.RoundTrip.{Back, InRange, IsPlain, ReadsBack}
-use Rattle.cap_io.specs.Text.{has_first_link, packets_text, record_text}
+use Rattle.cap_io.specs.Text.{has_link, record_text, state_after}
+use Rattle.cap_io.proofs.Texts.{bare_text, text-start}
 use Rattle.cap_io.proofs.Backs.{Holds, each-following, holds-none, holds-unit, reads-back}
 
 -- ---- a record
@@ -114,11 +115,11 @@ records-hold r link at (p ∷ ps) kept =
     holds-unit unit at (flat_map (record_text r) ps) ps (records-hold r link (at + length (record_text r p)) ps kept.1) in
     rw back.packet at all
 
-text-pcap : (earlier ps : List Captured) → packets_text Pcap earlier ps ≡ flat_map (record_text Microseconds) ps
+text-pcap : (earlier ps : List Captured) → bare_text Pcap earlier ps ≡ flat_map (record_text Microseconds) ps
 text-pcap earlier [] = refl
 text-pcap earlier (p ∷ ps) = ap (λ (l : List ℕ). record_text Microseconds p ++ l) (text-pcap (earlier ++ p ∷ []) ps)
 
-text-nanoseconds : (earlier ps : List Captured) → packets_text NsecPcap earlier ps ≡ flat_map (record_text Nanoseconds) ps
+text-nanoseconds : (earlier ps : List Captured) → bare_text NsecPcap earlier ps ≡ flat_map (record_text Nanoseconds) ps
 text-nanoseconds earlier [] = refl
 text-nanoseconds earlier (p ∷ ps) = ap (λ (l : List ℕ). record_text Nanoseconds p ++ l) (text-nanoseconds (earlier ++ p ∷ []) ps)
 
@@ -129,6 +130,9 @@ file-back r link ps upper_bound kept =
     (holds-unit unit 0 (flat_map (record_text r) ps) ps (records-hold r link (0 + length (pcap.file_header r link)) ps kept))
 
 -- ---- what a form carries is kept
+
+abbrev has_first_link : List Captured → Captured → Bool
+has_first_link earlier p = has_link (state_after earlier) p
 
 abbrev link_check : List Captured → Captured → List (Bool × Fault)
 link_check earlier p = (has_first_link earlier p, LinkTypesDiffer) ∷ []
@@ -160,11 +164,15 @@ pcap-back p ps carries =
     let kept = each-following (IsKept Microseconds p.link) (p ∷ ps)
     (λ earlier q later is. let one = carries.each earlier q later is in kept-of Microseconds p q ps earlier later is one.in_range one.kept.0 one.kept.1 one.taken) [] (p ∷ ps) refl in
     let one = carries.each [] p ps refl in
-    rw (← text-pcap [] (p ∷ ps)) at (file-back Microseconds p.link (p ∷ ps) one.in_range.link kept)
+    let R : List ℕ → Type 0 = λ t. ReadsBack t (p ∷ ps) in
+    subst R (sym (text-start Pcap p ps ∙ ap (λ (l : List ℕ). pcap.file_header Microseconds p.link ++ l) (text-pcap [] (p ∷ ps))))
+    (file-back Microseconds p.link (p ∷ ps) one.in_range.link kept)
 
 pub nanoseconds-back : Back NsecPcap
 nanoseconds-back p ps carries =
     let kept = each-following (IsKept Nanoseconds p.link) (p ∷ ps)
     (λ earlier q later is. let one = carries.each earlier q later is in kept-of Nanoseconds p q ps earlier later is one.in_range one.kept tt one.taken) [] (p ∷ ps) refl in
     let one = carries.each [] p ps refl in
-    rw (← text-nanoseconds [] (p ∷ ps)) at (file-back Nanoseconds p.link (p ∷ ps) one.in_range.link kept)
+    let R : List ℕ → Type 0 = λ t. ReadsBack t (p ∷ ps) in
+    subst R (sym (text-start NsecPcap p ps ∙ ap (λ (l : List ℕ). pcap.file_header Nanoseconds p.link ++ l) (text-nanoseconds [] (p ∷ ps))))
+    (file-back Nanoseconds p.link (p ∷ ps) one.in_range.link kept)

@@ -1,23 +1,25 @@
 -- What is written in pcapng reads back.
 use Rattle.std.proofs.Common.{◌≡◌, ℕ, ◌+◌, suc, ◌||◌, ◌<◌, ◌≤◌, Bool, true, false, List, [], ◌∷◌, ◌++◌, length, map, not, cond, if◌then◌else◌, Option, None, Some, refl, sym, ap, subst, ◌∙◌, arith, length-append}
-use Rattle.std.specs.List.{AllByRecursion, slice_get}
+use Rattle.std.specs.List.{AllByRecursion, fold, slice_get}
 use Rattle.std.specs.Option.{option_map}
+use Rattle.std.proofs.lemmas.List.Sums.{fold-append}
 use Rattle.std.proofs.lemmas.List.{append_assoc, append-nil, length-map, map-append}
 use Rattle.std.proofs.lemmas.Option.{slice_get-map, slice_get_within}
 use Rattle.cap_octet.specs.Checks.{first_failing}
 use Rattle.cap_octet.specs.Packet.{Captured}
 use Rattle.cap_octet.specs.declared.format.Format.TheVariants.{Pcapng}
 use Rattle.cap_octet.proofs.Checks.{all_met, none_failing}
-use Rattle.cap_pcapng.specs.Interface.{Described}
+use Rattle.cap_pcapng.specs.Interface.{Described, most_interfaces}
 use Rattle.cap_pcapng.specs.Laws.{ReadsAs, written_interface, written_section}
-use Rattle.cap_pcapng.specs.Unit.{Section, most_interfaces, packets_in}
+use Rattle.cap_pcapng.specs.Unit.{Section, packets_in}
 use Rattle.cap_pcapng.specs.Encoding as pcapng
 use Rattle.cap_pcapng.proofs.WrittenBack.{section_back, interface_back, packet_back}
 use Rattle.cap_io.specs.Capture.{Nothing, PcapngFile, IsUnit, a_first_block, a_block, first_link_after}
-use Rattle.cap_io.specs.RoundTrip.{Back, InRange, IsCarried}
-use Rattle.cap_io.specs.Text.{Interface, interface_of, is_same, is_among, new_among, first_uses, interfaces_of, number_among, descriptions, packets_text, put_checks, text}
+use Rattle.cap_io.specs.RoundTrip.{Back, InRange, IsCarried, ReadsBack}
+use Rattle.cap_io.specs.Text.{Interface, checks_in, descriptions, interface_of, interfaces_after_packet, is_among, is_same, kept_interfaces, new_among, number_among, state_after}
 use Rattle.cap_io.proofs.Backs.{Holds, each-following, holds-none, holds-unit, reads-back}
-use Rattle.cap_io.proofs.Interfaces.{first_uses-append, interfaces_of-push, new-interfaces_of, same_interface}
+use Rattle.cap_io.proofs.Interfaces.{kept-grows, kept-push, same_interface}
+use Rattle.cap_io.proofs.Texts.{bare_text, text-start}
 
 -- ---- an interface has its number
 
@@ -104,43 +106,42 @@ described-holds false interfaces number p more ps known upper_bound kept later =
 
 -- ---- packets
 
-few-front : (xs ys : List Captured) (n : ℕ) → length (interfaces_of (xs ++ ys)) ≤ n → length (interfaces_of xs) ≤ n
+few-front : (xs ys : List Captured) (n : ℕ) → length (kept_interfaces Pcapng (xs ++ ys)) ≤ n → length (kept_interfaces Pcapng xs) ≤ n
 few-front xs ys n upper_bound =
-    let all : interfaces_of (xs ++ ys) ≡ interfaces_of xs ++ first_uses (map interface_of xs) (map interface_of ys) =
-    ap (first_uses []) (map-append interface_of xs ys) ∙ first_uses-append [] (map interface_of xs) (map interface_of ys) in
-    let size : length (interfaces_of xs ++ first_uses (map interface_of xs) (map interface_of ys)) ≡ length (interfaces_of xs) + length (first_uses (map interface_of xs) (map interface_of ys)) =
-    length-append (interfaces_of xs) (first_uses (map interface_of xs) (map interface_of ys)) in
-    omega (arith, upper_bound, ap length all, size)
+    let all : kept_interfaces Pcapng (xs ++ ys) ≡ fold (interfaces_after_packet Pcapng) (kept_interfaces Pcapng xs) ys = fold-append (interfaces_after_packet Pcapng) [] xs ys in
+    let size = ap length all in
+    let more = kept-grows (kept_interfaces Pcapng xs) ys in
+    omega (arith, upper_bound, size, more)
 
-packets-hold : (earlier ps : List Captured) → AllByRecursion IsKept ps → length (interfaces_of (earlier ++ ps)) ≤ most_interfaces
-    → HoldsAfter (interfaces_of earlier) (packets_text Pcapng earlier ps) ps
-packets-hold earlier [] kept upper_bound = λ first at. holds-none (PcapngFile first (section_of (interfaces_of earlier))) at refl
+packets-hold : (earlier ps : List Captured) → AllByRecursion IsKept ps → length (kept_interfaces Pcapng (earlier ++ ps)) ≤ most_interfaces
+    → HoldsAfter (kept_interfaces Pcapng earlier) (bare_text Pcapng earlier ps) ps
+packets-hold earlier [] kept upper_bound = λ first at. holds-none (PcapngFile first (section_of (kept_interfaces Pcapng earlier))) at refl
 packets-hold earlier (p ∷ ps) kept upper_bound =
     let i : Interface = interface_of p in
-    let is : List Interface = interfaces_of earlier in
-    let more : List ℕ = packets_text Pcapng (earlier ++ p ∷ []) ps in
-    let following : length (interfaces_of ((earlier ++ p ∷ []) ++ ps)) ≤ most_interfaces =
-    let L : List Captured → Type 0 = λ l. length (interfaces_of l) ≤ most_interfaces in subst L (sym (append_assoc earlier (p ∷ []) ps)) upper_bound in
-    let grown : interfaces_of (earlier ++ p ∷ []) ≡ is ++ new_among is i =
-    interfaces_of-push earlier p ∙ ap (λ (l : List Interface). is ++ l) (sym (new-interfaces_of earlier i)) in
+    let is : List Interface = kept_interfaces Pcapng earlier in
+    let more : List ℕ = bare_text Pcapng (earlier ++ p ∷ []) ps in
+    let following : length (kept_interfaces Pcapng ((earlier ++ p ∷ []) ++ ps)) ≤ most_interfaces =
+    let L : List Captured → Type 0 = λ l. length (kept_interfaces Pcapng l) ≤ most_interfaces in subst L (sym (append_assoc earlier (p ∷ []) ps)) upper_bound in
+    let grown : kept_interfaces Pcapng (earlier ++ p ∷ []) ≡ is ++ new_among is i = kept-push Pcapng earlier p in
     let later : HoldsAfter (is ++ new_among is i) more ps =
     let H : List Interface → Type 0 = λ l. HoldsAfter l more ps in subst H grown (packets-hold (earlier ++ p ∷ []) ps kept.1 following) in
     let within : length (is ++ new_among is i) ≤ most_interfaces =
     let L : List Interface → Type 0 = λ l. length l ≤ most_interfaces in subst L grown (few-front (earlier ++ p ∷ []) ps most_interfaces following) in
-    let T : List Interface → Type 0 = λ l. HoldsAfter is ((descriptions l ++ pcapng.packet_block (number_among is i) p) ++ more) (p ∷ ps) in
-    subst T (new-interfaces_of earlier i) (described-holds (is_among is i) is (number_among is i) p more ps (found is i) within kept.0 later)
+    described-holds (is_among is i) is (number_among is i) p more ps (found is i) within kept.0 later
 
 -- ---- a file
 
 kept-of : (earlier : List Captured) (p : Captured) → IsCarried Pcapng earlier p → IsKept p
 kept-of earlier p carried = record {
   in_range = carried.in_range;
-  fits = none_failing (pcapng.block_fit_checks p) ((all_met (put_checks Pcapng earlier p) carried.taken).0, tt);
+  fits = none_failing (pcapng.block_fit_checks p) ((all_met (checks_in Pcapng (state_after earlier) (kept_interfaces Pcapng earlier) p) carried.taken).0, tt);
 }
 
 pub pcapng-back : Back Pcapng
 pcapng-back p ps carries =
     let kept = each-following IsKept (p ∷ ps) (λ earlier q later is. kept-of earlier q (carries.each earlier q later is)) [] (p ∷ ps) refl in
     let unit = first-unit (written_section []) pcapng.section_text [] (section_back None) in
-    reads-back (text Pcapng (p ∷ ps)) (p ∷ ps)
-    (holds-unit unit 0 (packets_text Pcapng [] (p ∷ ps)) (p ∷ ps) (packets-hold [] (p ∷ ps) kept carries.interfaces _ _))
+    let R : List ℕ → Type 0 = λ t. ReadsBack t (p ∷ ps) in
+    subst R (sym (text-start Pcapng p ps))
+    (reads-back (pcapng.section_text ++ bare_text Pcapng [] (p ∷ ps)) (p ∷ ps)
+    (holds-unit unit 0 (bare_text Pcapng [] (p ∷ ps)) (p ∷ ps) (packets-hold [] (p ∷ ps) kept carries.interfaces _ _)))

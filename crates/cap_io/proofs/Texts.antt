@@ -1,5 +1,5 @@
 -- What a sink wrote is the text of the packets that were put to it.
-use Rattle.std.proofs.Common.{◌≡◌, ◌⊎◌, inl, inr, ℕ, ◌+◌, ◌/◌, ◌^◌, nat_le, nat_lt, length, not, Bool, true, false, List, [], ◌∷◌, ◌++◌, Option, None, Some, Result, Ok, Err, refl, sym, ◌∙◌, ap, ap₂, subst}
+use Rattle.std.proofs.Common.{◌≡◌, ◌⊎◌, inl, inr, ℕ, ◌+◌, ◌/◌, ◌^◌, nat_le, nat_lt, length, Bool, true, false, List, [], ◌∷◌, ◌++◌, Option, None, Some, Result, Ok, Err, refl, sym, ◌∙◌, ap, ap₂, subst}
 use Rattle.std.proofs.lemmas.List.{append_assoc, append-nil}
 use Rattle.cap_octet.specs.Checks.{first_failing}
 use Rattle.cap_octet.specs.Device.{AppendsOrStops}
@@ -14,10 +14,10 @@ use Rattle.cap_pcapng.specs.Padding.{padded_length}
 use Rattle.cap_pcapng.specs.Encoding as pcapng
 use Rattle.cap_io.specs.declared.sink.SinkState.{SinkState}
 use Rattle.cap_io.specs.declared.sink.SinkState.TheVariants.{Empty, Started, Broken}
-use Rattle.cap_io.specs.Text.{Interface, interface_of, interfaces_of, number_among, descriptions, most_output_interfaces, file_start, packet_text, packets_text, text, added_text, has_first_link, put_checks, refusal_of}
-use Rattle.cap_io.specs.Sink.{SinkView, sink_at, state_after, kept_interfaces, HasPut, HasPackets, takes_memory, AddsPacket, PutsNext, WritesPacket, PutsPacket, PutWrites, IsPutAnswer, Finishes, FinishWrites, FinishesEmpty, link_or_ethernet, checks_in, refusal_in, takes_memory_in, file_start_in, appended_packet, added_in, state_after_packet, interfaces_after_packet}
+use Rattle.cap_io.specs.Text.{Interface, added_text, appended_packet, checks_in, file_start, file_start_in, has_link, has_room, interfaces_after_packet, kept_interfaces, packets_text, refusal_of, state_after, state_after_packet, takes_memory, takes_memory_in, text}
+use Rattle.cap_io.specs.Sink.{SinkView, sink_at, HasPut, HasPackets, AddsPacket, PutsNext, WritesPacket, PutsPacket, PutWrites, IsPutAnswer, Finishes, FinishWrites, FinishesEmpty, link_or_ethernet, refusal_in, added_in}
 use Rattle.cap_io.specs.Laws.{EachPutGoesByPackets, PutExtendsText}
-use Rattle.cap_io.proofs.Interfaces.{interfaces_of-push, among-interfaces_of, new-interfaces_of}
+use Rattle.cap_io.proofs.Interfaces.{kept-push}
 
 -- ---- faults that refuse no packet
 
@@ -33,21 +33,35 @@ pub packets_text-append : (format : Format) (earlier xs ys : List Captured)
     → packets_text format earlier (xs ++ ys) ≡ packets_text format earlier xs ++ packets_text format (earlier ++ xs) ys
 packets_text-append format earlier [] ys = rw (append-nil earlier) refl
 packets_text-append format earlier (x ∷ xs) ys =
-    ap (λ (t : List ℕ). packet_text format earlier x ++ t) (packets_text-append format (earlier ++ x ∷ []) xs ys)
-    ∙ sym (append_assoc (packet_text format earlier x) (packets_text format (earlier ++ x ∷ []) xs) (packets_text format ((earlier ++ x ∷ []) ++ xs) ys))
-    ∙ ap (λ (b : List Captured). (packet_text format earlier x ++ packets_text format (earlier ++ x ∷ []) xs) ++ packets_text format b ys) (append_assoc earlier (x ∷ []) xs)
+    ap (λ (t : List ℕ). added_text format earlier x ++ t) (packets_text-append format (earlier ++ x ∷ []) xs ys)
+    ∙ sym (append_assoc (added_text format earlier x) (packets_text format (earlier ++ x ∷ []) xs) (packets_text format ((earlier ++ x ∷ []) ++ xs) ys))
+    ∙ ap (λ (b : List Captured). (added_text format earlier x ++ packets_text format (earlier ++ x ∷ []) xs) ++ packets_text format b ys) (append_assoc earlier (x ∷ []) xs)
 
 -- a packet adds its part after the text of those before it
 pub text-more : (format : Format) (ps : List Captured) (p : Captured) (xs : List Captured)
     → text format (ps ++ p ∷ xs) ≡ text format ps ++ (added_text format ps p ++ packets_text format (ps ++ p ∷ []) xs)
-text-more format [] p xs = sym (append_assoc (file_start format p.link) (packet_text format [] p) (packets_text format (p ∷ []) xs))
-text-more format (q ∷ qs) p xs =
-    ap (λ (t : List ℕ). file_start format q.link ++ t) (packets_text-append format [] (q ∷ qs) (p ∷ xs))
-    ∙ sym (append_assoc (file_start format q.link) (packets_text format [] (q ∷ qs)) (packets_text format (q ∷ qs) (p ∷ xs)))
+text-more format ps p xs = packets_text-append format [] ps (p ∷ xs)
 
 -- one packet more
 pub text-push : (format : Format) (ps : List Captured) (p : Captured) → text format (ps ++ p ∷ []) ≡ text format ps ++ added_text format ps p
 text-push format ps p = text-more format ps p [] ∙ ap (λ (t : List ℕ). text format ps ++ t) (append-nil (added_text format ps p))
+
+-- ---- the text without what the file begins with
+
+abbrev pub bare_text : Format → List Captured → List Captured → List ℕ
+bare_text format earlier [] = []
+bare_text format earlier (p ∷ ps) = appended_packet format (kept_interfaces format earlier) p ++ bare_text format (earlier ++ p ∷ []) ps
+
+bare-following : (format : Format) (q : Captured) (qs ps : List Captured) → packets_text format (q ∷ qs) ps ≡ bare_text format (q ∷ qs) ps
+bare-following format q qs [] = refl
+bare-following format q qs (p ∷ ps) = ap (λ (l : List ℕ). appended_packet format (kept_interfaces format (q ∷ qs)) p ++ l) (bare-following format q (qs ++ p ∷ []) ps)
+
+pub text-start : (format : Format) (p : Captured) (ps : List Captured) → text format (p ∷ ps) ≡ file_start format p.link ++ bare_text format [] (p ∷ ps)
+text-start format p ps =
+    ap (λ (l : List ℕ). (file_start format p.link ++ appended_packet format [] p) ++ l) (bare-following format p [] ps)
+    ∙ append_assoc (file_start format p.link) (appended_packet format [] p) (bare_text format (p ∷ []) ps)
+
+-- ---- refusals
 
 -- no packet is refused for a failure of the device or of memory
 record_by : (a b c : Bool) (fault : Fault) → IsFailure fault → first_failing ((a, LinkTypesDiffer) ∷ (b, TooLong) ∷ (c, TimeOutOfRange) ∷ []) ≡ Some fault → ⊥
@@ -63,11 +77,11 @@ block_by false b fault is e = is-failure TooLong fault is (cc) (λ f. (cc)) (λ 
 
 pub refused-failure : (format : Format) (ps : List Captured) (p : Captured) (fault : Fault) → IsFailure fault → refusal_of format ps p ≡ Some fault → ⊥
 refused-failure Pcap ps p fault is e =
-    record_by (has_first_link ps p) (nat_le (length p.bytes) most_captured) (nat_lt (p.time / 1000000000) (2 ^ 32)) fault is e
+    record_by (has_link (state_after ps) p) (nat_le (length p.bytes) most_captured) (nat_lt (p.time / 1000000000) (2 ^ 32)) fault is e
 refused-failure NsecPcap ps p fault is e =
-    record_by (has_first_link ps p) (nat_le (length p.bytes) most_captured) (nat_lt (p.time / 1000000000) (2 ^ 32)) fault is e
+    record_by (has_link (state_after ps) p) (nat_le (length p.bytes) most_captured) (nat_lt (p.time / 1000000000) (2 ^ 32)) fault is e
 refused-failure Pcapng ps p fault is e =
-    block_by (nat_le (32 + padded_length (length p.bytes) + length (pcapng.comment_text p.comment)) most_block) (nat_le (length (interfaces_of (ps ++ p ∷ []))) most_output_interfaces) fault is e
+    block_by (nat_le (32 + padded_length (length p.bytes) + length (pcapng.comment_text p.comment)) most_block) (has_room (kept_interfaces Pcapng ps) p) fault is e
 
 pub refused-write_failed : (format : Format) (ps : List Captured) (p : Captured) → refusal_of format ps p ≡ Some WriteFailed → ⊥
 refused-write_failed format ps p e = refused-failure format ps p WriteFailed (inl refl) e
@@ -77,15 +91,10 @@ refused-no_memory format ps p e = refused-failure format ps p NoMemory (inr refl
 
 -- ---- a sink that these packets were put to
 
-kept-none : (format : Format) → [] ≡ kept_interfaces format []
-kept-none Pcap = refl
-kept-none NsecPcap = refl
-kept-none Pcapng = refl
-
 -- a new sink has none
 pub HasPackets-none : (format : Format) (written : List ℕ) (failures room : ℕ) → HasPackets written (sink_at format written failures room) []
 HasPackets-none format written failures room =
-    record { written = sym (append-nil written); put = record { state = refl; interfaces = kept-none format } }
+    record { written = sym (append-nil written); put = record { state = refl; interfaces = refl } }
 
 -- ---- by what a sink keeps
 
@@ -93,47 +102,14 @@ state-after : (ps : List Captured) (p : Captured) → state_after_packet (state_
 state-after [] p = refl
 state-after (q ∷ qs) p = refl
 
-interfaces-after : (format : Format) (ps : List Captured) (p : Captured) → interfaces_after_packet format (kept_interfaces format ps) p ≡ kept_interfaces format (ps ++ p ∷ [])
-interfaces-after Pcap ps p = refl
-interfaces-after NsecPcap ps p = refl
-interfaces-after Pcapng ps p =
-    ap (λ (l : List Interface). interfaces_of ps ++ l) (new-interfaces_of ps (interface_of p)) ∙ sym (interfaces_of-push ps p)
-
-takes-after : (format : Format) (ps : List Captured) (p : Captured) → takes_memory_in format (kept_interfaces format ps) p ≡ takes_memory format ps p
-takes-after Pcap ps p = refl
-takes-after NsecPcap ps p = refl
-takes-after Pcapng ps p = ap not (among-interfaces_of ps (interface_of p))
-
-checks-after : (format : Format) (ps : List Captured) (p : Captured) → checks_in format (state_after ps) (kept_interfaces format ps) p ≡ put_checks format ps p
-checks-after Pcap [] p = refl
-checks-after Pcap (q ∷ qs) p = refl
-checks-after NsecPcap [] p = refl
-checks-after NsecPcap (q ∷ qs) p = refl
-checks-after Pcapng ps p =
-    ap (λ (l : List Interface). pcapng.block_fit_checks p ++ (nat_le (length l) most_output_interfaces, TooManyOutputInterfaces) ∷ []) (interfaces-after Pcapng ps p)
-
-packet-after : (format : Format) (ps : List Captured) (p : Captured) → appended_packet format (kept_interfaces format ps) p ≡ packet_text format ps p
-packet-after Pcap ps p = refl
-packet-after NsecPcap ps p = refl
-packet-after Pcapng ps p =
-    ap (λ (l : List Interface). descriptions l ++ pcapng.packet_block (number_among (interfaces_of ps) (interface_of p)) p) (new-interfaces_of ps (interface_of p))
-
-added-after : (format : Format) (ps : List Captured) (p : Captured) → file_start_in format (state_after ps) p.link ++ appended_packet format (kept_interfaces format ps) p ≡ added_text format ps p
-added-after format [] p = ap (λ (l : List ℕ). file_start format p.link ++ l) (packet-after format [] p)
-added-after format (q ∷ qs) p = packet-after format (q ∷ qs) p
-
 -- what a sink keeps decides what all of these packets do
 pub by-packets : EachPutGoesByPackets
 by-packets sink ps p has = record {
-  refusal =
-      ap₂ (λ (s : SinkState) (l : List Interface). first_failing (checks_in sink.format s l p)) has.state has.interfaces
-      ∙ ap first_failing (checks-after sink.format ps p);
-  memory = ap (λ (l : List Interface). takes_memory_in sink.format l p) has.interfaces ∙ takes-after sink.format ps p;
-  added =
-      ap₂ (λ (s : SinkState) (l : List Interface). file_start_in sink.format s p.link ++ appended_packet sink.format l p) has.state has.interfaces
-      ∙ added-after sink.format ps p;
+  refusal = ap₂ (λ (s : SinkState) (l : List Interface). first_failing (checks_in sink.format s l p)) has.state has.interfaces;
+  memory = ap (λ (l : List Interface). takes_memory_in sink.format l p) has.interfaces;
+  added = ap₂ (λ (s : SinkState) (l : List Interface). file_start_in sink.format s p.link ++ appended_packet sink.format l p) has.state has.interfaces;
   state = ap (λ (s : SinkState). state_after_packet s p) has.state ∙ state-after ps p;
-  interfaces = ap (λ (l : List Interface). interfaces_after_packet sink.format l p) has.interfaces ∙ interfaces-after sink.format ps p;
+  interfaces = ap (λ (l : List Interface). interfaces_after_packet sink.format l p) has.interfaces ∙ sym (kept-push sink.format ps p);
 }
 
 -- a sink that failed is as it was when the packet wasn't added, but for its state

@@ -4,8 +4,8 @@ use Rattle.std.specs.Prelude.{◌≡◌, ℕ, List, [], ◌∷◌, ◌++◌, len
 use Rattle.cap_octet.specs.Packet.{Captured}
 use Rattle.cap_octet.specs.declared.fault.Fault.{Fault}
 use Rattle.cap_io.specs.Capture.{Declared, Placed, IsCut, Stops, front_of, items, ending_by}
-use Rattle.cap_io.specs.Text.{added_text, refusal_of}
-use Rattle.cap_io.specs.Sink.{SinkView, HasPackets, HasPut, PutsPacket, PutWrites, added_in, interfaces_after_packet, kept_interfaces, refusal_in, state_after, state_after_packet, takes_memory, takes_memory_in}
+use Rattle.cap_io.specs.Text.{added_text, refusal_of, interfaces_after_packet, kept_interfaces, state_after, state_after_packet, takes_memory, takes_memory_in}
+use Rattle.cap_io.specs.Sink.{SinkView, HasPackets, HasPut, PutsPacket, PutWrites, added_in, refusal_in}
 
 -- some cut of a text
 pub record Cut (text : List ℕ) : Type 0 where

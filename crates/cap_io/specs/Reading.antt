@@ -1,5 +1,5 @@
 -- What reading one unit from a device does to its bytes and its counts.
-use Rattle.std.specs.Prelude.{◌≡◌, ℕ, ◌+◌, ◌<◌, ◌≤◌, ◌⊎◌, true, List, [], ◌++◌, length, drop, Option, None, Some, Result, Ok, Err, is_some, if◌then◌else◌}
+use Rattle.std.specs.Prelude.{◌≡◌, ℕ, ◌+◌, ◌<◌, ◌≤◌, ◌⊎◌, true, List, [], ◌++◌, length, drop, Option, None, Some, Result, Err, is_some, if◌then◌else◌}
 use Rattle.std.specs.List.{slice_get}
 use Rattle.std.specs.Option.{option_map}
 use Rattle.cap_octet.specs.Packet.{Captured}
@@ -24,9 +24,8 @@ most_in_unit = most_block
 
 -- how often the device failed in a call: only a failed read tells that it did
 abbrev pub read_failures : {X : Type 0} → Result X Fault → ℕ
-read_failures (Ok value) = 0
 read_failures (Err ReadFailed) = 1
-read_failures (Err fault) = 0
+read_failures result = 0
 
 -- how many bytes are taken at most of a text that begins so: no more than its unit
 abbrev pub most_taken : Front → ℕ
@@ -78,11 +77,10 @@ unit_length (PcapngFile first section) text = block_length (Some section) text
 
 -- a block that describes an interface, and fails no check
 abbrev pub DescribesInterface : Declared → List ℕ → Type 0
-DescribesInterface Nothing text = ⊥
-DescribesInterface (PcapFile head) text = ⊥
 DescribesInterface (PcapngFile first section) text =
     (unit_fault (Some section) text ≡ None)
     × (is_interface (parts_after (Some section) text) ≡ true)
+DescribesInterface declared text = ⊥
 
 -- The next unit is longer than the block has room for, or describes an interface.
 abbrev pub TakesMemory : ℕ → Declared → List ℕ → Type 0
@@ -91,11 +89,8 @@ TakesMemory room declared unread =
 
 -- how much of a unit of this size the block holds: none of the file header of pcap
 abbrev pub held_length : (before after : Declared) → ℕ → ℕ
-held_length Nothing Nothing size = size
 held_length Nothing (PcapFile head) size = 0
-held_length Nothing (PcapngFile first section) size = size
-held_length (PcapFile head) after size = size
-held_length (PcapngFile first section) after size = size
+held_length before after size = size
 
 -- These bytes are whole units, and a block of this size has room for each of them.
 pub data FitUnits (room : ℕ) : Declared → List ℕ → Declared → Type 0 where

@@ -4,9 +4,9 @@ use Rattle.cap_octet.specs.Packet.{Captured}
 use Rattle.cap_octet.specs.declared.format.Format.{Format}
 use Rattle.cap_octet.specs.declared.format.Format.TheVariants.{Pcap, NsecPcap, Pcapng}
 use Rattle.cap_pcap.specs.Record.{most_captured}
-use Rattle.cap_pcapng.specs.Unit.{most_interfaces}
+use Rattle.cap_pcapng.specs.Interface.{most_interfaces}
 use Rattle.cap_io.specs.Capture.{Placed, End, items}
-use Rattle.cap_io.specs.Text.{interfaces_of, refusal_of, text}
+use Rattle.cap_io.specs.Text.{kept_interfaces, refusal_of, text}
 
 -- each field of a packet is in its range
 pub record InRange (p : Captured) : Type 0 where
@@ -40,7 +40,7 @@ pub record IsCarried (format : Format) (earlier : List Captured) (p : Captured) 
 abbrev pub HasFewInterfaces : Format → List Captured → Type 0
 HasFewInterfaces Pcap ps = Unit {0}
 HasFewInterfaces NsecPcap ps = Unit {0}
-HasFewInterfaces Pcapng ps = length (interfaces_of ps) ≤ most_interfaces
+HasFewInterfaces Pcapng ps = length (kept_interfaces Pcapng ps) ≤ most_interfaces
 
 pub record Carries (format : Format) (ps : List Captured) : Type 0 where
   pub each : (earlier : List Captured) (p : Captured) (later : List Captured)

@@ -60,13 +60,13 @@ sequence_in_turn input (r ∷ rs) =
 
 -- ---- by time
 
--- A packet of an input, and the greatest time in its own input up to and with it. Where it is the
--- last of an input that ends by a fault, the order ends after it.
+-- A packet of an input, the greatest time in its own input up to and with it, and how the order
+-- ends after it: by a fault where it is the last of an input that does.
 pub record Entry : Type 0 where
   pub key : ℕ
   pub input : ℕ
   pub p : Placed
-  pub last : SequenceEnd
+  pub end : SequenceEnd
 
 abbrev pub end_of : ℕ → Ending → SequenceEnd
 end_of input End = Complete
@@ -85,7 +85,7 @@ entries_of input ending greatest (p ∷ ps) =
       key = max greatest p.packet.time;
       input = input;
       p = p;
-      last = end_after input ending ps;
+      end = end_after input ending ps;
     }
     ∷ entries_of input ending (max greatest p.packet.time) ps
 
@@ -117,7 +117,7 @@ end_or_more (FaultIn input fault offset) e more =
 -- up to and with the first packet after which the order ends
 abbrev pub sequence_of_entries : List Entry → Sequence
 sequence_of_entries [] = record { events = []; end = Complete }
-sequence_of_entries (e ∷ es) = end_or_more e.last (Packet e.input e.p) (sequence_of_entries es)
+sequence_of_entries (e ∷ es) = end_or_more e.end (Packet e.input e.p) (sequence_of_entries es)
 
 -- how the order ends with an input of which these items are left
 abbrev pub end_at : ℕ → InputItems → SequenceEnd

@@ -10,7 +10,7 @@ use Rattle.cap_io.specs.declared.source.Stage.{Stage}
 use Rattle.cap_io.specs.declared.source.Stage.TheVariants as stage
 use Rattle.cap_pcapng.specs.declared.effect.PacketSpans.{PacketSpans}
 use Rattle.cap_io.specs.declared.next_unit.UnitReader.{UnitReader}
-use Rattle.cap_io.specs.Capture.{Declared, Nothing, PcapFile, PcapngFile, IsUnit, AreUnits, Stops, front_of}
+use Rattle.cap_io.specs.Capture.{Declared, Nothing, PcapngFile, IsUnit, AreUnits, Stops, front_of}
 use Rattle.cap_io.specs.Reading.{most_in_unit, read_failures, IsReason, IsTaken, FitUnits, TakesMemory, declared_by, packet_in_unit}
 
 -- how far a source is: it goes on, or it met the clean end or a fault
@@ -53,23 +53,18 @@ source_at unread given failures sure = record {
 }
 
 abbrev pub phase_at : Stage → Phase
-phase_at stage.Between = Reading
-phase_at stage.InHand = Reading
 phase_at stage.Ended = Ended
 phase_at (stage.Failed fault) = Failed fault
+phase_at other = Reading
 
 abbrev pub block_at : Stage → PacketSpans → List ℕ → List ℕ
-block_at stage.Between spans buffer = []
 block_at stage.InHand spans buffer = take spans.size buffer
-block_at stage.Ended spans buffer = []
-block_at (stage.Failed fault) spans buffer = []
+block_at other spans buffer = []
 
 abbrev pub packet_at : Stage → PacketSpans → Declared → List ℕ → Option Captured
-packet_at stage.Between spans declared buffer = None
 packet_at stage.InHand spans declared buffer =
     packet_in_unit declared spans (take spans.size buffer)
-packet_at stage.Ended spans declared buffer = None
-packet_at (stage.Failed fault) spans declared buffer = None
+packet_at other spans declared buffer = None
 
 abbrev pub view_of : {I A : Type 0} → Ghosts I → Stage → UnitReader I A → ℕ → SourceView
 view_of device stage r offset = record {
@@ -152,9 +147,8 @@ end_offset s = s.offset + length s.block
 
 -- the current section has at most 256 interfaces, with names of at most 255 bytes
 abbrev pub SectionFits : Declared → Type 0
-SectionFits Nothing = Unit {0}
-SectionFits (PcapFile head) = Unit {0}
 SectionFits (PcapngFile first section) = FitSection section.interfaces
+SectionFits declared = Unit {0}
 
 -- what holds of any device
 pub record KeepsBounds (old : SourceView) (r : Result Bool Fault) (new : SourceView) : Type 0 where

@@ -1,7 +1,7 @@
 -- The text of a capture file that is written, and which packets are refused.
-use Rattle.std.specs.Prelude.{◌==◌, ◌&&◌, ◌≤◌, if◌then◌else◌, All, ℕ, Bool, true, List, [], ◌∷◌, ◌++◌, Option, length, map, nat_eq, nat_le}
+use Rattle.std.specs.Prelude.{◌==◌, ◌&&◌, ◌≤◌, if◌then◌else◌, All, ℕ, Bool, true, false, not, List, [], ◌∷◌, ◌++◌, Option, length, nat_eq, nat_le}
 use Rattle.std.specs.Cmp.Lexicographic.{pointwise}
-use Rattle.std.specs.List.{list_any, position_or_len}
+use Rattle.std.specs.List.{fold, list_any, position_or_len}
 use Rattle.cap_octet.specs.Checks.{first_failing}
 use Rattle.cap_octet.specs.Packet.{Captured}
 use Rattle.cap_octet.specs.declared.fault.Fault.{Fault}
@@ -12,6 +12,8 @@ use Rattle.cap_pcap.specs.Encoding as pcap
 use Rattle.cap_pcap.specs.declared.header.Resolution.{Resolution}
 use Rattle.cap_pcap.specs.declared.header.Resolution.TheVariants.{Microseconds, Nanoseconds}
 use Rattle.cap_pcapng.specs.Encoding as pcapng
+use Rattle.cap_io.specs.declared.sink.SinkState.{SinkState}
+use Rattle.cap_io.specs.declared.sink.SinkState.TheVariants.{Empty, Started}
 
 -- ---- the interfaces of a pcapng file
 
@@ -33,15 +35,6 @@ is_among interfaces i = list_any (is_same i) interfaces
 -- an interface, where none of these is the same
 abbrev pub new_among : List Interface → Interface → List Interface
 new_among interfaces i = if is_among interfaces i then [] else i ∷ []
-
--- those of the second list that come first there and aren't among the first
-abbrev pub first_uses : List Interface → List Interface → List Interface
-first_uses earlier [] = []
-first_uses earlier (i ∷ is) = new_among earlier i ++ first_uses (earlier ++ i ∷ []) is
-
--- the different interfaces of packets, in the order of first use
-abbrev pub interfaces_of : List Captured → List Interface
-interfaces_of ps = first_uses [] (map interface_of ps)
 
 -- how many interfaces come before this one, or how many there are where it is new
 abbrev pub number_among : List Interface → Interface → ℕ
@@ -72,54 +65,83 @@ abbrev pub descriptions : List Interface → List ℕ
 descriptions [] = []
 descriptions (i ∷ is) = pcapng.interface_text i.link i.snap i.name ++ descriptions is
 
--- the bytes of a packet that comes after these: in pcapng its interface is described in front of it
--- where no earlier packet has the same, and its number is how many different ones came first
-abbrev pub packet_text : Format → List Captured → Captured → List ℕ
-packet_text Pcap earlier p = record_text Microseconds p
-packet_text NsecPcap earlier p = record_text Nanoseconds p
-packet_text Pcapng earlier p =
-    descriptions (new_among (map interface_of earlier) (interface_of p))
-    ++ pcapng.packet_block (number_among (interfaces_of earlier) (interface_of p)) p
+-- ---- one packet more, by what a file keeps of those before it
 
--- the bytes of packets that come after these, one after another
-abbrev pub packets_text : Format → List Captured → List Captured → List ℕ
-packets_text format earlier [] = []
-packets_text format earlier (p ∷ ps) =
-    packet_text format earlier p ++ packets_text format (earlier ++ p ∷ []) ps
+-- the state and the interfaces after it: pcap forms have no interfaces
+abbrev pub state_after_packet : SinkState → Captured → SinkState
+state_after_packet Empty p = Started p.link
+state_after_packet state p = state
 
--- The text of a file: its file header has the link type of the first packet. Where there is none,
--- nothing is written.
-abbrev pub text : Format → List Captured → List ℕ
-text format [] = []
-text format (p ∷ ps) = file_start format p.link ++ packets_text format [] (p ∷ ps)
+abbrev pub interfaces_after_packet : Format → List Interface → Captured → List Interface
+interfaces_after_packet Pcapng interfaces p = interfaces ++ new_among interfaces (interface_of p)
+interfaces_after_packet format interfaces p = interfaces
 
--- what a packet adds to the text of those before it
-abbrev pub added_text : Format → List Captured → Captured → List ℕ
-added_text format [] p = file_start format p.link ++ packet_text format [] p
-added_text format (q ∷ qs) p = packet_text format (q ∷ qs) p
+-- whether it has the link type of the first
+abbrev pub has_link : SinkState → Captured → Bool
+has_link (Started link) p = link == p.link
+has_link state p = true
 
--- ---- refusals
+-- whether there is room for its interface
+abbrev pub has_room : List Interface → Captured → Bool
+has_room interfaces p =
+    nat_le (length (interfaces ++ new_among interfaces (interface_of p))) most_output_interfaces
 
--- whether a packet has the link type of the first
-abbrev pub has_first_link : List Captured → Captured → Bool
-has_first_link [] p = true
-has_first_link (q ∷ qs) p = q.link == p.link
+-- its checks, in order
+abbrev pub checks_in : Format → SinkState → List Interface → Captured → List (Bool × Fault)
+checks_in Pcapng state interfaces p =
+    pcapng.block_fit_checks p ++ (has_room interfaces p, TooManyOutputInterfaces) ∷ []
+checks_in format state interfaces p = (has_link state p, LinkTypesDiffer) ∷ pcap.record_fit_checks p
 
--- the checks of a packet that comes after these, in order
-abbrev pub put_checks : Format → List Captured → Captured → List (Bool × Fault)
-put_checks Pcap earlier p = (has_first_link earlier p, LinkTypesDiffer) ∷ pcap.record_fit_checks p
-put_checks NsecPcap earlier p =
-    (has_first_link earlier p, LinkTypesDiffer) ∷ pcap.record_fit_checks p
-put_checks Pcapng earlier p =
-    pcapng.block_fit_checks p
-    ++ (
-      nat_le
-          (length
-          (interfaces_of (earlier ++ p ∷ []))) most_output_interfaces,
-      TooManyOutputInterfaces,
-    )
-    ∷ []
+-- whether it takes memory: in pcapng, where its interface is new
+abbrev pub takes_memory_in : Format → List Interface → Captured → Bool
+takes_memory_in Pcapng interfaces p = not (is_among interfaces (interface_of p))
+takes_memory_in format interfaces p = false
+
+-- what is written in front of the first
+abbrev pub file_start_in : Format → SinkState → ℕ → List ℕ
+file_start_in format Empty link = file_start format link
+file_start_in format state link = []
+
+-- its own bytes: in pcapng its interface is described in front of it where that is new, and its
+-- number is how many interfaces come before it
+abbrev pub appended_packet : Format → List Interface → Captured → List ℕ
+appended_packet Pcap interfaces p = record_text Microseconds p
+appended_packet NsecPcap interfaces p = record_text Nanoseconds p
+appended_packet Pcapng interfaces p =
+    descriptions (new_among interfaces (interface_of p))
+    ++ pcapng.packet_block (number_among interfaces (interface_of p)) p
+
+-- ---- packets, one after another
+
+abbrev pub state_after : List Captured → SinkState
+state_after [] = Empty
+state_after (p ∷ ps) = Started p.link
+
+-- their different interfaces, in the order of first use
+abbrev pub kept_interfaces : Format → List Captured → List Interface
+kept_interfaces format packets = fold (interfaces_after_packet format) [] packets
 
 -- why a packet that comes after these isn't written
 abbrev pub refusal_of : Format → List Captured → Captured → Option Fault
-refusal_of format earlier p = first_failing (put_checks format earlier p)
+refusal_of format earlier p =
+    first_failing (checks_in format (state_after earlier) (kept_interfaces format earlier) p)
+
+-- whether it takes memory
+abbrev pub takes_memory : Format → List Captured → Captured → Bool
+takes_memory format earlier p = takes_memory_in format (kept_interfaces format earlier) p
+
+-- what it adds to the text of those before it
+abbrev pub added_text : Format → List Captured → Captured → List ℕ
+added_text format earlier p =
+    file_start_in format (state_after earlier) p.link
+    ++ appended_packet format (kept_interfaces format earlier) p
+
+-- the bytes of packets that come after these
+abbrev pub packets_text : Format → List Captured → List Captured → List ℕ
+packets_text format earlier [] = []
+packets_text format earlier (p ∷ ps) =
+    added_text format earlier p ++ packets_text format (earlier ++ p ∷ []) ps
+
+-- the text of a file: where there are no packets, nothing is written
+abbrev pub text : Format → List Captured → List ℕ
+text format packets = packets_text format [] packets

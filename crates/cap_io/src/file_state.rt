@@ -57,7 +57,7 @@ impl FileState {
             (declared_by self table.now) spans.now (take spans.now.size buffer.now) }
         ensures short { IfSome result (λ packet. length packet.bytes.now ≤ most_in_unit) }
     {
-        let bytes = spans.bytes.of(buffer);
+        let bytes = spans.bytes.bytes_in(buffer);
         match self {
             FileState::Unknown => None,
             FileState::Pcap(head) => Some(Packet {
@@ -71,7 +71,7 @@ impl FileState {
             }),
             FileState::Pcapng(order, _) => {
                 let interface = table.get(spans.interface)?;
-                let rest = spans.options.of(buffer);
+                let rest = spans.options.bytes_in(buffer);
                 Some(Packet {
                     link: interface.link,
                     snap: interface.snap,

@@ -13,5 +13,6 @@ mod unit;
 mod writing;
 
 pub use file_state::FileState;
+pub use numbering::MOST_OUTPUT_INTERFACES;
 pub use sink::{Sink, SinkState};
 pub use source::{Kind, Source};

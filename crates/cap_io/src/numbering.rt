@@ -13,7 +13,7 @@ use std::hash::{BuildHasherDefault, FoldHasher};
 use std::marker::Model;
 
 /// The most interfaces that a file is given.
-const MOST_INTERFACES: usize = 4096;
+pub const MOST_OUTPUT_INTERFACES: usize = 4096;
 
 /// What makes two interfaces one. The name lies in it, so that a look-up takes no memory.
 #[derive(Drop, PartialEq, Eq, Hash)]
@@ -94,7 +94,7 @@ impl<A: Allocator> OutputInterfaces<A> {
         ensures { result ≡ nat_le (length (self.now ++ new_among self.now
             (interface_of (captured packet.now)))) most_output_interfaces }
     {
-        self.keys.len() < MOST_INTERFACES || self.keys.contains(&InterfaceKey::of(packet))
+        self.keys.len() < MOST_OUTPUT_INTERFACES || self.keys.contains(&InterfaceKey::of(packet))
     }
 
     /// The number of a packet's interface, which comes last where it is new and must have room; or

@@ -12,7 +12,7 @@ use crate::file_state::NextUnit;
 use crate::next_unit::UnitReader;
 use crate::unit::{copy_unit, make_room, read_front, read_rest};
 use cap_octet::{Fault, Input, u32_at};
-use cap_pcap::{Head, RecordHead, read_head, read_magic, read_record};
+use cap_pcap::{Head, RecordHead, read_file_header, read_magic, read_record_header};
 use cap_pcapng::{PacketSpans, Span};
 use std::alloc::Allocator;
 
@@ -37,7 +37,7 @@ pub(crate) fn read_header<I: Input>(input: &mut I, first: &[u8; 4]) -> Result<He
     }
     let mut bytes = [0; 24];
     read_rest(input, first, &mut bytes, 24)?;
-    read_head(&bytes)
+    read_file_header(&bytes)
 }
 
 /// The fast way of `next_record`: copies the next record to the start of the buffer if the device has
@@ -56,7 +56,7 @@ pub(crate) fn take_record<I: Input>(
 {
     let hand = input.at_hand();
     let front = hand.first_chunk::<RECORD_HEAD>()?;
-    let Ok(found) = read_record(head, front) else {
+    let Ok(found) = read_record_header(head, front) else {
         return None;
     };
     let size = RECORD_HEAD + found.captured as usize;
@@ -102,7 +102,7 @@ impl<I: Input, A: Allocator> UnitReader<I, A> {
         if !read_front(&mut self.input, &mut front)? {
             return Ok(NextUnit::End);
         }
-        let found = read_record(head, &front)?;
+        let found = read_record_header(head, &front)?;
         let size = RECORD_HEAD + found.captured as usize;
         make_room(&mut self.buffer, size)?;
         read_rest(&mut self.input, &front, self.buffer.as_mut_slice(), size)?;

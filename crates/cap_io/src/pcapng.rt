@@ -11,7 +11,7 @@ use crate::file_state::{FileState, NextUnit};
 use crate::next_unit::UnitReader;
 use crate::unit::{make_room, read_front, read_rest};
 use cap_octet::{Fault, Input, Order};
-use cap_pcapng::{BlockEffect, BlockType, Frame, PacketSpans, Table, block_effect, frame};
+use cap_pcapng::{BlockEffect, BlockType, Frame, PacketSpans, Table, block_effect, read_frame};
 use std::alloc::Allocator;
 
 /// The bytes of a block in front of its body, and as many after them as tell a section header's
@@ -59,7 +59,7 @@ pub(crate) fn holds_packet(order: Order, bytes: &[u8]) -> bool {
     let mut order = order;
     let mut rest = bytes;
     while let Some(front) = rest.first_chunk::<BLOCK_FRONT>() {
-        let Ok(found) = frame(Some(order), front) else {
+        let Ok(found) = read_frame(Some(order), front) else {
             return false;
         };
         let size = found.length as usize;
@@ -84,7 +84,7 @@ impl<I: Input, A: Allocator> UnitReader<I, A> {
         requires bounded { I.given self.old.input < 2 ^ 63 }
         ensures { ReadsUnit I.Input self.old front.now result self.new }
     {
-        let found = frame(self.file.order(), front)?;
+        let found = read_frame(self.file.order(), front)?;
         let size = found.length as usize;
         make_room(&mut self.buffer, size)?;
         read_rest(&mut self.input, front, self.buffer.as_mut_slice(), size)?;

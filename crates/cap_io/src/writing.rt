@@ -5,14 +5,14 @@ ghost use Rattle.cap_octet.specs.Packet.{captured};
 ghost use Rattle.cap_pcap.specs.Encoding.{IsPcap, record_fit_checks, resolution_of};
 ghost use Rattle.cap_pcapng.specs.Encoding.{block_fit_checks};
 ghost use Rattle.cap_io.specs.Text.{record_text};
-ghost use Rattle.cap_io.specs.Sink.{checks_in, file_start_in};
+ghost use Rattle.cap_io.specs.Text.{checks_in, file_start_in};
 ghost use Rattle.cap_io.specs.inside.Sink.{Appends, packet_block_text};
 ghost use Rattle.cap_io.specs.declared.sink.SinkState.TheVariants as state;
 
 use crate::numbering::{InterfaceNumber, OutputInterfaces};
 use crate::sink::SinkState;
 use cap_octet::{DeviceFault, Fault, Format, Output, Packet, write_parts};
-use cap_pcap::{head_bytes, record_bytes};
+use cap_pcap::{file_header, record_header};
 use cap_pcapng::{section_bytes, write_interface, write_packet};
 use std::alloc::Allocator;
 
@@ -33,10 +33,10 @@ pub(crate) fn check<A: Allocator>(
                     return Err(Fault::LinkTypesDiffer);
                 }
             }
-            cap_pcap::fits(format, packet)
+            cap_pcap::check_record_fits(format, packet)
         }
         Format::Pcapng => {
-            cap_pcapng::fits(packet)?;
+            cap_pcapng::check_block_fits(packet)?;
             if !interfaces.has_room(packet) {
                 return Err(Fault::TooManyOutputInterfaces);
             }
@@ -53,7 +53,7 @@ fn begin_file<O: Output>(output: &mut O, format: Format, link: u16) -> Result<()
         output.new }
 {
     match format {
-        Format::Pcap | Format::NsecPcap => write_parts(output, &[&head_bytes(format, link)]),
+        Format::Pcap | Format::NsecPcap => write_parts(output, &[&file_header(format, link)]),
         Format::Pcapng => write_parts(output, &[&section_bytes()]),
     }
 }
@@ -87,7 +87,7 @@ pub(crate) fn write_record<O: Output>(
         ++ record_text (resolution_of format) (captured packet.now)) result output.new }
 {
     write_file_start(output, format, state, packet.link)?;
-    write_parts(output, &[&record_bytes(format, packet), packet.bytes])
+    write_parts(output, &[&record_header(format, packet), packet.bytes])
 }
 
 /// Writes a packet as a block, the first one after the section header, after the description of

@@ -7,7 +7,7 @@ use Rattle.std.proofs.lemmas.Int.Digits.{digits_value-lt}
 use Rattle.std.proofs.lemmas.List.{at_drop_more}
 use Rattle.std.specs.Char.{digit_value}
 use Rattle.std.specs.Str.Parse.{AllDigits, digits_value_after, digits_value}
-use Rattle.cap_octet.specs.Digits.{are_digits, number_of, in_u64}
+use Rattle.cap_octet.specs.Digits.{are_digits, decimal_value, in_u64}
 
 pub grows : (radix n : ℕ) (cs : List ℕ) → 1 ≤ radix → n ≤ digits_value_after radix n cs
 grows radix n [] h = omega arith
@@ -51,7 +51,7 @@ tests_in true v h = rw (lt-ltb v (2 ^ 64) (h refl)) refl
 tests_in false v h = refl
 
 -- up to 19 digits write less than 2^64
-pub few_in_u64 : (ds : List ℕ) → length ds ≤ 19 → in_u64 (number_of ds) ≡ number_of ds
+pub few_in_u64 : (ds : List ℕ) → length ds ≤ 19 → in_u64 (decimal_value ds) ≡ decimal_value ds
 few_in_u64 ds upper_bound = tests_in (not (length ds == 0) && are_digits 10 ds) (digits_value 10 ds)
     (λ pass. (let some = below_ten_to ds (both (not (length ds == 0)) (are_digits 10 ds) pass).1 in
     let most : 10 ^ length ds ≤ 10 ^ 19 = pow-le-pow_right (omega arith) upper_bound in

@@ -7,8 +7,8 @@ use Rattle.std.specs.Str.Parse.{digits_value}
 use Rattle.cap_octet.specs.Date.{NANOS_PER_SECOND}
 use Rattle.std.specs.Option.{option_and_then}
 use Rattle.cap_octet.proofs.Numerals.{below_ten_to, both, few_in_u64}
-use Rattle.cap_octet.specs.Digits.{are_digits, number_of, in_u64}
-use Rattle.cap_octet.specs.Seconds.{span_with, fraction_of}
+use Rattle.cap_octet.specs.Digits.{are_digits, decimal_value, in_u64}
+use Rattle.cap_octet.specs.Seconds.{duration_of_parts, fraction_nanoseconds}
 use Rattle.cap_octet.specs.Timestamp.{number_at}
 
 -- a number of a digits, moved to nine
@@ -26,20 +26,20 @@ tests_bound true v n m h e = (let same : v ≡ n = cc in let below = h refl in o
 tests_bound false v n m h e = absurd (cc)
 
 -- moved to nine digits they are less than a second
-pub part_below : (ds : List ℕ) (n : ℕ) → length ds ≤ 9 → number_of ds ≡ Some n → n * 10 ^ (9 - length ds) < 1000000000
+pub part_below : (ds : List ℕ) (n : ℕ) → length ds ≤ 9 → decimal_value ds ≡ Some n → n * 10 ^ (9 - length ds) < 1000000000
 part_below ds n upper_bound e =
     let below = tests_bound (not (length ds == 0) && are_digits 10 ds) (digits_value 10 ds) n (10 ^ length ds) (λ pass. below_ten_to ds (both (not (length ds == 0)) (are_digits 10 ds) pass).1) e in
     nine (length ds) n upper_bound below
 
 -- a number past the word is past the times
-pub span_with_in_u64 : (o part : Option ℕ) → span_with (in_u64 o) part ≡ span_with o part
-span_with_in_u64 None part = refl
-span_with_in_u64 (Some n) None = elim (cases_order n (2 ^ 64)) [
+pub duration_of_parts_in_u64 : (o part : Option ℕ) → duration_of_parts (in_u64 o) part ≡ duration_of_parts o part
+duration_of_parts_in_u64 None part = refl
+duration_of_parts_in_u64 (Some n) None = elim (cases_order n (2 ^ 64)) [
   | inr (inl lt) ↦ rw (lt-ltb n (2 ^ 64) lt) refl
   | inl e ↦ rw (le-ltb n (2 ^ 64) (omega arith)) refl
   | inr (inr gt) ↦ rw (le-ltb n (2 ^ 64) (omega arith)) refl
 ]
-span_with_in_u64 (Some n) (Some m) = elim (cases_order n (2 ^ 64)) [
+duration_of_parts_in_u64 (Some n) (Some m) = elim (cases_order n (2 ^ 64)) [
   | inr (inl lt) ↦ rw (lt-ltb n (2 ^ 64) lt) refl
   | inl e ↦ rw (le-ltb n (2 ^ 64) (omega arith), le-ltb (n * NANOS_PER_SECOND + m) (2 ^ 63) (omega arith)) refl
   | inr (inr gt) ↦ rw (le-ltb n (2 ^ 64) (omega arith), le-ltb (n * NANOS_PER_SECOND + m) (2 ^ 63) (omega arith)) refl
@@ -49,10 +49,10 @@ none_if : (b : Bool) (o : Option ℕ) (f : ℕ → Option ℕ) → o ≡ None �
 none_if true o f e = rw e refl
 none_if false o f e = refl
 
-pub part_none : (ds : List ℕ) → number_of ds ≡ None → fraction_of ds ≡ None
-part_none ds e = none_if (nat_le (length ds) 9) (number_of ds) (λ n. Some (n * 10 ^ (9 - length ds))) e
+pub part_none : (ds : List ℕ) → decimal_value ds ≡ None → fraction_nanoseconds ds ≡ None
+part_none ds e = none_if (nat_le (length ds) 9) (decimal_value ds) (λ n. Some (n * 10 ^ (9 - length ds))) e
 
-pub number_there : (bytes : List ℕ) (at count : ℕ) → count ≤ 9 → in_u64 (number_of (take (at + count - at) (drop at bytes))) ≡ number_at bytes at count
+pub number_there : (bytes : List ℕ) (at count : ℕ) → count ≤ 9 → in_u64 (decimal_value (take (at + count - at) (drop at bytes))) ≡ number_at bytes at count
 number_there bytes at count upper_bound =
     let same : at + count - at ≡ count = omega arith in
     rw same (few_in_u64 (take count (drop at bytes)) (omega (arith, length-take count (drop at bytes))))

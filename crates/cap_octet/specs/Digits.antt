@@ -9,8 +9,8 @@ abbrev pub are_digits : ℕ → List ℕ → Bool
 are_digits radix ds = list_all (λ b. nat_lt (digit_value b) radix) ds
 
 -- the number that decimal digits write, of which there is at least one; no sign
-abbrev pub number_of : List ℕ → Option ℕ
-number_of ds = if not (length ds == 0) && are_digits 10 ds then Some (digits_value 10 ds) else None
+abbrev pub decimal_value : List ℕ → Option ℕ
+decimal_value ds = if not (length ds == 0) && are_digits 10 ds then Some (digits_value 10 ds) else None
 
 -- a number, if it is below 2^64
 abbrev pub in_u64 : Option ℕ → Option ℕ

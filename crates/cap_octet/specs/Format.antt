@@ -15,5 +15,5 @@ format_name NsecPcap = codes "nsecpcap"
 format_name Pcapng = codes "pcapng"
 
 -- the format of a name
-abbrev pub format_named : List ℕ → Option Format
-format_named name = find (λ format. bytes_eq (format_name format) name) all_formats
+abbrev pub format_of_name : List ℕ → Option Format
+format_of_name name = find (λ format. bytes_eq (format_name format) name) all_formats

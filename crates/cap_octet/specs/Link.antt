@@ -43,5 +43,5 @@ abbrev pub link_of : ℕ → Option Link
 link_of n = find (λ link. link_type link == n) all_links
 
 -- the link of a name
-abbrev pub link_named : List ℕ → Option Link
-link_named name = find (λ link. bytes_eq (link_name link) name) all_links
+abbrev pub link_of_name : List ℕ → Option Link
+link_of_name name = find (λ link. bytes_eq (link_name link) name) all_links

@@ -13,26 +13,26 @@ use Rattle.cap_octet.specs.declared.network.NetworkKind.TheVariants.{Ipv4, Ipv6,
 abbrev pub link_header_length : ℕ → ℕ
 link_header_length n = option_map_or network_offset (link_of n) 0
 
--- by the EtherType
-abbrev pub of_type : ℕ → NetworkHeader
-of_type type =
+-- the network header that an EtherType tells
+abbrev pub header_by_ethertype : ℕ → NetworkHeader
+header_by_ethertype type =
     if type == ETHERTYPE_IPV4 then Known Ipv4
     else if type == ETHERTYPE_IPV6 then Known Ipv6
     else if type == ETHERTYPE_ARP then Known Arp
     else if type == ETHERTYPE_RARP then Known Rarp
     else OtherType type
 
--- by the version of IP
-abbrev pub of_version : ℕ → NetworkHeader
-of_version version =
+-- the network header that a version of IP tells
+abbrev pub header_by_version : ℕ → NetworkHeader
+header_by_version version =
     if version == 4 then Known Ipv4 else if version == 6 then Known Ipv6 else OtherVersion version
 
 -- by the EtherType at a place in the link header, or of raw IP by the version, which the first four
 -- bits are
 abbrev pub header_after : Option ℕ → List ℕ → NetworkHeader
-header_after None p = if length p == 0 then Short else of_version (slice_index p 0 / 16)
+header_after None p = if length p == 0 then Short else header_by_version (slice_index p 0 / 16)
 header_after (Some at) p =
-    if nat_lt (length p) (at + 2) then Short else of_type (u16_in Big p at)
+    if nat_lt (length p) (at + 2) then Short else header_by_ethertype (u16_in Big p at)
 
 abbrev pub network_header : ℕ → List ℕ → NetworkHeader
 network_header n p =

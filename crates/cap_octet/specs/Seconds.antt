@@ -2,29 +2,30 @@
 use Rattle.std.specs.Prelude.{ℕ, ◌+◌, ◌-◌, ◌*◌, ◌^◌, nat_lt, nat_le, ◌==◌, if◌then◌else◌, List, length, take, drop, position, Option, Some, None}
 use Rattle.std.specs.Option.{option_and_then}
 use Rattle.cap_octet.specs.Date.{NANOS_PER_SECOND, TIME_END}
-use Rattle.cap_octet.specs.Digits.{number_of}
+use Rattle.cap_octet.specs.Digits.{decimal_value}
 
 -- the nanoseconds that 1 to 9 digits after the point write
-abbrev pub fraction_of : List ℕ → Option ℕ
-fraction_of ds =
+abbrev pub fraction_nanoseconds : List ℕ → Option ℕ
+fraction_nanoseconds ds =
     if nat_le (length ds) 9 then option_and_then (λ n. Some (n * 10 ^ (9 - length ds)))
-    (number_of ds) else None
+    (decimal_value ds) else None
 
--- a time, if it is below 2^63
-abbrev pub time_within : ℕ → Option ℕ
-time_within n = if nat_lt n TIME_END then Some n else None
+-- these nanoseconds, if they are below 2^63
+abbrev pub time_below_end : ℕ → Option ℕ
+time_below_end n = if nat_lt n TIME_END then Some n else None
 
-abbrev pub span_with : Option ℕ → Option ℕ → Option ℕ
-span_with seconds fraction =
+-- the nanoseconds of whole seconds and a fraction in nanoseconds, where both were read
+abbrev pub duration_of_parts : Option ℕ → Option ℕ → Option ℕ
+duration_of_parts seconds fraction =
     option_and_then
-    (λ s. option_and_then (λ f. time_within (s * NANOS_PER_SECOND + f)) fraction) seconds
+    (λ s. option_and_then (λ f. time_below_end (s * NANOS_PER_SECOND + f)) fraction) seconds
 
 -- digits alone, or digits, a point and 1 to 9 digits
-abbrev pub span_at : List ℕ → Option ℕ → Option ℕ
-span_at text None = span_with (number_of text) (Some 0)
-span_at text (Some point) =
-    span_with (number_of (take point text)) (fraction_of (drop (point + 1) text))
+abbrev pub duration_at : List ℕ → Option ℕ → Option ℕ
+duration_at text None = duration_of_parts (decimal_value text) (Some 0)
+duration_at text (Some point) =
+    duration_of_parts (decimal_value (take point text)) (fraction_nanoseconds (drop (point + 1) text))
 
 -- the nanoseconds of a number of seconds; the point is the first `.`
-unfoldable pub span_value : List ℕ → Option ℕ
-span_value text = span_at text (position (λ b. b == 46) text)
+unfoldable pub duration_value : List ℕ → Option ℕ
+duration_value text = duration_at text (position (λ b. b == 46) text)

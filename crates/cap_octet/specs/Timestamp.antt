@@ -4,8 +4,8 @@ use Rattle.std.specs.Prelude.{ℕ, ◌+◌, ◌-◌, ◌*◌, nat_lt, nat_le, �
 use Rattle.std.specs.Option.{option_and_then}
 use Rattle.jiff_core.specs.Calendar.{days_in_month, days_from_civil}
 use Rattle.cap_octet.specs.Date.{NANOS_PER_SECOND}
-use Rattle.cap_octet.specs.Digits.{number_of}
-use Rattle.cap_octet.specs.Seconds.{fraction_of, time_within, span_value}
+use Rattle.cap_octet.specs.Digits.{decimal_value}
+use Rattle.cap_octet.specs.Seconds.{fraction_nanoseconds, time_below_end, duration_value}
 
 -- how many days after 1970-01-01 a day comes, if the calendar has it; from 1970 to 9999
 abbrev pub day_number : ℕ → ℕ → ℕ → Option ℕ
@@ -17,8 +17,9 @@ day_number year month day =
     Some (unsigned_abs (days_from_civil (pos year) month day))
     else None
 
-abbrev pub day_with : Option ℕ → Option ℕ → Option ℕ → Option ℕ
-day_with year month day =
+-- the day's number, where its year, month and day were read
+abbrev pub day_of_parts : Option ℕ → Option ℕ → Option ℕ → Option ℕ
+day_of_parts year month day =
     option_and_then
     (λ y. option_and_then (λ m. option_and_then (λ d. day_number y m d) day) month) year
 
@@ -29,26 +30,28 @@ second_of_day hour minute second =
     && (nat_lt minute 60 && nat_lt second 60) then Some (hour * 3600 + minute * 60 + second)
     else None
 
-abbrev pub clock_with : Option ℕ → Option ℕ → Option ℕ → Option ℕ
-clock_with hour minute second =
+-- the seconds since midnight, where hour, minute and second were read
+abbrev pub clock_of_parts : Option ℕ → Option ℕ → Option ℕ → Option ℕ
+clock_of_parts hour minute second =
     option_and_then
     (λ h. option_and_then (λ m. option_and_then (λ s. second_of_day h m s) second) minute) hour
 
-abbrev pub time_with : Option ℕ → Option ℕ → Option ℕ → Option ℕ
-time_with day clock fraction =
+-- the nanoseconds since 1970-01-01 of a day, a time of day and a fraction, where all were read
+abbrev pub time_of_parts : Option ℕ → Option ℕ → Option ℕ → Option ℕ
+time_of_parts day clock fraction =
     option_and_then
     (λ d. option_and_then
     (λ c. option_and_then
-    (λ f. time_within ((d * 86400 + c) * NANOS_PER_SECOND + f)) fraction) clock) day
+    (λ f. time_below_end ((d * 86400 + c) * NANOS_PER_SECOND + f)) fraction) clock) day
 
 -- the number that `count` digits from place `at` write
 abbrev pub number_at : List ℕ → ℕ → ℕ → Option ℕ
-number_at text at count = number_of (take count (drop at text))
+number_at text at count = decimal_value (take count (drop at text))
 
 -- nothing, or a point and 1 to 9 digits
 abbrev pub optional_fraction : List ℕ → Option ℕ
 optional_fraction text =
-    if length text == 0 then Some 0 else if slice_index text 0 == 46 then fraction_of (drop 1 text)
+    if length text == 0 then Some 0 else if slice_index text 0 == 46 then fraction_nanoseconds (drop 1 text)
     else None
 
 -- YYYY-MM-DDThh:mm:ss, something or nothing, Z: the marks are in their places
@@ -60,11 +63,13 @@ is_date_time text =
     && ((slice_index text 13 == 58)
     && ((slice_index text 16 == 58) && (slice_index text (length text - 1) == 90))))))
 
+-- the nanoseconds since 1970-01-01 of a text whose marks are in their places
 unfoldable pub date_time_value : List ℕ → Option ℕ
 date_time_value text =
-    time_with (day_with (number_at text 0 4) (number_at text 5 2) (number_at text 8 2))
-    (clock_with (number_at text 11 2) (number_at text 14 2) (number_at text 17 2))
+    time_of_parts (day_of_parts (number_at text 0 4) (number_at text 5 2) (number_at text 8 2))
+    (clock_of_parts (number_at text 11 2) (number_at text 14 2) (number_at text 17 2))
     (optional_fraction (take (length text - 20) (drop 19 text)))
 
+-- the time of a timestamp, in nanoseconds since 1970-01-01
 unfoldable pub time_value : List ℕ → Option ℕ
-time_value text = if is_date_time text then date_time_value text else span_value text
+time_value text = if is_date_time text then date_time_value text else duration_value text

@@ -22,7 +22,7 @@ static PAIRS: [u8; 200] = *b"\
     6061626364656667686970717273747576777879\
     8081828384858687888990919293949596979899";
 
-/// The last decimal digit, in ASCII.
+/// The last decimal digit of a number, in ASCII.
 fn last_digit(number: u32) -> u8
     ensures { result ≡ 48 + number % 10 }
 {
@@ -39,7 +39,7 @@ pub fn two_digits(number: u32) -> [u8; 2]
     [PAIRS[place], PAIRS[place + 1]]
 }
 
-/// `YYYY-MM-DD`.
+/// A day as `YYYY-MM-DD`.
 fn day_bytes(day: CalendarDay) -> [u8; 10]
     ensures { result ≡ day_text (ymd day.year day.month day.day) }
 {
@@ -58,7 +58,7 @@ fn day_bytes(day: CalendarDay) -> [u8; 10]
     ]
 }
 
-/// `hh:mm:ss` of the seconds since some midnight.
+/// The time of day as `hh:mm:ss`, of the seconds since some midnight.
 fn clock_bytes(seconds: u64) -> [u8; 8]
     ensures { result ≡ clock_text seconds }
 {
@@ -77,7 +77,7 @@ fn clock_bytes(seconds: u64) -> [u8; 8]
     ]
 }
 
-/// The last nine decimal digits, in ASCII.
+/// The last nine decimal digits of a number, in ASCII.
 #[inline]
 pub fn nine_digits(number: u32) -> [u8; 9]
     ensures { result ≡ digits 9 number }
@@ -89,13 +89,16 @@ pub fn nine_digits(number: u32) -> [u8; 9]
     [last_digit(number / 100_000_000), b, c, d, e, f, g, h, i]
 }
 
-/// The date of a second since 1970-01-01 00:00:00 UTC, and a point: `YYYY-MM-DD hh:mm:ss.`, in UTC.
+/// A printed date up to its point, of a second since 1970-01-01 00:00:00 UTC: `YYYY-MM-DD
+/// hh:mm:ss.`, in UTC.
 #[tactic(auto, unfolding(crate::specs::Date::second_text))]
 pub fn second_bytes(second: u64) -> [u8; 20]
     requires { second < 2 ^ 34 }
     ensures { result ≡ second_text second }
 {
     let day = calendar_day(second / SECONDS_PER_DAY);
+    // YYYY-MM-DD hh:mm:ss.
+    // 0         10       19
     let mut bytes = [b' '; 20];
     bytes[..10].copy_from_slice(&day_bytes(day));
     bytes[11..19].copy_from_slice(&clock_bytes(second));
@@ -109,6 +112,8 @@ pub fn date_bytes(time: u64) -> [u8; 29]
     requires { time < 2 ^ 63 }
     ensures { result ≡ date_text time }
 {
+    // YYYY-MM-DD hh:mm:ss.nnnnnnnnn
+    // 0                   20
     let mut bytes = [b' '; 29];
     bytes[..20].copy_from_slice(&second_bytes(time / NANOS_PER_SECOND));
     bytes[20..].copy_from_slice(&nine_digits((time % NANOS_PER_SECOND) as u32));

@@ -1,4 +1,5 @@
-//! Devices: what a contract sees of bytes that come and go.
+//! Devices: what a contract sees of bytes that come and go; and reads and writes of all that is
+//! asked for, by as many calls of a device as that takes.
 ghost use Rattle.std.specs.Prelude.{◌≡◌, ℕ, ◌+◌, ◌^◌, ◌<◌, ◌≤◌, Bool, IsTrue, List, length, IfOk};
 ghost use Rattle.std.specs.Prelude.{IfErr, Option, Some, if◌then◌else◌, true};
 ghost use Rattle.std.specs.List.{flat_map};
@@ -69,8 +70,8 @@ pub trait Input {
         false
     }
 
-    /// A device that failed had given as many bytes as it was sure to. `Prim.search rules` proves it
-    /// of one that may fail at once.
+    /// A device that failed had given as many bytes as it was sure to. `Prim.search rules` proves
+    /// it of one that may fail at once.
     ghost unfailed: { (s : Self) → 0 < failures s → HasGiven (sure s) (given s) };
 }
 
@@ -99,8 +100,8 @@ pub trait Output {
         ensures exact { IsTrue tells → Writes (written self.old) buf.now
             result (written self.new) };
 
-    /// Whether somebody may be waiting for what it takes, so that it is to be released before a read
-    /// that may wait. Where a device doesn't give this nobody is.
+    /// Whether somebody may be waiting for what it takes, so that it is to be released before a
+    /// read that may wait. Where a device doesn't give this nobody is.
     fn is_awaited(&self) -> bool {
         false
     }
@@ -156,7 +157,7 @@ pub fn read_full<I: Input>(input: &mut I, buf: &mut [u8]) -> Result<usize, Devic
     }
 }
 
-/// The same, read by read.
+/// Fills the buffer as `read_full` does, read by read. It stands apart since one read mostly does.
 #[cold]
 #[inline(never)]
 fn read_in_turns<I: Input>(input: &mut I, buf: &mut [u8]) -> Result<usize, DeviceFault>
@@ -214,7 +215,8 @@ pub fn write_all<O: Output>(output: &mut O, buf: &[u8]) -> Result<(), Stopped>
     }
 }
 
-/// The same, write by write.
+/// Writes all of the bytes as `write_all` does, write by write. It stands apart since one write
+/// mostly does.
 #[cold]
 #[inline(never)]
 fn write_in_turns<O: Output>(output: &mut O, buf: &[u8]) -> Result<(), Stopped>

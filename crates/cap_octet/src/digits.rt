@@ -2,8 +2,9 @@
 ghost use Rattle.std.specs.Prelude.{◌≡◌, ◌<◌, ◌≤◌, ◌^◌, ◌+◌, ◌*◌, IfSome, IfNone, true, nat_lt};
 ghost use Rattle.std.specs.Char.{digit_value};
 ghost use Rattle.std.specs.Str.Parse.{digits_value};
-ghost use Rattle.cap_octet.specs.Digits.{are_digits, in_u64, number_of};
+ghost use Rattle.cap_octet.specs.Digits.{are_digits, in_u64, decimal_value};
 
+/// Whether a byte is the digit of a radix in ASCII; of a letter both cases count.
 fn is_digit(radix: u32, byte: u8) -> bool
     requires low { 2 ≤ radix }
     requires high { radix ≤ 16 }
@@ -12,7 +13,7 @@ fn is_digit(radix: u32, byte: u8) -> bool
     (byte as char).is_digit(radix)
 }
 
-/// Whether all bytes are digits of a radix; where letters are, both cases count.
+/// Whether all bytes are digits of a radix in ASCII; of a letter both cases count.
 pub fn are_digits(radix: u32, text: &[u8]) -> bool
     requires low { 2 ≤ radix }
     requires high { radix ≤ 16 }
@@ -21,7 +22,7 @@ pub fn are_digits(radix: u32, text: &[u8]) -> bool
     text.iter().all(|byte| is_digit(radix, *byte))
 }
 
-/// The number with one more digit, if it is below 2^64.
+/// The number with one digit more at its end, if that is below 2^64.
 fn with_digit(number: u64, radix: u32, byte: u8) -> Option<u64>
     requires low { 2 ≤ radix }
     requires high { radix ≤ 16 }
@@ -33,7 +34,7 @@ fn with_digit(number: u64, radix: u32, byte: u8) -> Option<u64>
     number.checked_mul(radix as u64)?.checked_add(digit as u64)
 }
 
-/// The number that digits write, if it is below 2^64.
+/// The number that digits of a radix write, the highest first, if it is below 2^64; 0 of no digit.
 #[tactic(auto, using(crate::proofs::Numerals::whole_grows))]
 pub fn digits_number(radix: u32, digits: &[u8]) -> Option<u64>
     requires low { 2 ≤ radix }
@@ -49,9 +50,10 @@ pub fn digits_number(radix: u32, digits: &[u8]) -> Option<u64>
     Some(number)
 }
 
-/// The number that one decimal digit or more write, if it is below 2^64.
-pub fn number_of(text: &[u8]) -> Option<u64>
-    ensures { result ≡ in_u64 (number_of text.now) }
+/// The number that a text of decimal digits alone, one or more, writes; `None` for every other text
+/// and from 2^64 on.
+pub fn decimal_value(text: &[u8]) -> Option<u64>
+    ensures { result ≡ in_u64 (decimal_value text.now) }
 {
     if text.is_empty() || !are_digits(10, text) {
         return None;

@@ -13,7 +13,7 @@ pub enum Format {
 
 impl Format {
     ghost use Rattle.std.specs.Prelude.{◌≡◌};
-    ghost use Rattle.cap_octet.specs.Format.{format_name, format_named};
+    ghost use Rattle.cap_octet.specs.Format.{format_name, format_of_name};
 
     /// Every format.
     pub const ALL: [Format; 3] = [Format::Pcap, Format::NsecPcap, Format::Pcapng];
@@ -29,10 +29,10 @@ impl Format {
         }
     }
 
-    /// The format of a name.
+    /// The format that command lines call by this name.
     #[tactic(auto, unfolding(crate::specs::Format::all_formats))]
-    pub fn named(name: &str) -> Option<Format>
-        ensures { result ≡ format_named name.now }
+    pub fn of_name(name: &str) -> Option<Format>
+        ensures { result ≡ format_of_name name.now }
     {
         Format::ALL
             .iter()

@@ -3,10 +3,10 @@
 //! Nothing here takes memory.
 #![tactic(auto)]
 
-mod asked;
 pub mod assigned;
 mod calendar;
 mod count;
+mod counting;
 pub mod date;
 mod device;
 pub mod digits;
@@ -34,7 +34,7 @@ pub use memory::{MemInput, MemOutput};
 pub use network::{NetworkHeader, NetworkKind, link_header_length, network_header};
 pub use number::{Order, u16_at, u32_at};
 pub use packet::Packet;
-pub use seconds::span_of;
+pub use seconds::read_duration;
 pub use stream::{StdInput, StdOutput};
-pub use timestamp::time_of;
+pub use timestamp::read_timestamp;
 pub use trial::{TrialInput, TrialOutput};

@@ -18,7 +18,7 @@ pub enum Link {
 
 impl Link {
     ghost use Rattle.std.specs.Prelude.{◌≡◌, ◌+◌, ◌≤◌, IfSome, length};
-    ghost use Rattle.cap_octet.specs.Link.{link_name, link_named, link_of, link_type};
+    ghost use Rattle.cap_octet.specs.Link.{link_name, link_of_name, link_of, link_type};
     ghost use Rattle.cap_octet.specs.Link.{longest_header, network_offset, type_offset};
 
     /// Every link.
@@ -36,7 +36,8 @@ impl Link {
         }
     }
 
-    /// The link of a link type.
+    /// The link that captures have this link type for; `None` where lines and expressions don't
+    /// know it.
     #[inline]
     #[tactic(auto, unfolding(crate::specs::Link::all_links))]
     pub fn of_link_type(number: u16) -> Option<Link>
@@ -90,10 +91,10 @@ impl Link {
         }
     }
 
-    /// The link of a name.
+    /// The link that command lines call by this name.
     #[tactic(auto, unfolding(crate::specs::Link::all_links))]
-    pub fn named(name: &str) -> Option<Link>
-        ensures { result ≡ link_named name.now }
+    pub fn of_name(name: &str) -> Option<Link>
+        ensures { result ≡ link_of_name name.now }
     {
         Link::ALL.iter().copied().find(|link| link.name() == name)
     }

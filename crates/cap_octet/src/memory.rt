@@ -29,7 +29,7 @@ impl<'a> MemInput<'a> {
         }
     }
 
-    /// How many bytes were given.
+    /// How many bytes were given so far.
     pub fn given(&self) -> usize
         ensures { result ≡ ⟦<MemInput<'a> as Input>⟧.given self.now }
     {
@@ -75,7 +75,7 @@ impl Input for MemInput<'_> {
         self.rest
     }
 
-    /// Takes them where there are as many.
+    /// Takes `count` bytes where as many are left.
     fn pass(&mut self, count: usize) -> bool
         ensures counted { self.new.given ≡ self.old.given + (if result then count else 0) }
         ensures bounded { IsTrue result → self.new.given < 2 ^ 63 }
@@ -119,7 +119,7 @@ impl<'a> MemOutput<'a> {
         }
     }
 
-    /// What was written.
+    /// The bytes that were written so far.
     pub fn written(&self) -> &[u8]
         ensures { result.now ≡ ⟦<MemOutput<'a> as Output>⟧.written self.now }
     {

@@ -2,7 +2,7 @@
 ghost use Rattle.std.specs.Prelude.{◌≡◌, ◌≤◌, IfSome};
 ghost use Rattle.cap_octet.specs.Link.{longest_header};
 ghost use Rattle.cap_octet.specs.NetworkHeader.{header_after, link_header_length, network_header};
-ghost use Rattle.cap_octet.specs.NetworkHeader.{of_type, of_version};
+ghost use Rattle.cap_octet.specs.NetworkHeader.{header_by_ethertype, header_by_version};
 
 use crate::assigned::{ETHERTYPE_ARP, ETHERTYPE_IPV4, ETHERTYPE_IPV6, ETHERTYPE_RARP};
 use crate::link::Link;
@@ -45,9 +45,10 @@ pub fn link_header_length(link: u16) -> usize
     }
 }
 
+/// The network header that an EtherType tells.
 #[inline]
-fn of_type(ethertype: u16) -> NetworkHeader
-    ensures { result ≡ of_type ethertype }
+fn header_by_ethertype(ethertype: u16) -> NetworkHeader
+    ensures { result ≡ header_by_ethertype ethertype }
 {
     match ethertype {
         ETHERTYPE_IPV4 => NetworkHeader::Known(NetworkKind::Ipv4),
@@ -58,9 +59,10 @@ fn of_type(ethertype: u16) -> NetworkHeader
     }
 }
 
+/// The network header that a version of IP tells.
 #[inline]
-fn of_version(version: u8) -> NetworkHeader
-    ensures { result ≡ of_version version }
+fn header_by_version(version: u8) -> NetworkHeader
+    ensures { result ≡ header_by_version version }
 {
     match version {
         4 => NetworkHeader::Known(NetworkKind::Ipv4),
@@ -69,7 +71,8 @@ fn of_version(version: u8) -> NetworkHeader
     }
 }
 
-/// The network header after a link header that has the EtherType at a place, or of raw IP.
+/// The network header after a link header that has the EtherType at this place, big-endian; `None`
+/// is raw IP, whose version is the first four bits.
 #[inline]
 fn header_after(type_offset: Option<usize>, bytes: &[u8]) -> NetworkHeader
     requires { IfSome type_offset (λ at. at ≤ longest_header) }
@@ -77,9 +80,9 @@ fn header_after(type_offset: Option<usize>, bytes: &[u8]) -> NetworkHeader
 {
     match type_offset {
         None if bytes.is_empty() => NetworkHeader::Short,
-        None => of_version(bytes[0] / 16),
+        None => header_by_version(bytes[0] / 16),
         Some(at) if bytes.len() < at + 2 => NetworkHeader::Short,
-        Some(at) => of_type(u16_at(Order::Big, bytes, at)),
+        Some(at) => header_by_ethertype(u16_at(Order::Big, bytes, at)),
     }
 }
 

@@ -4,7 +4,7 @@ ghost use Rattle.cap_octet.specs.Number.{u16_in, u32_in};
 
 use byteorder::{BigEndian, ByteOrder, LittleEndian};
 
-/// Which byte of a number comes first.
+/// The byte order of a number: which of its bytes comes first.
 #[derive(Clone, Copy)]
 pub enum Order {
     /// The lowest.

@@ -1,36 +1,39 @@
-//! Numbers of seconds that are read as nanoseconds.
+//! Durations: decimal numbers of seconds that are read as nanoseconds.
 ghost use Rattle.std.specs.Prelude.{◌≡◌, ◌<◌, ◌==◌, IfSome, length, position};
-ghost use Rattle.cap_octet.specs.Seconds.{fraction_of, span_with, span_value, time_within};
+ghost use Rattle.cap_octet.specs.Seconds.{fraction_nanoseconds, duration_of_parts, duration_value, time_below_end};
 
 use crate::date::{NANOS_PER_SECOND, TIME_END};
-use crate::digits::number_of;
+use crate::digits::decimal_value;
 
-/// The nanoseconds that 1 to 9 digits after the point write.
-pub fn fraction_of(text: &[u8]) -> Option<u64>
-    ensures { result ≡ fraction_of text.now }
+/// The nanoseconds that 1 to 9 digits after the point write: `5` is 500,000,000. `None` for every
+/// other text.
+pub fn fraction_nanoseconds(text: &[u8]) -> Option<u64>
+    ensures { result ≡ fraction_nanoseconds text.now }
 {
     if text.len() > 9 {
         return None;
     }
-    let number = number_of(text)?;
+    let number = decimal_value(text)?;
     Some(number * 10u64.pow(9 - text.len() as u32))
 }
 
-/// A time, if it is below 2^63 nanoseconds.
-pub fn time_within(nanos: u64) -> Option<u64>
-    ensures { result ≡ time_within nanos }
+/// These nanoseconds, if they are below 2^63, as all times are.
+pub fn time_below_end(nanos: u64) -> Option<u64>
+    ensures { result ≡ time_below_end nanos }
 {
     (nanos < TIME_END).then_some(nanos)
 }
 
-fn span_with(seconds: Option<u64>, fraction: Option<u64>) -> Option<u64>
-    ensures { result ≡ span_with seconds fraction }
+/// The nanoseconds of whole seconds and a fraction in nanoseconds, where both were read, if they
+/// are below 2^63.
+fn duration_of_parts(seconds: Option<u64>, fraction: Option<u64>) -> Option<u64>
+    ensures { result ≡ duration_of_parts seconds fraction }
 {
     let nanos = seconds?.checked_mul(NANOS_PER_SECOND)?;
-    time_within(nanos.checked_add(fraction?)?)
+    time_below_end(nanos.checked_add(fraction?)?)
 }
 
-/// The place of the first point.
+/// The place of the first point in a text, if it has one.
 fn point_in(text: &[u8]) -> Option<usize>
     ensures value { result ≡ position (λ b. b == 46) text.now }
     ensures bound { IfSome result (λ point. point < length text.now) }
@@ -43,12 +46,15 @@ fn point_in(text: &[u8]) -> Option<usize>
 ///
 /// `None` for every other text, and from 2^63 nanoseconds on. There may be leading zeros; a digit
 /// stands on each side of the point.
-pub fn span_of(text: &str) -> Option<u64>
-    ensures { result ≡ span_value text.now }
+pub fn read_duration(text: &str) -> Option<u64>
+    ensures { result ≡ duration_value text.now }
 {
     let bytes = text.as_bytes();
     match point_in(bytes) {
-        None => span_with(number_of(bytes), Some(0)),
-        Some(point) => span_with(number_of(&bytes[..point]), fraction_of(&bytes[point + 1..])),
+        None => duration_of_parts(decimal_value(bytes), Some(0)),
+        Some(point) => duration_of_parts(
+            decimal_value(&bytes[..point]),
+            fraction_nanoseconds(&bytes[point + 1..]),
+        ),
     }
 }

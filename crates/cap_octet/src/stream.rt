@@ -10,19 +10,19 @@ ghost use Rattle.std.specs.Io.KnownBytes.{Keeps};
 ghost use Rattle.cap_octet.specs.Device.{Passes, Reads, Writes, count_of, failures_of};
 ghost use Rattle.cap_octet.specs.Stream.{HandsOver, IsOneRead, IsOneWrite, IsPassed, TakesOver};
 
-use crate::asked::{AskedReader, AskedWriter};
 use crate::count::ContractCount;
+use crate::counting::{CountingReader, CountingWriter};
 use crate::device::{DeviceFault, Input, Output};
 use std::io::{BufReader, BufWriter, ErrorKind, Read, Write};
 
-/// Fewer bytes than this are read from one input.
-const MOST_GIVEN: u64 = 0x8000_0000_0000_0000;
+/// Fewer bytes than this are read from one input in all: 2^63.
+const GIVEN_END: u64 = 0x8000_0000_0000_0000;
 
 /// Over a reader, as a file or standard input. A read that would reach 2^63 bytes in all is a
 /// failure.
 #[derive(Drop)]
 pub struct StdInput<R> {
-    reader: AskedReader<R>,
+    reader: CountingReader<R>,
     given: u64,
     failures: ContractCount,
     ghost bounded: { given < 2 ^ 63 },
@@ -37,13 +37,13 @@ impl<R: Read> StdInput<R> {
         ensures failures { ⟦<StdInput<R> as Input>⟧.failures result ≡ 0 }
     {
         StdInput {
-            reader: AskedReader::new(reader),
+            reader: CountingReader::new(reader),
             given: 0,
             failures: ContractCount::new(),
         }
     }
 
-    /// One read of the reader with this buffer, whatever it holds.
+    /// One read of the reader, whatever its own buffer holds.
     #[cold]
     #[inline(never)]
     fn read_through(&mut self, buf: &mut [u8]) -> Result<usize, DeviceFault>
@@ -58,7 +58,7 @@ impl<R: Read> StdInput<R> {
             self.new.reader.calls.count }
     {
         match self.reader.read(buf) {
-            Ok(count) if (count as u64) < MOST_GIVEN - self.given => {
+            Ok(count) if (count as u64) < GIVEN_END - self.given => {
                 self.given += count as u64;
                 Ok(count)
             }
@@ -99,7 +99,7 @@ impl<R: Read> Input for StdInput<R> {
         let room = buf.len();
         let given = self.given + room as u64;
         let held = self.reader.buffer();
-        if room <= held.len() && given < MOST_GIVEN {
+        if room <= held.len() && given < GIVEN_END {
             buf.copy_from_slice(&held[..room]);
             self.reader.consume(room);
             self.given = given;
@@ -121,7 +121,7 @@ impl<R: Read> Input for StdInput<R> {
         self.reader.buffer()
     }
 
-    /// Consumes them of what the reader's buffer holds, if it holds as many.
+    /// Takes `count` bytes of what the reader's buffer holds, if it holds as many.
     #[inline(always)]
     fn pass(&mut self, count: usize) -> bool
         ensures counted { self.new.given ≡ self.old.given + (if result then count else 0) }
@@ -134,7 +134,7 @@ impl<R: Read> Input for StdInput<R> {
             (reader_remaining R.remaining self.new.reader.reader) }
         ensures calls { self.new.reader.calls.count ≡ self.old.reader.calls.count }
     {
-        if count > self.reader.buffer().len() || self.given + count as u64 >= MOST_GIVEN {
+        if count > self.reader.buffer().len() || self.given + count as u64 >= GIVEN_END {
             return false;
         }
         self.reader.consume(count);
@@ -149,7 +149,7 @@ impl<R: Read> Input for StdInput<R> {
 /// failure.
 #[derive(Drop)]
 pub struct StdOutput<W: Write + Drop> {
-    writer: AskedWriter<W>,
+    writer: CountingWriter<W>,
     is_awaited: bool,
     /// Why it failed last.
     cause: Option<ErrorKind>,
@@ -166,15 +166,15 @@ impl<W: Write + Drop> StdOutput<W> {
         ensures failures { ⟦<StdOutput<W> as Output>⟧.failures result ≡ 0 }
     {
         StdOutput {
-            writer: AskedWriter::new(writer),
+            writer: CountingWriter::new(writer),
             is_awaited: false,
             cause: None,
             failures: ContractCount::new(),
         }
     }
 
-    /// The same, where somebody may be waiting for what it takes.
-    pub fn awaited(writer: BufWriter<W>) -> Self
+    /// An output to which nothing was written yet, and for which somebody may be waiting.
+    pub fn new_awaited(writer: BufWriter<W>) -> Self
         ensures writer { result.writer.writer ≡ writer }
         ensures calls { result.writer.calls.count ≡ 0 }
         ensures awaited { result.is_awaited ≡ true }
@@ -221,7 +221,7 @@ impl<W: Write + Drop> StdOutput<W> {
         Err(DeviceFault)
     }
 
-    /// The same where the buffer has no room.
+    /// One write of the writer where its buffer has no room, so that the system may be called.
     #[cold]
     #[inline(never)]
     fn write_through(&mut self, buf: &[u8]) -> Result<usize, DeviceFault>
@@ -269,6 +269,7 @@ impl<W: Write + Drop> Output for StdOutput<W> {
         }
     }
 
+    /// Whether somebody may be waiting for what it takes.
     fn is_awaited(&self) -> bool
         ensures { result ≡ self.now.is_awaited }
     {

@@ -1,21 +1,22 @@
 //! Timestamps that are read as times.
 ghost use Rattle.std.specs.Prelude.{◌≡◌, ◌≤◌, ◌+◌, IsTrue, length};
-ghost use Rattle.cap_octet.specs.Timestamp.{day_number, day_with, second_of_day, clock_with};
-ghost use Rattle.cap_octet.specs.Timestamp.{time_with, number_at, optional_fraction, is_date_time};
+ghost use Rattle.cap_octet.specs.Timestamp.{day_number, day_of_parts, second_of_day, clock_of_parts};
+ghost use Rattle.cap_octet.specs.Timestamp.{time_of_parts, number_at, optional_fraction, is_date_time};
 ghost use Rattle.cap_octet.specs.Timestamp.{date_time_value, time_value};
 
 use crate::date::NANOS_PER_SECOND;
-use crate::digits::number_of;
-use crate::seconds::{fraction_of, span_of, time_within};
+use crate::digits::decimal_value;
+use crate::seconds::{fraction_nanoseconds, read_duration, time_below_end};
 use jiff_core::civil;
 use jiff_core::civil::Date;
 
 /// The number of 1970-01-01 as jiff counts days from its first date, -9999-01-01.
 const EPOCH: u32 = 4_371_587;
 
+/// Seconds in a day.
 const SECONDS_PER_DAY: u64 = 86_400;
 
-/// How many days after 1970-01-01 a day comes, if the calendar has it.
+/// How many days after 1970-01-01 a day comes, if the calendar has it; years go from 1970 to 9999.
 fn day_number(year: u64, month: u64, day: u64) -> Option<u64>
     ensures { result ≡ day_number year month day }
 {
@@ -34,13 +35,14 @@ fn day_number(year: u64, month: u64, day: u64) -> Option<u64>
     Some((date.days_since_min() - EPOCH) as u64)
 }
 
-fn day_with(year: Option<u64>, month: Option<u64>, day: Option<u64>) -> Option<u64>
-    ensures { result ≡ day_with year month day }
+/// The day's number, where its year, month and day were read and the calendar has it.
+fn day_of_parts(year: Option<u64>, month: Option<u64>, day: Option<u64>) -> Option<u64>
+    ensures { result ≡ day_of_parts year month day }
 {
     day_number(year?, month?, day?)
 }
 
-/// The seconds since midnight, without leap seconds.
+/// The seconds since midnight of a time of day, if there is one; there are no leap seconds.
 fn second_of_day(hour: u64, minute: u64, second: u64) -> Option<u64>
     ensures { result ≡ second_of_day hour minute second }
 {
@@ -51,43 +53,53 @@ fn second_of_day(hour: u64, minute: u64, second: u64) -> Option<u64>
     }
 }
 
-fn clock_with(hour: Option<u64>, minute: Option<u64>, second: Option<u64>) -> Option<u64>
-    ensures { result ≡ clock_with hour minute second }
+/// The seconds since midnight, where hour, minute and second were read and make a time of day.
+fn clock_of_parts(hour: Option<u64>, minute: Option<u64>, second: Option<u64>) -> Option<u64>
+    ensures { result ≡ clock_of_parts hour minute second }
 {
     second_of_day(hour?, minute?, second?)
 }
 
-fn time_with(day: Option<u64>, clock: Option<u64>, fraction: Option<u64>) -> Option<u64>
-    ensures { result ≡ time_with day clock fraction }
+/// The nanoseconds since 1970-01-01 of a day's number, seconds since midnight and a fraction in
+/// nanoseconds, where all were read, if they are below 2^63.
+fn time_of_parts(day: Option<u64>, clock: Option<u64>, fraction: Option<u64>) -> Option<u64>
+    ensures { result ≡ time_of_parts day clock fraction }
 {
     let (day, clock, fraction) = (day?, clock?, fraction?);
     let seconds = day.checked_mul(SECONDS_PER_DAY)?.checked_add(clock)?;
     let nanos = seconds.checked_mul(NANOS_PER_SECOND)?;
-    time_within(nanos.checked_add(fraction)?)
+    time_below_end(nanos.checked_add(fraction)?)
 }
 
-/// The number that `count` digits from place `at` write.
+/// The number that `count` decimal digits from place `at` write; `None` where one is no digit.
 fn number_at(text: &[u8], at: usize, count: usize) -> Option<u64>
     requires there { at + count ≤ length text.now }
     requires upper_bound { count ≤ 9 }
     ensures { result ≡ number_at text.now at count }
 {
-    number_of(&text[at..at + count])
+    decimal_value(&text[at..at + count])
 }
 
+/// The nanoseconds of a fraction, `.` and 1 to 9 digits, or 0 of no text; `None` for every other
+/// one.
 fn optional_fraction(text: &[u8]) -> Option<u64>
     ensures { result ≡ optional_fraction text.now }
 {
     if text.is_empty() {
         Some(0)
     } else if text[0] == b'.' {
-        fraction_of(&text[1..])
+        fraction_nanoseconds(&text[1..])
     } else {
         None
     }
 }
 
-/// Whether the marks of a date and a time of day in UTC are in their places.
+/// Whether the marks of a date and a time of day in UTC are in their places:
+///
+/// ```text
+/// YYYY-MM-DDThh:mm:ss[.n..]Z
+///     4  7  10 13 16       last
+/// ```
 #[tactic(auto, unfolding(crate::specs::Timestamp::is_date_time))]
 fn is_date_time(text: &[u8]) -> bool
     ensures value { result ≡ is_date_time text.now }
@@ -102,30 +114,31 @@ fn is_date_time(text: &[u8]) -> bool
         && text[text.len() - 1] == b'Z'
 }
 
+/// The nanoseconds since 1970-01-01 00:00:00 UTC of a text whose marks are in their places.
 fn date_time_value(text: &[u8]) -> Option<u64>
     requires { 20 ≤ length text.now }
     ensures { result ≡ date_time_value text.now }
 {
     let year = number_at(text, 0, 4);
-    let day = day_with(year, number_at(text, 5, 2), number_at(text, 8, 2));
+    let day = day_of_parts(year, number_at(text, 5, 2), number_at(text, 8, 2));
     let hour = number_at(text, 11, 2);
-    let clock = clock_with(hour, number_at(text, 14, 2), number_at(text, 17, 2));
-    time_with(day, clock, optional_fraction(&text[19..text.len() - 1]))
+    let clock = clock_of_parts(hour, number_at(text, 14, 2), number_at(text, 17, 2));
+    time_of_parts(day, clock, optional_fraction(&text[19..text.len() - 1]))
 }
 
 /// The time of a timestamp, in nanoseconds since 1970-01-01 00:00:00 UTC.
 ///
 /// A timestamp is `YYYY-MM-DDThh:mm:ss`, with a point and 1 to 9 digits after it or without, then
-/// `Z` (a `date-time` of RFC 3339 in UTC); or a number of seconds as [`span_of`] reads it. `None`
-/// for every other text, for a day that the calendar hasn't, for leap seconds, before 1970, and
-/// from 2^63 nanoseconds on.
+/// `Z` (a `date-time` of RFC 3339 in UTC); or a number of seconds as [`read_duration`] reads it.
+/// `None` for every other text, for a day that the calendar hasn't, for leap seconds, before 1970,
+/// and from 2^63 nanoseconds on.
 #[tactic(auto, unfolding(crate::specs::Timestamp::time_value))]
-pub fn time_of(text: &str) -> Option<u64>
+pub fn read_timestamp(text: &str) -> Option<u64>
     ensures { result ≡ time_value text.now }
 {
     let bytes = text.as_bytes();
     if is_date_time(bytes) {
         return date_time_value(bytes);
     }
-    span_of(text)
+    read_duration(text)
 }

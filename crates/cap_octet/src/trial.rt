@@ -1,5 +1,5 @@
-//! Devices over memory that move a few bytes a call, fail where they are told to, and count what
-//! was asked.
+//! Devices for tests, over memory: they move a few bytes a call, fail where a test says, and count
+//! their reads.
 ghost use Rattle.std.specs.Prelude.{◌≡◌, ℕ, ◌+◌, ◌-◌, ◌≤◌, ◌<◌, ◌^◌, IsTrue, List, [], length};
 ghost use Rattle.std.proofs.Common.{rules};
 ghost use Rattle.std.specs.Prelude.{Some, None, true, IfOk, IsErr, OnErr, OnOk, min, is_some};
@@ -50,7 +50,7 @@ impl<'a> TrialInput<'a> {
         self.reads
     }
 
-    /// How many bytes were given.
+    /// How many bytes were given so far.
     pub fn given(&self) -> usize
         ensures { result ≡ ⟦<TrialInput<'a> as Input>⟧.given self.now }
     {
@@ -110,7 +110,7 @@ impl Input for TrialInput<'_> {
         &hand[..hand.len().min(self.piece)]
     }
 
-    /// Takes them where one read gives as many, and none is to fail.
+    /// Takes `count` bytes where one read gives as many, and none is to fail.
     fn pass(&mut self, count: usize) -> bool
         ensures counted { ⟦<MemInput<'static> as Input>⟧.given self.new.inner
             ≡ ⟦<MemInput<'static> as Input>⟧.given self.old.inner
@@ -162,7 +162,7 @@ impl<'a> TrialOutput<'a> {
         }
     }
 
-    /// What was written.
+    /// The bytes that were written so far.
     pub fn written(&self) -> &[u8]
         ensures { result.now ≡ ⟦<TrialOutput<'a> as Output>⟧.written self.now }
     {

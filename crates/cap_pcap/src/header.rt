@@ -1,4 +1,11 @@
-//! What the headers of a savefile and of its records say.
+//! The headers of a savefile and of its records (draft-ietf-opsawg-pcap), read:
+//!
+//! ```text
+//! file header    0 magic number   4 major version  6 minor version  8 reserved
+//!               16 snap length   20 link type
+//! record header  0 seconds        4 part of a second                8 captured length
+//!               12 original length
+//! ```
 ghost use Rattle.std.specs.Prelude.{◌≡◌, ◌/◌, ◌≤◌, ◌<◌, ◌^◌, length, IfOk};
 ghost use Rattle.cap_octet.specs.Checks.{checked, first_failing};
 ghost use Rattle.cap_pcap.specs.Header.{form_in, header_fault, header_in, magic};
@@ -24,7 +31,7 @@ pub enum Resolution {
     Nanoseconds,
 }
 
-/// What a file header says of all packets after it.
+/// What a file header, of 24 bytes, says of all packets after it.
 #[derive(Clone, Copy)]
 pub struct Head {
     /// The byte order of all numbers in the file.
@@ -36,7 +43,7 @@ pub struct Head {
     pub link: u16,
 }
 
-/// What a record says of its packet.
+/// What a record's header, of 16 bytes, says of its packet.
 #[derive(Clone, Copy)]
 pub struct RecordHead {
     /// Nanoseconds since 1970-01-01 00:00:00 UTC.
@@ -59,7 +66,7 @@ impl Resolution {
     }
 
     /// How many parts make a second.
-    fn parts(self) -> u32
+    fn parts_of_second(self) -> u32
         ensures { result ≡ parts_of_second self }
     {
         match self {
@@ -68,8 +75,8 @@ impl Resolution {
         }
     }
 
-    /// How many nanoseconds a part is.
-    pub(crate) fn nanoseconds(self) -> u64
+    /// How many nanoseconds one part of a second is.
+    pub(crate) fn nanoseconds_of_part(self) -> u64
         ensures { result ≡ nanoseconds_of_part self }
     {
         match self {
@@ -78,8 +85,8 @@ impl Resolution {
         }
     }
 
-    /// How many whole parts some nanoseconds are. Each divisor is a constant, which costs no
-    /// division.
+    /// How many whole parts of a second some nanoseconds are. Each divisor is a constant, which
+    /// costs no division.
     pub(crate) fn whole_parts(self, nanoseconds: u64) -> u64
         ensures { result ≡ nanoseconds / nanoseconds_of_part self }
     {
@@ -110,7 +117,7 @@ pub fn read_magic(bytes: &[u8]) -> Option<(Order, Resolution)>
 
 /// Reads a file header, or reports the first check that it fails: no magic number, another version
 /// than 2.4, a link type field above 65,535.
-pub fn read_head(bytes: &[u8; 24]) -> Result<Head, Fault>
+pub fn read_file_header(bytes: &[u8; 24]) -> Result<Head, Fault>
     ensures { result ≡ checked (header_fault bytes.now) (header_in bytes.now) }
 {
     let Some((order, resolution)) = read_magic(bytes) else {
@@ -131,9 +138,9 @@ pub fn read_head(bytes: &[u8; 24]) -> Result<Head, Fault>
     })
 }
 
-/// Reads what is before a record's data, or reports the first check that its fields fail: more than
-/// 262,144 captured bytes, a part of a second that is a whole one or more.
-pub fn read_record(head: &Head, bytes: &[u8; 16]) -> Result<RecordHead, Fault>
+/// Reads the header before a record's data, or reports the first check that its fields fail: more
+/// than 262,144 captured bytes, a part of a second that is a whole one or more.
+pub fn read_record_header(head: &Head, bytes: &[u8; 16]) -> Result<RecordHead, Fault>
     ensures answer { result
         ≡ checked (first_failing (field_checks head.now bytes.now))
         (record_header_in head.now bytes.now) }
@@ -147,27 +154,28 @@ pub fn read_record(head: &Head, bytes: &[u8; 16]) -> Result<RecordHead, Fault>
             resolution: Resolution::Microseconds,
             ..*head
         };
-        return read_fields(&usual, bytes);
+        return read_header_fields(&usual, bytes);
     }
-    read_unusual(head, bytes)
+    read_unusual_header(head, bytes)
 }
 
-/// The same, out of the way of the usual files.
+/// Reads a record's header in a file of another byte order or resolution than the usual one; out of
+/// the way of the usual files.
 #[cold]
 #[inline(never)]
-fn read_unusual(head: &Head, bytes: &[u8; 16]) -> Result<RecordHead, Fault>
+fn read_unusual_header(head: &Head, bytes: &[u8; 16]) -> Result<RecordHead, Fault>
     ensures answer { result
         ≡ checked (first_failing (field_checks head.now bytes.now))
         (record_header_in head.now bytes.now) }
     ensures in_range { IfOk result (λ found. found.time < 2 ^ 63) }
     ensures short { IfOk result (λ found. found.captured ≤ most_captured) }
 {
-    read_fields(head, bytes)
+    read_header_fields(head, bytes)
 }
 
-/// The same, each field by itself.
+/// Reads a record's header, each field by itself.
 #[inline(always)]
-fn read_fields(head: &Head, bytes: &[u8; 16]) -> Result<RecordHead, Fault>
+fn read_header_fields(head: &Head, bytes: &[u8; 16]) -> Result<RecordHead, Fault>
     ensures answer { result
         ≡ checked (first_failing (field_checks head.now bytes.now))
         (record_header_in head.now bytes.now) }
@@ -179,12 +187,12 @@ fn read_fields(head: &Head, bytes: &[u8; 16]) -> Result<RecordHead, Fault>
         return Err(Fault::TooLong);
     }
     let part = u32_at(head.order, bytes, 4);
-    if part >= head.resolution.parts() {
+    if part >= head.resolution.parts_of_second() {
         return Err(Fault::TimeOutOfRange);
     }
     let seconds = u64::from(u32_at(head.order, bytes, 0));
     Ok(RecordHead {
-        time: seconds * NANOS_PER_SECOND + u64::from(part) * head.resolution.nanoseconds(),
+        time: seconds * NANOS_PER_SECOND + u64::from(part) * head.resolution.nanoseconds_of_part(),
         captured,
         orig: u32_at(head.order, bytes, 12),
     })

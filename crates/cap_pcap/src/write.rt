@@ -1,4 +1,5 @@
-//! Heads as they are written.
+//! The headers of a savefile and of its records, as they are written: little-endian, at the places
+//! that `header.rt` has.
 ghost use Rattle.std.specs.Prelude.{◌≡◌, None};
 ghost use Rattle.cap_octet.specs.Checks.{checked, first_failing};
 ghost use Rattle.cap_octet.specs.Packet.{captured};
@@ -11,8 +12,8 @@ use byteorder::{ByteOrder, LittleEndian};
 use cap_octet::date::NANOS_PER_SECOND;
 use cap_octet::{Fault, Format, Packet};
 
-/// The resolution that a pcap form writes.
-fn written_resolution(format: Format) -> Resolution
+/// The resolution in which a pcap format writes times. Its caller owes a format other than pcapng.
+fn resolution_of(format: Format) -> Resolution
     requires { IsPcap format }
     ensures { result ≡ resolution_of format }
 {
@@ -23,10 +24,10 @@ fn written_resolution(format: Format) -> Resolution
     }
 }
 
-/// Whether a pcap form holds a packet, or the first check that it fails: more than 262,144 captured
-/// bytes, 2^32 seconds or more. Its caller owes a format other than pcapng; both pcap forms hold
-/// the same packets.
-pub fn fits(_format: Format, packet: &Packet<'_>) -> Result<(), Fault>
+/// Checks that a record can hold a packet, or returns the first check that fails: more than 262,144
+/// captured bytes, 2^32 seconds or more. Its caller owes a format other than pcapng; both pcap
+/// formats hold the same packets.
+pub fn check_record_fits(_format: Format, packet: &Packet<'_>) -> Result<(), Fault>
     requires { IsPcap _format }
     ensures { result ≡ checked (first_failing (record_fit_checks (captured packet.now))) tt }
 {
@@ -39,14 +40,14 @@ pub fn fits(_format: Format, packet: &Packet<'_>) -> Result<(), Fault>
     Ok(())
 }
 
-/// The file header of a pcap form, with the link type of the packets and the greatest snap length.
-/// Its caller owes a format other than pcapng.
-pub fn head_bytes(format: Format, link: u16) -> [u8; 24]
+/// The file header of a pcap format, version 2.4, with the link type of the packets and the
+/// greatest snap length. Its caller owes a format other than pcapng.
+pub fn file_header(format: Format, link: u16) -> [u8; 24]
     requires { IsPcap format }
     ensures { result ≡ file_header (resolution_of format) link }
 {
     let mut bytes = [0; 24];
-    LittleEndian::write_u32(&mut bytes, written_resolution(format).magic());
+    LittleEndian::write_u32(&mut bytes, resolution_of(format).magic());
     LittleEndian::write_u16(&mut bytes[4..], 2);
     LittleEndian::write_u16(&mut bytes[6..], 4);
     LittleEndian::write_u32(&mut bytes[16..], MOST_CAPTURED);
@@ -54,14 +55,14 @@ pub fn head_bytes(format: Format, link: u16) -> [u8; 24]
     bytes
 }
 
-/// What is in front of a packet's data. Its caller owes a format other than pcapng, and knows by
-/// `fits` that the format holds the packet.
-pub fn record_bytes(format: Format, packet: &Packet<'_>) -> [u8; 16]
+/// The header of a packet's record, in front of its data. Its caller owes a format other than
+/// pcapng, and knows by `check_record_fits` that the format holds the packet.
+pub fn record_header(format: Format, packet: &Packet<'_>) -> [u8; 16]
     requires form { IsPcap format }
     requires fits { first_failing (record_fit_checks (captured packet.now)) ≡ None }
     ensures { result ≡ record_header (resolution_of format) (captured packet.now) }
 {
-    let part = written_resolution(format).whole_parts(packet.time % NANOS_PER_SECOND);
+    let part = resolution_of(format).whole_parts(packet.time % NANOS_PER_SECOND);
     let mut bytes = [0; 16];
     LittleEndian::write_u32(&mut bytes, (packet.time / NANOS_PER_SECOND) as u32);
     LittleEndian::write_u32(&mut bytes[4..], part as u32);

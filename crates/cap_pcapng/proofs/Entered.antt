@@ -11,11 +11,11 @@ use Rattle.cap_octet.specs.declared.number.Order.{Order}
 use Rattle.cap_octet.proofs.Checks.{all_met, met_front}
 use Rattle.cap_pcapng.specs.Block.{Parts, SectionParts, InterfaceParts, EnhancedParts, SimpleParts, SkippedParts, block_checks, block_fault, option_checks, body_checks, body_in, data_checks, parts_in, parts_in_body, parts_of, simple_captured}
 use Rattle.cap_pcapng.specs.Comment.{comment_code, comment_in}
-use Rattle.cap_pcapng.specs.Interface.{Described}
+use Rattle.cap_pcapng.specs.Interface.{Described, most_interfaces}
 use Rattle.cap_pcapng.specs.InterfaceOptions.{first_value, fitting_options}
 use Rattle.cap_pcapng.specs.Padding.{padded_length}
 use Rattle.cap_pcapng.specs.Time.{representable_time}
-use Rattle.cap_pcapng.specs.Unit.{checks_among, most_interfaces, packet_by, packet_of, section_by}
+use Rattle.cap_pcapng.specs.Unit.{checks_among, packet_by, packet_of, section_by}
 use Rattle.cap_pcapng.proofs.OptionLists.{options_in-none}
 use Rattle.cap_pcapng.proofs.WholeBlocks.{block_fails, block_passes}
 use Rattle.cap_pcapng.specs.declared.blocks.Block.TheVariants as read

@@ -14,10 +14,10 @@ use Rattle.cap_pcapng.specs.InterfaceOptions.{checks_after, first_checks, first_
 use Rattle.cap_pcapng.specs.inside.InterfaceOptions.{value_for}
 use Rattle.cap_pcapng.specs.OptionList.{CodedValue}
 use Rattle.cap_pcapng.specs.Time.{microseconds}
-use Rattle.cap_pcapng.specs.declared.interface.Found.{Found}
+use Rattle.cap_pcapng.specs.declared.interface.FoundOptions.{FoundOptions}
 
 -- what an iterator of options has left, once some were read and passed, and this was found in them
-pub record HasRead (order : Order) (all rest : List (Result CodedValue Fault)) (found : Found) : Type 0 where
+pub record HasRead (order : Order) (all rest : List (Result CodedValue Fault)) (found : FoundOptions) : Type 0 where
   pub before : List CodedValue
   pub checks : first_failing (list_checks [] all) ≡ first_failing (list_checks before rest)
   pub joined : fitting_options all ≡ before ++ fitting_options rest
@@ -41,7 +41,7 @@ option_or-map f None b = refl
 option_or-map f (Some x) b = refl
 
 -- one option more
-pub IsFound-more : (order : Order) (before : List CodedValue) (o : CodedValue) (found more : Found) → IsFound order before found
+pub IsFound-more : (order : Order) (before : List CodedValue) (o : CodedValue) (found more : FoundOptions) → IsFound order before found
     → Adds order found o more → IsFound order (before ++ o ∷ []) more
 IsFound-more order before o found more is adds = record {
   name = adds.name ∙ ap (λ v. option_or v (value_for name_code o)) is.name ∙ sym (first_value-push name_code before o);
@@ -72,7 +72,7 @@ by_code false false false true name units offset a b c n u f = refl
 by_code false false false false name units offset a b c n u f = refl
 
 -- an option of which one of its code stands before isn't checked
-pub checks_after-found : (order : Order) (before : List CodedValue) (o : CodedValue) (found : Found) → IsFound order before found
+pub checks_after-found : (order : Order) (before : List CodedValue) (o : CodedValue) (found : FoundOptions) → IsFound order before found
     → checks_after before o ≡ (if is_found found o.code then [] else first_checks o)
 checks_after-found order before o found is =
     by_code (o.code == name_code) (o.code == resolution_code) (o.code == offset_code) (is_some (first_value o.code before))
@@ -85,7 +85,7 @@ checks_after-found order before o found is =
 
 -- ---- one item of the iterator
 
-pub HasRead-more : (order : Order) (all left rest : List (Result CodedValue Fault)) (o : CodedValue) (found more : Found)
+pub HasRead-more : (order : Order) (all left rest : List (Result CodedValue Fault)) (o : CodedValue) (found more : FoundOptions)
     → HasRead order all left found → left ≡ Ok o ∷ rest
     → Adds order found o more
     → first_failing (if is_found found o.code then [] else first_checks o) ≡ None
@@ -99,7 +99,7 @@ HasRead-more order all left rest o found more read is adds passes = record {
   is_found = IsFound-more order read.before o found more read.is_found adds;
 }
 
-pub HasRead-refused : (order : Order) (all left rest : List (Result CodedValue Fault)) (o : CodedValue) (found : Found) (fault : Fault)
+pub HasRead-refused : (order : Order) (all left rest : List (Result CodedValue Fault)) (o : CodedValue) (found : FoundOptions) (fault : Fault)
     → HasRead order all left found → left ≡ Ok o ∷ rest
     → first_failing (if is_found found o.code then [] else first_checks o) ≡ Some fault
     → first_failing (list_checks [] all) ≡ Some fault

@@ -15,12 +15,12 @@ use Rattle.cap_pcapng.specs.Block.{EnhancedParts, InterfaceParts, Parts, block_c
 use Rattle.cap_pcapng.specs.Comment.{comment_in}
 use Rattle.cap_pcapng.specs.Frame.{frame_checks, frame_in, most_block, section_type, type_of_block}
 use Rattle.cap_octet.specs.Packet.{Captured}
-use Rattle.cap_pcapng.specs.Interface.{Described}
+use Rattle.cap_pcapng.specs.Interface.{Described, most_interfaces}
 use Rattle.cap_pcapng.specs.Laws.{InterfaceBack, PacketBack, SectionBack, ReadsAs, written_interface, written_section}
 use Rattle.cap_pcapng.specs.Padding.{padded_length}
 use Rattle.cap_octet.specs.Date.{NANOS_PER_SECOND}
 use Rattle.cap_pcapng.specs.Time.{time_by, representable_time}
-use Rattle.cap_pcapng.specs.Unit.{Section, checks_among, frame_after, interfaces_before, most_interfaces, order_before, packet_by, section_by, unit_fault}
+use Rattle.cap_pcapng.specs.Unit.{Section, checks_among, frame_after, interfaces_before, order_before, packet_by, section_by, unit_fault}
 use Rattle.cap_pcapng.specs.Encoding.{block_text, comment_text, end_text, block_fit_checks, interface_body, name_text, packet_body, padded_text, resolution_text}
 use Rattle.cap_pcapng.proofs.Numerals.{number_at}
 use Rattle.cap_pcapng.proofs.OptionsBack.{comment_back, options_describe, options_pass}

@@ -28,9 +28,13 @@ description_of i =
       offset = i.clock.offset;
     }
 
+-- how many interfaces a section may have
+abbrev pub most_interfaces : ℕ
+most_interfaces = 256
+
 -- what holds of the interfaces of each section
 pub record FitSection (interfaces : List Described) : Type 0 where
-  pub count : length interfaces ≤ 256
+  pub count : length interfaces ≤ most_interfaces
   pub names : All (λ i. length i.name ≤ 255) interfaces
 
 -- the interface of this link type and snap length that options describe

@@ -7,7 +7,7 @@ use Rattle.cap_octet.specs.declared.fault.Fault.{Fault}
 use Rattle.cap_octet.specs.declared.fault.Fault.TheVariants.{BadOption, BadTimeResolution}
 use Rattle.cap_octet.specs.declared.number.Order.{Order}
 use Rattle.cap_pcapng.specs.OptionList.{CodedValue}
-use Rattle.cap_pcapng.specs.Time.{is_resolution, units_by}
+use Rattle.cap_pcapng.specs.Time.{is_resolution, units_per_second}
 
 -- the codes of the options that are looked at
 abbrev pub name_code : ℕ
@@ -63,7 +63,7 @@ fitting_options (Err fault ∷ items) = fitting_options items
 fitting_options (Ok option ∷ items) = option ∷ fitting_options items
 
 abbrev pub units_in_value : List ℕ → ℕ
-units_in_value value = units_by (slice_index value 0)
+units_in_value value = units_per_second (slice_index value 0)
 
 -- seconds, in two's complement
 abbrev pub offset_in_value : Order → List ℕ → ℤ

@@ -5,8 +5,8 @@ use Rattle.cap_octet.specs.Checks.{first_failing}
 use Rattle.cap_octet.specs.Date.{NANOS_PER_SECOND}
 use Rattle.cap_octet.specs.Packet.{Captured}
 use Rattle.cap_octet.specs.declared.number.Order.TheVariants.{Little}
-use Rattle.cap_pcapng.specs.Interface.{Described}
-use Rattle.cap_pcapng.specs.Unit.{IsBlock, Section, most_interfaces, packets_in, section_after}
+use Rattle.cap_pcapng.specs.Interface.{Described, most_interfaces}
+use Rattle.cap_pcapng.specs.Unit.{IsBlock, Section, packets_in, section_after}
 use Rattle.cap_pcapng.specs.Encoding.{block_fit_checks, interface_text, packet_block, section_text}
 
 -- These bytes are one block, after which the section is this, and they hold these packets.

@@ -22,8 +22,8 @@ abbrev pub is_resolution : ℕ → Bool
 is_resolution byte = if nat_lt byte 128 then nat_le byte 12 else nat_le (byte - 128) 32
 
 -- how many units of this resolution make a second
-abbrev pub units_by : ℕ → ℕ
-units_by byte = if nat_lt byte 128 then 10 ^ byte else 2 ^ (byte - 128)
+abbrev pub units_per_second : ℕ → ℕ
+units_per_second byte = if nat_lt byte 128 then 10 ^ byte else 2 ^ (byte - 128)
 
 -- microseconds, where no resolution is given
 abbrev pub microseconds : ℕ

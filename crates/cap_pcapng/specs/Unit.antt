@@ -11,14 +11,10 @@ use Rattle.cap_octet.specs.declared.number.Order.{Order}
 use Rattle.cap_pcapng.specs.Block.{Parts, SectionParts, InterfaceParts, EnhancedParts, SimpleParts, SkippedParts, block_checks, data_checks, option_checks, parts_in, simple_captured}
 use Rattle.cap_pcapng.specs.Comment.{comment_in}
 use Rattle.cap_pcapng.specs.Frame.{frame_checks, frame_in}
-use Rattle.cap_pcapng.specs.Interface.{Described, described_in}
+use Rattle.cap_pcapng.specs.Interface.{Described, described_in, most_interfaces}
 use Rattle.cap_pcapng.specs.Padding.{padded_length}
 use Rattle.cap_pcapng.specs.Time.{representable_time}
 use Rattle.cap_pcapng.specs.declared.frames.Frame.{Frame}
-
--- how many interfaces a section may have
-abbrev pub most_interfaces : ℕ
-most_interfaces = 256
 
 -- what a section declares so far: its byte order, and its interfaces by their numbers
 pub record Section : Type 0 where

@@ -1,4 +1,12 @@
-//! What blocks say, with their data lent.
+//! What the body of a block says, with its data lent. Places in a body are in bytes:
+//!
+//! ```text
+//! section    0 byte-order magic  4 major version  6 minor version  8 section length
+//! interface  0 link type         2 reserved       4 snap length    8 options
+//! enhanced   0 interface         4 ticks, the high half             8 ticks, the low half
+//!           12 captured length  16 original length                 20 data, padding, options
+//! simple     0 original length                                      4 data, padding
+//! ```
 ghost use Rattle.std.specs.Prelude.{◌≡◌, drop, take};
 ghost use Rattle.cap_octet.specs.Checks.{checked, first_failing};
 ghost use Rattle.cap_pcapng.specs.Block.{body_checks, data_checks, parts_in_body, parts_of};
@@ -58,9 +66,9 @@ pub struct SimpleBlock<'a> {
     pub rest: &'a [u8],
 }
 
-/// Whether a body is that of a section header of version 1.0 or 1.2, or the first check that it
-/// fails.
-pub(crate) fn check_section(order: Order, body: &[u8]) -> Result<(), Fault>
+/// Checks the body of a section header, of version 1.0 or 1.2, or returns the first check that it
+/// fails: it is shorter than 16 bytes, or of another version.
+pub(crate) fn check_section_body(order: Order, body: &[u8]) -> Result<(), Fault>
     ensures { result ≡ checked (first_failing (body_checks kind.Section order body.now)) tt }
 {
     if body.len() < 16 {
@@ -74,7 +82,7 @@ pub(crate) fn check_section(order: Order, body: &[u8]) -> Result<(), Fault>
     Ok(())
 }
 
-/// The captured bytes at the start of what is left of a body, or fault 9 where it is shorter than
+/// The captured bytes at the start of what is left of a body, or `BadBody` where it is shorter than
 /// they are with their padding.
 fn data_in(rest: &[u8], captured: u32) -> Result<&[u8], Fault>
     ensures { ChecksGive (data_checks captured rest.now) result
@@ -87,8 +95,9 @@ fn data_in(rest: &[u8], captured: u32) -> Result<&[u8], Fault>
 }
 
 impl<'a> EnhancedBlock<'a> {
-    /// Reads a body, or tells that it is shorter than 20 bytes.
-    pub(crate) fn of(order: Order, body: &'a [u8]) -> Result<Self, Fault>
+    /// Reads the body of an enhanced packet block, or returns `BadBody` where it is shorter than 20
+    /// bytes.
+    pub(crate) fn of_body(order: Order, body: &'a [u8]) -> Result<Self, Fault>
         ensures { ChecksGive (body_checks kind.EnhancedPacket order body.now) result
             (λ b. parts_of (a.Enhanced b) ≡ parts_in_body kind.EnhancedPacket order body.now) }
     {
@@ -107,7 +116,7 @@ impl<'a> EnhancedBlock<'a> {
         })
     }
 
-    /// The captured bytes, or fault 9 where the body is shorter than they are with their padding.
+    /// The captured bytes, or `BadBody` where the body is shorter than they are with their padding.
     pub fn data(&self) -> Result<&'a [u8], Fault>
         ensures { ChecksGive (data_checks self.now.captured self.now.rest.now) result
             (λ bytes. bytes.now ≡ take self.now.captured self.now.rest.now) }
@@ -115,7 +124,7 @@ impl<'a> EnhancedBlock<'a> {
         data_in(self.rest, self.captured)
     }
 
-    /// The options after the padded data.
+    /// The options after the padded data; none where the body ends before.
     pub fn options(&self) -> Options<'a>
         ensures order { result.order ≡ self.now.order }
         ensures rest { result.rest.now ≡ drop (padded_length self.now.captured) self.now.rest.now }
@@ -126,8 +135,9 @@ impl<'a> EnhancedBlock<'a> {
 }
 
 impl<'a> SimpleBlock<'a> {
-    /// Reads a body, or tells that it is shorter than 4 bytes.
-    pub(crate) fn of(order: Order, body: &'a [u8]) -> Result<Self, Fault>
+    /// Reads the body of a simple packet block, or returns `BadBody` where it is shorter than 4
+    /// bytes.
+    pub(crate) fn of_body(order: Order, body: &'a [u8]) -> Result<Self, Fault>
         ensures { ChecksGive (body_checks kind.SimplePacket order body.now) result
             (λ b. parts_of (a.Simple b) ≡ parts_in_body kind.SimplePacket order body.now) }
     {
@@ -151,7 +161,7 @@ impl<'a> SimpleBlock<'a> {
         }
     }
 
-    /// The captured bytes where the interface has this snap length, or fault 9 where the body is
+    /// The captured bytes where the interface has this snap length, or `BadBody` where the body is
     /// shorter than they are with their padding.
     pub fn data(&self, snap: u32) -> Result<&'a [u8], Fault>
         ensures { ChecksGive (data_checks (simple_captured self.now.orig snap) self.now.rest.now)

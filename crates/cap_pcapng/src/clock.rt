@@ -1,7 +1,7 @@
 //! How the ticks of an interface become times.
 ghost use Rattle.std.specs.Prelude.{◌≡◌, ◌<◌, ◌^◌, if◌then◌else◌, IfOk};
 ghost use Rattle.std.specs.Option.{ok_or};
-ghost use Rattle.cap_pcapng.specs.Time.{is_resolution, time_by, representable_time, units_by};
+ghost use Rattle.cap_pcapng.specs.Time.{is_resolution, time_by, representable_time, units_per_second};
 
 use cap_octet::Fault;
 use cap_octet::date::{NANOS_PER_SECOND, TIME_END};
@@ -25,10 +25,10 @@ pub struct Clock {
     ghost moves: { 0 < units },
 }
 
-/// How many units of a resolution make a second, or fault 12 where its power is above 12 of ten or
-/// 32 of two (draft-ietf-opsawg-pcapng, option if_tsresol).
-pub(crate) fn units_of(resolution: u8) -> Result<u64, Fault>
-    ensures { result ≡ (if is_resolution resolution then Ok (units_by resolution)
+/// How many ticks of a resolution make a second, or `BadTimeResolution` where its power is above 12
+/// of ten or 32 of two (draft-ietf-opsawg-pcapng, option if_tsresol).
+pub(crate) fn units_per_second(resolution: u8) -> Result<u64, Fault>
+    ensures { result ≡ (if is_resolution resolution then Ok (units_per_second resolution)
         else Err Fault.BadTimeResolution) }
 {
     match resolution {
@@ -39,9 +39,9 @@ pub(crate) fn units_of(resolution: u8) -> Result<u64, Fault>
 }
 
 impl Clock {
-    /// Nanoseconds since 1970-01-01 00:00:00 UTC at a tick, cut to whole ones, or fault 10 where
-    /// they are not from 0 to 2^63 - 1.
-    pub fn time(&self, ticks: u64) -> Result<u64, Fault>
+    /// The nanoseconds since 1970-01-01 00:00:00 UTC at a tick, cut to whole ones, or
+    /// `TimeOutOfRange` where they are not from 0 to 2^63 - 1.
+    pub fn time_at(&self, ticks: u64) -> Result<u64, Fault>
         ensures answer { result ≡ ok_or (representable_time ticks self.now.units self.now.offset)
             Fault.TimeOutOfRange }
         ensures in_range { IfOk result (λ time. time < 2 ^ 63) }
@@ -52,7 +52,7 @@ impl Clock {
     }
 }
 
-/// A time in nanoseconds, or fault 10 where it isn't from 0 to 2^63 - 1.
+/// A time in nanoseconds, or `TimeOutOfRange` where it isn't from 0 to 2^63 - 1.
 fn checked_time(time: i128) -> Result<u64, Fault>
     ensures answer { result ≡ ok_or (time_by time) Fault.TimeOutOfRange }
     ensures in_range { IfOk result (λ time. time < 2 ^ 63) }

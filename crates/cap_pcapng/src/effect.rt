@@ -1,4 +1,5 @@
-//! What a block does among the interfaces of its section.
+//! What a block does among the interfaces of its section: it begins a section, adds an interface or
+//! has a packet; with the checks of it that need these interfaces.
 ghost use Rattle.std.specs.Prelude.{◌≡◌, ◌+◌, ◌≤◌, IfOk, IfErr, length};
 ghost use Rattle.cap_pcapng.specs.Answer.{ChecksGive};
 ghost use Rattle.cap_pcapng.specs.Block.{parts_of};
@@ -11,7 +12,7 @@ ghost use Rattle.cap_pcapng.specs.declared.blocks.Block.TheVariants as a;
 use crate::blocks::{Block, EnhancedBlock, SimpleBlock};
 use crate::frames::Frame;
 use crate::interface::Interface;
-use crate::read::block;
+use crate::read::read_block;
 use crate::table::MOST_INTERFACES;
 use cap_octet::{Fault, Order};
 
@@ -31,15 +32,15 @@ pub struct Span {
 }
 
 impl Span {
-    /// A given number of bytes from this one on.
+    /// `length` bytes of a unit, from place `start` on.
     pub fn new(start: u32, length: u32) -> Self
         ensures { result ≡ record { start = start; length = length } }
     {
         Span { start, length }
     }
 
-    /// These bytes of a buffer that begins with the unit.
-    pub fn of(self, bytes: &[u8]) -> &[u8]
+    /// These bytes, of a buffer that begins with the unit.
+    pub fn bytes_in(self, bytes: &[u8]) -> &[u8]
         requires { self.start + self.length ≤ length bytes.now }
         ensures { result.now ≡ span_bytes self bytes.now }
     {
@@ -65,7 +66,7 @@ pub struct PacketSpans {
 }
 
 impl PacketSpans {
-    /// Of no packet.
+    /// The spans of no packet: all zeros, to be written over.
     pub fn of_no_packet() -> Self {
         PacketSpans {
             size: 0,
@@ -108,7 +109,8 @@ pub enum BlockEffect<'a> {
     Nothing,
 }
 
-/// What a block's refusal by itself tells following these interfaces.
+/// The fault of a block that its own checks refuse, after these interfaces: where there are 256,
+/// that there are too many comes before what an interface's options tell.
 fn fault_in_full_table<T: Interfaces>(table: &T, fault: Fault) -> Fault
     ensures { result ≡ fault_among (T.list table.now) fault }
 {
@@ -120,7 +122,8 @@ fn fault_in_full_table<T: Interfaces>(table: &T, fault: Fault) -> Fault
     }
 }
 
-/// The packet of an enhanced packet block of this size.
+/// Where the packet of an enhanced packet block of `size` bytes lies, or the first check that it
+/// fails: its interface isn't known, its data end outside the block, its time is out of range.
 fn enhanced_packet<T: Interfaces>(
     table: &T,
     block: &EnhancedBlock<'_>,
@@ -136,7 +139,10 @@ fn enhanced_packet<T: Interfaces>(
         return Err(Fault::UnknownInterface);
     };
     block.data()?;
-    let time = interface.clock.time(block.ticks)?;
+    let time = interface.clock.time_at(block.ticks)?;
+    // 0      28 = ENHANCED_DATA     following
+    // header | data, padding        | options | total length
+    //        |-------- block.rest ------------|
     let options = block.options().rest.len() as u32;
     let following = ENHANCED_DATA + block.rest.len() as u32 - options;
     Ok(PacketSpans {
@@ -149,7 +155,8 @@ fn enhanced_packet<T: Interfaces>(
     })
 }
 
-/// The packet of a simple packet block of this size: one of interface 0, at time 0.
+/// Where the packet of a simple packet block of `size` bytes lies, one of interface 0 at time 0; or
+/// the first check that it fails: there is no interface, its data end outside the block.
 fn simple_packet<T: Interfaces>(
     table: &T,
     block: &SimpleBlock<'_>,
@@ -185,7 +192,7 @@ pub fn block_effect<'a, T: Interfaces>(
     ensures ok { IfOk result (HasEffect frame.now (T.list table.now) bytes.now) }
     ensures err { IfErr result (IsBlockFault frame.now (T.list table.now) bytes.now) }
 {
-    match block(frame, bytes) {
+    match read_block(frame, bytes) {
         Ok(Block::Section) => Ok(BlockEffect::Section),
         Ok(Block::Interface(found)) => {
             if table.count() >= MOST_INTERFACES {

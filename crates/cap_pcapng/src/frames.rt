@@ -4,8 +4,23 @@ ghost use Rattle.cap_pcapng.specs.Frame.{magic_order, type_of_block};
 
 use cap_octet::{Order, u32_at};
 
+/// The type of a section header block, which reads the same in both orders.
+pub(crate) const SECTION_TYPE: u32 = 0x0a0d_0d0a;
+
+/// The type of an interface description block.
+pub(crate) const INTERFACE_TYPE: u32 = 1;
+
+/// The type of an obsolete packet block.
+const OBSOLETE_PACKET_TYPE: u32 = 2;
+
+/// The type of a simple packet block.
+const SIMPLE_PACKET_TYPE: u32 = 3;
+
+/// The type of an enhanced packet block.
+pub(crate) const ENHANCED_PACKET_TYPE: u32 = 6;
+
 /// The byte-order magic of a section header block.
-const BYTE_ORDER_MAGIC: u32 = 0x1a2b_3c4d;
+pub(crate) const BYTE_ORDER_MAGIC: u32 = 0x1a2b_3c4d;
 
 /// The greatest total length of a block, in bytes.
 pub(crate) const MOST_BLOCK: u32 = 1_048_576;
@@ -38,22 +53,22 @@ pub struct Frame {
 }
 
 impl BlockType {
-    /// The type of a block that is no section header.
-    pub(crate) fn of(number: u32) -> Self
+    /// The type of a block that is no section header, by the number in its first four bytes.
+    pub(crate) fn of_number(number: u32) -> Self
         ensures { result ≡ type_of_block number }
     {
         match number {
-            1 => BlockType::Interface,
-            2 => BlockType::ObsoletePacket,
-            3 => BlockType::SimplePacket,
-            6 => BlockType::EnhancedPacket,
+            INTERFACE_TYPE => BlockType::Interface,
+            OBSOLETE_PACKET_TYPE => BlockType::ObsoletePacket,
+            SIMPLE_PACKET_TYPE => BlockType::SimplePacket,
+            ENHANCED_PACKET_TYPE => BlockType::EnhancedPacket,
             _ => BlockType::Other,
         }
     }
 }
 
-/// The byte order in which bytes 8 to 11 are the byte-order magic.
-pub(crate) fn order_of(bytes: &[u8; 12]) -> Option<Order>
+/// The byte order of a section header: that in which its bytes 8 to 11 are the byte-order magic.
+pub(crate) fn magic_order(bytes: &[u8; 12]) -> Option<Order>
     ensures { result ≡ magic_order bytes.now }
 {
     [Order::Little, Order::Big]

@@ -1,24 +1,24 @@
-//! Interfaces, as their options describe them.
+//! Interface description blocks: an interface, and what its options say of it.
 ghost use Rattle.std.specs.Prelude.{◌≡◌, ◌≤◌, ◌++◌, if◌then◌else◌, [], length, IfOk};
 ghost use Rattle.cap_pcapng.specs.InterfaceOptions.{name_checks, offset_checks, offset_in_value};
 ghost use Rattle.cap_pcapng.specs.InterfaceOptions.{resolution_checks, units_in_value};
 ghost use Rattle.cap_pcapng.specs.Answer.{ChecksGive};
 
 use crate::blocks::InterfaceBlock;
-use crate::clock::{Clock, units_of};
+use crate::clock::{Clock, units_per_second};
 use crate::options::{BlockOption, Options};
 use arrayvec::ArrayVec;
 use byteorder::{BigEndian, ByteOrder, LittleEndian};
 use cap_octet::{Fault, Order, u16_at, u32_at};
 
 /// The code of a name (option if_name).
-const NAME: u16 = 2;
+pub(crate) const NAME_CODE: u16 = 2;
 
 /// The code of a resolution (option if_tsresol).
-const RESOLUTION: u16 = 9;
+pub(crate) const RESOLUTION_CODE: u16 = 9;
 
 /// The code of an offset (option if_tsoffset).
-const OFFSET: u16 = 14;
+const OFFSET_CODE: u16 = 14;
 
 /// How many ticks make a second where no resolution is given.
 const MICROSECONDS: u64 = 1_000_000;
@@ -45,14 +45,14 @@ pub struct Interface<'a> {
 
 /// What was found in the options so far: the first of each code.
 #[derive(Clone, Copy)]
-struct Found<'a> {
+struct FoundOptions<'a> {
     name: Option<&'a [u8]>,
     units: Option<u64>,
     offset: Option<i64>,
 }
 
-/// A name, which has at most 255 bytes, else fault 8.
-fn name_in(value: &[u8]) -> Result<&[u8], Fault>
+/// The name that an option's value is, or `BadOption` where it has over 255 bytes.
+fn name_in_value(value: &[u8]) -> Result<&[u8], Fault>
     ensures { ChecksGive (name_checks value.now) result (λ name. name.now ≡ value.now) }
 {
     if value.len() > MOST_NAME {
@@ -61,20 +61,21 @@ fn name_in(value: &[u8]) -> Result<&[u8], Fault>
     Ok(value)
 }
 
-/// The units of a resolution, which has one byte, else fault 8, and is in range, else fault 12.
-fn units_in(value: &[u8]) -> Result<u64, Fault>
+/// The ticks in a second by the resolution that an option's value is, or `BadOption` where it isn't
+/// one byte, `BadTimeResolution` where that is out of range.
+fn units_in_value(value: &[u8]) -> Result<u64, Fault>
     ensures { ChecksGive (resolution_checks value.now) result
         (λ units. units ≡ units_in_value value.now) }
 {
     if value.len() != 1 {
         return Err(Fault::BadOption);
     }
-    units_of(value[0])
+    units_per_second(value[0])
 }
 
-/// An offset, which has eight bytes, else fault 8.
+/// The offset that an option's value is, in seconds, or `BadOption` where it isn't eight bytes.
 #[tactic(auto, unfolding(cap_octet::specs::Number::number_in))]
-fn offset_in(order: Order, value: &[u8]) -> Result<i64, Fault>
+fn offset_in_value(order: Order, value: &[u8]) -> Result<i64, Fault>
     ensures { ChecksGive (offset_checks value.now) result
         (λ offset. offset ≡ offset_in_value order value.now) }
 {
@@ -87,41 +88,43 @@ fn offset_in(order: Order, value: &[u8]) -> Result<i64, Fault>
     })
 }
 
-impl<'a> Found<'a> {
+impl<'a> FoundOptions<'a> {
     ghost use Rattle.cap_pcapng.specs.inside.Interface.{Adds, IsFound, is_found};
     ghost use Rattle.cap_pcapng.specs.InterfaceOptions.{first_checks, fitting_options, list_checks};
     ghost use Rattle.cap_pcapng.specs.OptionList.{coded_value, options_left};
 
-    /// What is found in one option more, or the first check that this fails, if it is the first of
-    /// its code.
-    fn with(mut self, order: Order, option: BlockOption<'a>) -> Result<Self, Fault>
+    /// What is found with one option more, or the first check that this fails. Only the first
+    /// option of a code is looked at.
+    fn with_option(mut self, order: Order, option: BlockOption<'a>) -> Result<Self, Fault>
         ensures { ChecksGive (if is_found self.entry option.entry.code then []
             else first_checks (coded_value option.entry)) result
             (Adds order self.entry (coded_value option.entry)) }
     {
         match option.code {
-            NAME if self.name.is_none() => self.name = Some(name_in(option.value)?),
-            RESOLUTION if self.units.is_none() => self.units = Some(units_in(option.value)?),
-            OFFSET if self.offset.is_none() => {
-                self.offset = Some(offset_in(order, option.value)?);
+            NAME_CODE if self.name.is_none() => self.name = Some(name_in_value(option.value)?),
+            RESOLUTION_CODE if self.units.is_none() => self.units = Some(units_in_value(
+                option.value,
+            )?),
+            OFFSET_CODE if self.offset.is_none() => {
+                self.offset = Some(offset_in_value(order, option.value)?);
             }
             _ => {}
         }
         Ok(self)
     }
 
-    /// What the options say, or the first check that they fail.
-    fn of(options: Options<'a>) -> Result<Self, Fault>
+    /// What is found in all of these options, or the first check that they fail.
+    fn of_options(options: Options<'a>) -> Result<Self, Fault>
         ensures { ChecksGive (list_checks [] (options_left options.entry)) result
             (IsFound options.entry.order (fitting_options (options_left options.entry))) }
     {
-        let mut found = Found {
+        let mut found = FoundOptions {
             name: None,
             units: None,
             offset: None,
         };
         for option in options {
-            found = found.with(options.order, option?)?;
+            found = found.with_option(options.order, option?)?;
         }
         Ok(found)
     }
@@ -133,9 +136,9 @@ impl<'a> InterfaceBlock<'a> {
     ghost use Rattle.cap_pcapng.specs.Interface.{IsDescribed};
     ghost use Rattle.cap_pcapng.specs.declared.frames.BlockType.TheVariants as kind;
 
-    /// Reads a body, or tells the first check that it fails: it is shorter than 8 bytes, or one of
-    /// its options.
-    pub(crate) fn of(order: Order, body: &'a [u8]) -> Result<Self, Fault>
+    /// Reads the body of an interface description block, or returns the first check that it fails:
+    /// it is shorter than 8 bytes, or one of its options.
+    pub(crate) fn of_body(order: Order, body: &'a [u8]) -> Result<Self, Fault>
         ensures found { ChecksGive (body_checks kind.Interface order body.now
             ++ option_checks (parts_in_body kind.Interface order body.now)) result
             (λ b. parts_of_interface b ≡ parts_in_body kind.Interface order body.now) }
@@ -145,7 +148,7 @@ impl<'a> InterfaceBlock<'a> {
             return Err(Fault::BadBody);
         }
         let options = Options::new(order, &body[8..]);
-        let found = Found::of(options)?;
+        let found = FoundOptions::of_options(options)?;
         let interface = Interface {
             link: u16_at(order, body, 0),
             snap: u32_at(order, body, 4),

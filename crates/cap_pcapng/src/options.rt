@@ -1,14 +1,18 @@
-//! Options: codes and values, one after another, at the end of a block's body.
+//! Options, one after another at the end of a block's body (draft-ietf-opsawg-pcapng, "Options"):
+//!
+//! ```text
+//! 0 code  2 length of the value  4 value, with padding to a multiple of four bytes
+//! ```
 ghost use Rattle.std.specs.Prelude.{◌≡◌, ◌≤◌, ◌+◌, ◌<◌, ◌^◌, length};
 ghost use Rattle.cap_pcapng.specs.Padding.{padded_length};
 
 use cap_octet::{Fault, Order, u16_at};
 
 /// The code that ends a list of options.
-const END: u16 = 0;
+const END_CODE: u16 = 0;
 
 /// The code of a comment (option opt_comment).
-const COMMENT: u16 = 1;
+pub(crate) const COMMENT_CODE: u16 = 1;
 
 /// The options of a block, in order, up to code 0 or the end of their bytes. A value that doesn't
 /// fit in the bytes is `BadOption`, and nothing follows it (draft-ietf-opsawg-pcapng, "Options").
@@ -29,7 +33,7 @@ pub struct BlockOption<'a> {
     ghost short: { length value.now ≤ 65535 },
 }
 
-/// A length with the padding to a multiple of four.
+/// A length in bytes, with the padding to a multiple of four.
 pub(crate) fn padded_length(length: u64) -> u64
     requires { length + 3 < 2 ^ 64 }
     ensures { result ≡ padded_length length }
@@ -40,7 +44,7 @@ pub(crate) fn padded_length(length: u64) -> u64
 impl<'a> Options<'a> {
     ghost use Rattle.cap_pcapng.specs.Comment.{comment_in};
 
-    /// The options in these bytes.
+    /// The options in these bytes, of which none is read yet.
     pub(crate) fn new(order: Order, rest: &'a [u8]) -> Self
         ensures order { result.order ≡ order }
         ensures rest { result.rest.now ≡ rest.now }
@@ -55,7 +59,7 @@ impl<'a> Options<'a> {
         ensures short { length result.now ≤ 65535 }
     {
         while let Some(Ok(option)) = self.next() {
-            if option.code == COMMENT {
+            if option.code == COMMENT_CODE {
                 return option.value;
             }
         }
@@ -73,13 +77,14 @@ impl<'a> Iterator for Options<'a> {
 
     ghost remaining = { item_count options_left };
 
+    /// The next option; `None` at code 0 or where fewer than four bytes are left.
     fn next(&mut self) -> Option<Result<BlockOption<'a>, Fault>> {
         let Options { order, rest } = *self;
         if rest.len() < 4 {
             return None;
         }
         let code = u16_at(order, rest, 0);
-        if code == END {
+        if code == END_CODE {
             return None;
         }
         let size = 4 + usize::from(u16_at(order, rest, 2));

@@ -6,14 +6,11 @@ ghost use Rattle.cap_pcapng.specs.Block.{parts_in, parts_in_body, parts_of};
 ghost use Rattle.cap_pcapng.specs.Frame.{frame_fault, frame_in, is_section, most_block};
 ghost use Rattle.cap_pcapng.specs.Answer.{ChecksGive};
 
-use crate::blocks::{Block, EnhancedBlock, InterfaceBlock, SimpleBlock, check_section};
-use crate::frames::{BlockType, Frame, MOST_BLOCK, order_of};
+use crate::blocks::{Block, EnhancedBlock, InterfaceBlock, SimpleBlock, check_section_body};
+use crate::frames::{BlockType, Frame, MOST_BLOCK, SECTION_TYPE, magic_order};
 use cap_octet::{Fault, Order, u32_at};
 
-/// The type of a section header block, which reads the same in both orders.
-const SECTION_TYPE: u32 = 0x0a0d_0d0a;
-
-/// Whether a text that begins with these bytes begins with a section header, by the type alone.
+/// Whether these are the first bytes of a section header, by the block's type alone.
 pub fn begins_section(bytes: &[u8; 4]) -> bool
     ensures { result ≡ is_section bytes.now }
 {
@@ -24,7 +21,7 @@ pub fn begins_section(bytes: &[u8; 4]) -> bool
 /// none; or tells the first check that they fail: no section before a block of another type, no
 /// byte-order magic in a section header, a total length below 12 or no multiple of 4, a total
 /// length above 1,048,576.
-pub fn frame(section: Option<Order>, bytes: &[u8; 12]) -> Result<Frame, Fault>
+pub fn read_frame(section: Option<Order>, bytes: &[u8; 12]) -> Result<Frame, Fault>
     ensures answer { result ≡ checked (frame_fault section bytes.now) (frame_in section bytes.now) }
     ensures shortest { IfOk result (λ frame. 12 ≤ frame.length) }
     ensures longest { IfOk result (λ frame. frame.length ≤ most_block) }
@@ -32,7 +29,7 @@ pub fn frame(section: Option<Order>, bytes: &[u8; 12]) -> Result<Frame, Fault>
 {
     let is_section = u32_at(Order::Little, bytes, 0) == SECTION_TYPE;
     let order = if is_section {
-        order_of(bytes).ok_or(Fault::BadByteOrderMagic)?
+        magic_order(bytes).ok_or(Fault::BadByteOrderMagic)?
     } else {
         section.ok_or(Fault::NotACaptureFile)?
     };
@@ -46,7 +43,7 @@ pub fn frame(section: Option<Order>, bytes: &[u8; 12]) -> Result<Frame, Fault>
     let block_type = if is_section {
         BlockType::Section
     } else {
-        BlockType::of(u32_at(order, bytes, 0))
+        BlockType::of_number(u32_at(order, bytes, 0))
     };
     Ok(Frame {
         order,
@@ -55,19 +52,19 @@ pub fn frame(section: Option<Order>, bytes: &[u8; 12]) -> Result<Frame, Fault>
     })
 }
 
-/// Reads the body of a block, or returns the first check that fails.
-fn body_of<'a>(frame: &Frame, body: &'a [u8]) -> Result<Block<'a>, Fault>
+/// Reads the body of a block, between its two total lengths, or returns the first check that fails.
+fn read_body<'a>(frame: &Frame, body: &'a [u8]) -> Result<Block<'a>, Fault>
     ensures parts { ChecksGive (body_checks frame.now.block_type frame.now.order body.now
         ++ option_checks (parts_in_body frame.now.block_type frame.now.order body.now)) result
         (λ block. parts_of block ≡ parts_in_body frame.now.block_type frame.now.order body.now) }
     ensures described { IfOk result IsDescribedIfAny }
 {
     match frame.block_type {
-        BlockType::Section => check_section(frame.order, body).map(|()| Block::Section),
-        BlockType::Interface => InterfaceBlock::of(frame.order, body).map(Block::Interface),
+        BlockType::Section => check_section_body(frame.order, body).map(|()| Block::Section),
+        BlockType::Interface => InterfaceBlock::of_body(frame.order, body).map(Block::Interface),
         BlockType::ObsoletePacket => Err(Fault::ObsoletePacketBlock),
-        BlockType::SimplePacket => SimpleBlock::of(frame.order, body).map(Block::Simple),
-        BlockType::EnhancedPacket => EnhancedBlock::of(frame.order, body).map(Block::Enhanced),
+        BlockType::SimplePacket => SimpleBlock::of_body(frame.order, body).map(Block::Simple),
+        BlockType::EnhancedPacket => EnhancedBlock::of_body(frame.order, body).map(Block::Enhanced),
         BlockType::Other => Ok(Block::Skipped),
     }
 }
@@ -82,7 +79,7 @@ fn body_of<'a>(frame: &Frame, body: &'a [u8]) -> Result<Block<'a>, Fault>
 /// - an option of an interface: as `Interface` lists them
 ///
 /// The caller makes the checks that need the interfaces of its section.
-pub fn block<'a>(frame: &Frame, bytes: &'a [u8]) -> Result<Block<'a>, Fault>
+pub fn read_block<'a>(frame: &Frame, bytes: &'a [u8]) -> Result<Block<'a>, Fault>
     ensures parts { IfOk result (λ block. parts_of block ≡ parts_in frame.now bytes.now) }
     ensures described { IfOk result IsDescribedIfAny }
     ensures passes { IfOk result (λ _. block_fault frame.now bytes.now ≡ None) }
@@ -95,9 +92,10 @@ pub fn block<'a>(frame: &Frame, bytes: &'a [u8]) -> Result<Block<'a>, Fault>
     if bytes.len() < size {
         return Err(Fault::Truncated);
     }
+    // 0 type, 4 total length, 8 body, and the total length again in the last four bytes.
     let end = size - 4;
     if u32_at(frame.order, bytes, end) != frame.length {
         return Err(Fault::BadBlockLength);
     }
-    body_of(frame, &bytes[8..end])
+    read_body(frame, &bytes[8..end])
 }

@@ -1,4 +1,4 @@
-//! The interfaces of a section.
+//! The table of a section's interfaces, each with a copy of its name.
 ghost use Rattle.std.specs.Prelude.{◌≡◌, ◌≤◌, ◌<◌, ◌↔◌, [], ◌∷◌, ◌++◌, length, IsTrue, OnOk};
 
 use crate::clock::Clock;
@@ -9,7 +9,7 @@ use std::alloc::{Allocator, Global};
 use std::marker::Model;
 
 /// The greatest number of interfaces in a section.
-pub(crate) const MOST_INTERFACES: usize = 256;
+pub const MOST_INTERFACES: usize = 256;
 
 /// An interface that holds its name.
 #[derive(Drop)]
@@ -37,6 +37,7 @@ impl Model for Entry {
 impl Entry {
     ghost use Rattle.cap_pcapng.specs.Interface.{description_of};
 
+    /// An interface with a copy of its name.
     fn new(interface: &Interface<'_>) -> Self
         ensures { result ≡ description_of interface.now }
     {
@@ -48,6 +49,7 @@ impl Entry {
         }
     }
 
+    /// The interface, with its name lent.
     fn interface(&self) -> Interface<'_>
         ensures { description_of result ≡ self.now }
     {
@@ -60,7 +62,7 @@ impl Entry {
     }
 }
 
-/// The interfaces of a section by their numbers, at most 256. Contracts see a list.
+/// The interfaces of a section by their numbers. Contracts see a list.
 #[derive(Drop)]
 pub struct Table<A: Allocator = Global> {
     entries: Vec<Entry, A>,
@@ -80,7 +82,7 @@ impl<A: Allocator> Model for Table<A> {
 impl<A: Allocator> Table<A> {
     ghost use Rattle.std.specs.Prelude.{IfErr, OnErr, slice_get};
     ghost use Rattle.std.specs.Option.{option_map};
-    ghost use Rattle.cap_pcapng.specs.Interface.{FitSection, description_of};
+    ghost use Rattle.cap_pcapng.specs.Interface.{FitSection, description_of, most_interfaces};
 
     /// A table without interfaces. It takes no memory.
     pub fn new(alloc: A) -> Self
@@ -91,10 +93,10 @@ impl<A: Allocator> Table<A> {
         }
     }
 
-    /// Whether there are 256 interfaces.
+    /// Whether there are as many interfaces as a section may have.
     pub fn is_full(&self) -> bool
-        ensures full { IsTrue result ↔ (length self.now ≡ 256) }
-        ensures bounded { length self.now ≤ 256 }
+        ensures full { IsTrue result ↔ (length self.now ≡ most_interfaces) }
+        ensures bounded { length self.now ≤ most_interfaces }
     {
         self.entries.len() == MOST_INTERFACES
     }
@@ -106,14 +108,15 @@ impl<A: Allocator> Table<A> {
         self.entries.clear();
     }
 
-    /// Gives an interface the next number. A full table is fault 11, and a growth that is refused
-    /// fault 16; either leaves the table unchanged.
+    /// Gives an interface the next number. `TooManyInterfaces` where there are 256 already,
+    /// `NoMemory` where an allocation fails; either leaves the table unchanged.
     pub fn push(&mut self, interface: &Interface<'_>) -> Result<(), Fault>
         ensures pushed { OnOk result (self.new ≡ self.old ++ description_of interface.now ∷ []) }
         ensures kept { OnErr result (self.new ≡ self.old) }
         ensures section { FitSection self.new }
-        ensures full { (result ≡ Err Fault.TooManyInterfaces) ↔ (length self.old ≡ 256) }
-        ensures no_memory { IfErr result (λ fault. length self.old < 256 → fault ≡ Fault.NoMemory) }
+        ensures full { (result ≡ Err Fault.TooManyInterfaces) ↔ (length self.old ≡ most_interfaces) }
+        ensures no_memory { IfErr result (λ fault. length self.old < most_interfaces
+            → fault ≡ Fault.NoMemory) }
     {
         if self.is_full() {
             return Err(Fault::TooManyInterfaces);

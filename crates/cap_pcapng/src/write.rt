@@ -1,4 +1,12 @@
-//! Blocks as they are written, all of them little-endian.
+//! Blocks as they are written, all of them little-endian:
+//!
+//! ```text
+//! packet     28 header | data, padding | [comment: 4 header, text, padding; 4 end] | 4 length
+//! interface  16 header | [name: 4 header, text, padding] | 8 resolution | 4 end     | 4 length
+//! ```
+//!
+//! What stands between two texts that are lent is one part, which begins with three bytes of
+//! padding; of these the first ones are left out where the text before needs fewer.
 ghost use Rattle.std.specs.Prelude.{◌≡◌, ◌+◌, ◌<◌, ◌^◌, ◌++◌, length, replicate, None};
 ghost use Rattle.byteorder.specs.Endian.{little_bytes};
 ghost use Rattle.cap_octet.specs.Checks.{checked, first_failing};
@@ -10,12 +18,19 @@ ghost use Rattle.cap_pcapng.specs.Encoding.{interface_header};
 ghost use Rattle.cap_pcapng.specs.Encoding.{interface_text, packet_header, packet_block};
 ghost use Rattle.cap_pcapng.specs.Encoding.{resolution_text, section_text};
 
-use crate::frames::MOST_BLOCK;
-use crate::options::padded_length;
+use crate::frames::{
+    BYTE_ORDER_MAGIC, ENHANCED_PACKET_TYPE, INTERFACE_TYPE, MOST_BLOCK, SECTION_TYPE,
+};
+use crate::interface::{NAME_CODE, RESOLUTION_CODE};
+use crate::options::{COMMENT_CODE, padded_length};
 use byteorder::{ByteOrder, LittleEndian};
 use cap_octet::{Fault, Output, Packet, Stopped, write_all_parts};
 
-/// How many bytes a comment takes in its block: its option, and the end of the options.
+/// The resolution of an interface whose ticks are nanoseconds: a negative power of ten.
+const NANOSECONDS: u8 = 9;
+
+/// How many bytes a comment takes in its block: its option with 4 bytes of header, and the 4 bytes
+/// that end the options; 0 without a comment.
 fn comment_size(comment: &[u8]) -> u64
     ensures { result ≡ length (comment_text comment.now) }
 {
@@ -25,8 +40,9 @@ fn comment_size(comment: &[u8]) -> u64
     8 + padded_length(comment.len() as u64)
 }
 
-/// Whether a packet's block has at most 1,048,576 bytes, else fault 4.
-pub fn fits(packet: &Packet<'_>) -> Result<(), Fault>
+/// Checks that a packet's block has at most 1,048,576 bytes, or returns `TooLong`. Beside data and
+/// comment it has 32 bytes: the header, and the total length at its end.
+pub fn check_block_fits(packet: &Packet<'_>) -> Result<(), Fault>
     ensures { result ≡ checked (first_failing (block_fit_checks (captured packet.now))) tt }
 {
     let data = padded_length(packet.bytes.len() as u64);
@@ -41,9 +57,9 @@ pub fn section_bytes() -> [u8; 28]
     ensures { result ≡ section_text }
 {
     let mut bytes = [0xff; 28];
-    LittleEndian::write_u32(&mut bytes, 0x0a0d_0d0a);
+    LittleEndian::write_u32(&mut bytes, SECTION_TYPE);
     LittleEndian::write_u32(&mut bytes[4..], 28);
-    LittleEndian::write_u32(&mut bytes[8..], 0x1a2b_3c4d);
+    LittleEndian::write_u32(&mut bytes[8..], BYTE_ORDER_MAGIC);
     LittleEndian::write_u16(&mut bytes[12..], 1);
     LittleEndian::write_u16(&mut bytes[14..], 0);
     LittleEndian::write_u32(&mut bytes[24..], 28);
@@ -58,13 +74,14 @@ pub fn padding_after(length: usize) -> usize
     (4 - length % 4) % 4
 }
 
-/// A packet block's type, total length, interface, time, captured length and original length.
+/// The header of an enhanced packet block of `size` bytes: type, total length, interface, time in
+/// two halves, captured length and original length.
 pub fn packet_header(size: u32, number: u32, packet: &Packet<'_>) -> [u8; 28]
     requires { length packet.now.bytes.now < 2 ^ 32 }
     ensures { result ≡ packet_header size number (captured packet.now) }
 {
     let mut bytes = [0; 28];
-    LittleEndian::write_u32(&mut bytes, 6);
+    LittleEndian::write_u32(&mut bytes, ENHANCED_PACKET_TYPE);
     LittleEndian::write_u32(&mut bytes[4..], size);
     LittleEndian::write_u32(&mut bytes[8..], number);
     LittleEndian::write_u32(&mut bytes[12..], (packet.time / 4_294_967_296) as u32);
@@ -74,7 +91,7 @@ pub fn packet_header(size: u32, number: u32, packet: &Packet<'_>) -> [u8; 28]
     bytes
 }
 
-/// An option's code and length, after three bytes of padding.
+/// An option's code and the length of its value, after three bytes of padding of what is before it.
 pub fn option_header(code: u16, value: &[u8]) -> [u8; 7]
     requires { length value.now < 2 ^ 16 }
     ensures { result ≡ replicate 3 0 ++ (little_bytes 2 code ++ little_bytes 2 (length value.now)) }
@@ -85,7 +102,8 @@ pub fn option_header(code: u16, value: &[u8]) -> [u8; 7]
     bytes
 }
 
-/// A packet block's total length, after seven zeros: three of padding, and the end of the options.
+/// The end of an enhanced packet block of `size` bytes: its total length, after seven zeros, three
+/// of padding and four that end the options. A block without options leaves those four out.
 pub fn packet_end(size: u32) -> [u8; 11]
     ensures { result ≡ replicate 7 0 ++ little_bytes 4 size }
 {
@@ -94,8 +112,8 @@ pub fn packet_end(size: u32) -> [u8; 11]
     bytes
 }
 
-/// Writes a packet that `fits`, whose interface has this number, as an enhanced packet block, or
-/// reports how many bytes of it, fewer than all, were written before the device failed.
+/// Writes a packet that `check_block_fits`, whose interface has this number, as an enhanced packet
+/// block, or reports how many bytes of it, fewer than all, were written before the device failed.
 pub fn write_packet<O: Output>(
     number: u32,
     packet: &Packet<'_>,
@@ -113,8 +131,9 @@ pub fn write_packet<O: Output>(
         return write_all_parts(output, &[&head, packet.bytes, &end[7 - padding..]]);
     }
     let comment = packet.comment;
-    let option = option_header(1, comment);
+    let option = option_header(COMMENT_CODE, comment);
     let option = &option[3 - padding..];
+    // The comment's padding, and the four that end the options.
     let zeros = padding_after(comment.len()) + 4;
     let size = (32 + packet.bytes.len() + option.len() + comment.len() + zeros) as u32;
     let head = packet_header(size, number, packet);
@@ -123,27 +142,28 @@ pub fn write_packet<O: Output>(
     write_all_parts(output, &parts)
 }
 
-/// An interface block's type, total length, link type and snap length.
+/// The header of an interface description block of `size` bytes: type, total length, link type and
+/// snap length.
 pub fn interface_header(size: u32, packet: &Packet<'_>) -> [u8; 16]
     ensures { result ≡ interface_header size packet.now.link packet.now.snap }
 {
     let mut bytes = [0; 16];
-    LittleEndian::write_u32(&mut bytes, 1);
+    LittleEndian::write_u32(&mut bytes, INTERFACE_TYPE);
     LittleEndian::write_u32(&mut bytes[4..], size);
     LittleEndian::write_u16(&mut bytes[8..], packet.link);
     LittleEndian::write_u32(&mut bytes[12..], packet.snap);
     bytes
 }
 
-/// What is after an interface's name: three bytes of padding, the resolution of nanoseconds, the
-/// end of the options, the total length.
+/// What is after an interface's name in a block of `size` bytes: three bytes of padding, the
+/// resolution of nanoseconds, the end of the options, the total length.
 pub fn interface_end(size: u32) -> [u8; 19]
     ensures { result ≡ replicate 3 0 ++ (resolution_text ++ end_text ++ little_bytes 4 size) }
 {
     let mut bytes = [0; 19];
-    LittleEndian::write_u16(&mut bytes[3..], 9);
+    LittleEndian::write_u16(&mut bytes[3..], RESOLUTION_CODE);
     LittleEndian::write_u16(&mut bytes[5..], 1);
-    bytes[7] = 9;
+    bytes[7] = NANOSECONDS;
     LittleEndian::write_u32(&mut bytes[15..], size);
     bytes
 }
@@ -156,7 +176,8 @@ pub fn write_interface<O: Output>(packet: &Packet<'_>, output: &mut O) -> Result
 {
     let name = packet.name;
     let padding = padding_after(name.len());
-    let option = option_header(2, name);
+    let option = option_header(NAME_CODE, name);
+    // The header has no data to pad; and where there is no name, its option's header goes too.
     let start = if name.is_empty() { 7 } else { 3 };
     let option = &option[start..];
     let size = (32 + option.len() + name.len() + padding) as u32;

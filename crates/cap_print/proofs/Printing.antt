@@ -6,7 +6,7 @@ use Rattle.cap_octet.specs.Device.{AppendsOrStops, Stops, WritesAll}
 use Rattle.cap_octet.specs.Packet.{Captured}
 use Rattle.cap_octet.specs.declared.device.Stopped.{Stopped}
 use Rattle.cap_octet.proofs.Writing.{stops-part}
-use Rattle.cap_print.specs.Dump.{payload, rows}
+use Rattle.cap_print.specs.Dump.{link_payload, rows}
 use Rattle.cap_print.specs.Line.{line}
 use Rattle.cap_print.specs.Rendering.{printed_text}
 use Rattle.cap_print.specs.declared.print.Options.{Options}
@@ -16,7 +16,7 @@ unfolding printed_text
 printed-alone options p none = rw (none, append-nil (line options.link p)) refl
 
 pub printed-with_rows : (options : Options) (p : Captured) → options.bytes ≡ true
-    → printed_text options p ≡ line options.link p ++ rows (payload p.link p.bytes)
+    → printed_text options p ≡ line options.link p ++ rows (link_payload p.link p.bytes)
 unfolding printed_text
 printed-with_rows options p some = rw some refl
 

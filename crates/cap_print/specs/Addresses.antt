@@ -5,8 +5,8 @@ use Rattle.cap_octet.specs.declared.number.Order.TheVariants.{Big}
 use Rattle.cap_print.specs.Hexadecimal.{hex_two, hex_group}
 
 -- the number in the two bytes from a place, the high byte first
-abbrev pub u16_of : List ℕ → ℕ → ℕ
-u16_of p at = u16_in Big p at
+abbrev pub network_u16 : List ℕ → ℕ → ℕ
+network_u16 p at = u16_in Big p at
 
 -- the IPv4 address in the four bytes from a place: four decimal numbers
 unfoldable pub ipv4_text : List ℕ → ℕ → List ℕ
@@ -18,7 +18,7 @@ ipv4_text p at =
 
 -- two groups of an IPv6 address, in the four bytes from a place
 unfoldable pub two_groups : List ℕ → ℕ → List ℕ
-two_groups p at = hex_group (u16_of p at) ++ 58 ∷ hex_group (u16_of p (at + 2))
+two_groups p at = hex_group (network_u16 p at) ++ 58 ∷ hex_group (network_u16 p (at + 2))
 
 -- four groups, in the eight bytes from a place
 unfoldable pub four_groups : List ℕ → ℕ → List ℕ

@@ -4,8 +4,8 @@ use Rattle.cap_octet.specs.NetworkHeader.{link_header_length}
 use Rattle.cap_print.specs.Hexadecimal.{hex_two, hex_place}
 
 -- the captured bytes after the link header
-abbrev pub payload : ℕ → List ℕ → List ℕ
-payload link p = drop (link_header_length link) p
+abbrev pub link_payload : ℕ → List ℕ → List ℕ
+link_payload link p = drop (link_header_length link) p
 
 -- a blank and four digits for each two bytes; a last single byte has two digits
 abbrev pub pairs : List ℕ → List ℕ

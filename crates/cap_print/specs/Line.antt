@@ -6,13 +6,13 @@ use Rattle.cap_octet.specs.Link.{link_name, link_of, network_offset, type_offset
 use Rattle.cap_octet.specs.declared.link.Link.{Link}
 use Rattle.cap_octet.specs.declared.link.Link.TheVariants.{Ether}
 use Rattle.cap_octet.specs.Packet.{Captured}
-use Rattle.cap_print.specs.Addresses.{u16_of, mac_text}
+use Rattle.cap_print.specs.Addresses.{network_u16, mac_text}
 use Rattle.cap_print.specs.Hexadecimal.{hex_four}
 use Rattle.cap_print.specs.Network.{network_part}
 
--- the type of the network header
-unfoldable pub type_text : ℕ → List ℕ
-type_text type = codes ", type 0x" ++ (hex_four type ++ codes ", ")
+-- an EtherType
+unfoldable pub ethertype_text : ℕ → List ℕ
+ethertype_text type = codes ", type 0x" ++ (hex_four type ++ codes ", ")
 
 -- what names the link: of Ethernet the source and the destination
 unfoldable pub link_text : Link → List ℕ → List ℕ
@@ -24,7 +24,7 @@ unfoldable pub link_header : Link → Option ℕ → List ℕ → List ℕ
 link_header link None p = link_name link ++ codes ", "
 link_header link (Some at) p =
     if nat_lt (length p) (network_offset link) then link_name link ++ codes " [short], "
-    else link_text link p ++ type_text (u16_of p at)
+    else link_text link p ++ ethertype_text (network_u16 p at)
 
 -- of the link header of a link type, if that is known
 unfoldable pub link_part : ℕ → List ℕ → List ℕ

@@ -7,21 +7,21 @@ use Rattle.cap_octet.specs.NetworkHeader.{link_header_length, network_header}
 use Rattle.cap_octet.specs.declared.network.NetworkHeader.{NetworkHeader}
 use Rattle.cap_octet.specs.declared.network.NetworkHeader.TheVariants.{Known, OtherType, OtherVersion, OtherLink, Short}
 use Rattle.cap_octet.specs.declared.network.NetworkKind.TheVariants.{Ipv4, Ipv6, Arp, Rarp}
-use Rattle.cap_print.specs.Addresses.{u16_of, ipv4_text, ipv6_text, port_text}
+use Rattle.cap_print.specs.Addresses.{network_u16, ipv4_text, ipv6_text, port_text}
 use Rattle.cap_print.specs.Hexadecimal.{hex_four}
 use Rattle.cap_print.specs.declared.network.Ip.{Ip}
 use Rattle.cap_print.specs.declared.network.Ip.TheVariants.{V4, V6}
-use Rattle.cap_print.specs.declared.network.Layout.{Layout}
+use Rattle.cap_print.specs.declared.network.IpLayout.{IpLayout}
 
 -- where a header of IP has its protocol and its two addresses, and how long they are (RFC 791,
 -- section 3.1; RFC 8200, section 3)
-abbrev pub layout_of : Ip → Layout
+abbrev pub layout_of : Ip → IpLayout
 layout_of V4 = record { protocol = 9; addresses = 12; address_length = 4 }
 layout_of V6 = record { protocol = 6; addresses = 8; address_length = 16 }
 
 -- where its addresses end
-abbrev pub least_end : Ip → ℕ → ℕ
-least_end ip l = l + (layout_of ip).addresses + 2 * (layout_of ip).address_length
+abbrev pub addresses_end : Ip → ℕ → ℕ
+addresses_end ip l = l + (layout_of ip).addresses + 2 * (layout_of ip).address_length
 
 abbrev pub ip_name : Ip → List ℕ
 ip_name V4 = codes "IP"
@@ -53,8 +53,8 @@ abbrev pub address_with_port : Ip → List ℕ → ℕ → Option ℕ → List �
 address_with_port ip p at port = address_text ip p at ++ port_text port
 
 -- `IP A > B: ` or `IP6 A > B: `, each address with its port, where there are ports
-unfoldable pub ip_ends : Ip → ℕ → List ℕ → Option (ℕ × ℕ) → List ℕ
-ip_ends ip l p ports =
+unfoldable pub ip_endpoints : Ip → ℕ → List ℕ → Option (ℕ × ℕ) → List ℕ
+ip_endpoints ip l p ports =
     ip_name ip
     ++ (32 ∷
     (address_with_port ip p (l + (layout_of ip).addresses) (option_map (λ both. both.0) ports)
@@ -64,13 +64,13 @@ ip_ends ip l p ports =
 
 -- a later fragment of IPv4: its offset isn't 0
 abbrev pub is_later_fragment : Ip → ℕ → List ℕ → Bool
-is_later_fragment V4 l p = not (u16_of p (l + 6) % 8192 == 0)
+is_later_fragment V4 l p = not (network_u16 p (l + 6) % 8192 == 0)
 is_later_fragment V6 l p = false
 
 -- where the header ends: that of IPv4 says so, that of IPv6 has 40 bytes
 abbrev pub header_end : Ip → ℕ → List ℕ → ℕ
 header_end V4 l p = 4 * (slice_index p l % 16) + l
-header_end V6 l p = least_end V6 l
+header_end V6 l p = addresses_end V6 l
 
 -- TCP and UDP, whose headers begin with the two ports
 abbrev pub has_ports : ℕ → Bool
@@ -80,14 +80,14 @@ has_ports n = (n == IPPROTO_TCP) || (n == IPPROTO_UDP)
 abbrev pub ports_at : ℕ → ℕ → List ℕ → Option (ℕ × ℕ)
 ports_at n at p =
     if has_ports n
-    && nat_le (at + 4) (length p) then Some (u16_of p at, u16_of p (at + 2)) else None
+    && nat_le (at + 4) (length p) then Some (network_u16 p at, network_u16 p (at + 2)) else None
 
 -- of the header of IP
 unfoldable pub ip_part : Ip → ℕ → List ℕ → List ℕ
 ip_part ip l p =
-    if nat_lt (length p) (least_end ip l) then ip_name ip ++ codes " [short]"
-    else if is_later_fragment ip l p then ip_ends ip l p None ++ codes "fragment"
-    else ip_ends ip l p
+    if nat_lt (length p) (addresses_end ip l) then ip_name ip ++ codes " [short]"
+    else if is_later_fragment ip l p then ip_endpoints ip l p None ++ codes "fragment"
+    else ip_endpoints ip l p
     (ports_at (slice_index p (l + (layout_of ip).protocol)) (header_end ip l p) p)
     ++ protocol_text ip (slice_index p (l + (layout_of ip).protocol))
 
@@ -96,7 +96,7 @@ unfoldable pub arp_part : ℕ → List ℕ → List ℕ
 arp_part l p =
     if nat_lt (length p) (l + 28) then codes " [short]"
     else codes " op "
-    ++ (decimal (u16_of p (l + 6))
+    ++ (decimal (network_u16 p (l + 6))
     ++ (codes " " ++ (ipv4_text p (l + 14) ++ (codes " > " ++ ipv4_text p (l + 24)))))
 
 -- of this header

@@ -1,22 +1,22 @@
-//! Addresses and ports.
+//! Addresses and ports of the bytes of a packet, appended to a line.
 ghost use Rattle.std.specs.Prelude.{◌≡◌, ◌+◌, ◌≤◌, ◌<◌, ◌++◌, length};
 ghost use Rattle.cap_print.specs.Addresses.{four_groups, ipv4_text, ipv6_text, mac_text, port_text};
-ghost use Rattle.cap_print.specs.Addresses.{three_bytes, two_groups, u16_of};
+ghost use Rattle.cap_print.specs.Addresses.{three_bytes, two_groups, network_u16};
 
 use crate::hexadecimal::{push_hex_group, push_hex_two};
 use crate::text::Text;
 use cap_octet::{Order, u16_at};
 
-/// The number in the two bytes from place `at`, the high byte first, as in network headers.
+/// The number in the two bytes from place `at`, in network byte order: the high byte first.
 #[inline]
-pub fn u16_of(bytes: &[u8], at: usize) -> u16
+pub fn network_u16(bytes: &[u8], at: usize) -> u16
     requires { at + 2 ≤ length bytes.now }
-    ensures { result ≡ u16_of bytes.now at }
+    ensures { result ≡ network_u16 bytes.now at }
 {
     u16_at(Order::Big, bytes, at)
 }
 
-/// Appends the IPv4 address in the four bytes from place `at`.
+/// Appends the IPv4 address in the four bytes from place `at`, as `10.0.0.5`.
 #[inline(always)]
 #[tactic(auto, unfolding(crate::specs::Addresses::ipv4_text))]
 pub fn push_ipv4(text: &mut Text, bytes: &[u8], at: usize)
@@ -34,7 +34,7 @@ pub fn push_ipv4(text: &mut Text, bytes: &[u8], at: usize)
     text.push_decimal(bytes[at + 3] as u32);
 }
 
-/// Appends two groups of an IPv6 address, in the four bytes from place `at`.
+/// Appends two groups of an IPv6 address, in the four bytes from place `at`, as `2001:db8`.
 #[tactic(auto, unfolding(crate::specs::Addresses::two_groups))]
 fn push_two_groups(text: &mut Text, bytes: &[u8], at: usize)
     requires room { length text.old + 9 ≤ 256 }
@@ -42,9 +42,9 @@ fn push_two_groups(text: &mut Text, bytes: &[u8], at: usize)
     ensures value { text.new ≡ text.old ++ two_groups bytes.now at }
     ensures bound { length text.new ≤ length text.old + 9 }
 {
-    push_hex_group(text, u16_of(bytes, at));
+    push_hex_group(text, network_u16(bytes, at));
     text.push(b':');
-    push_hex_group(text, u16_of(bytes, at + 2));
+    push_hex_group(text, network_u16(bytes, at + 2));
 }
 
 /// Appends four groups of an IPv6 address, in the eight bytes from place `at`.
@@ -60,7 +60,8 @@ fn push_four_groups(text: &mut Text, bytes: &[u8], at: usize)
     push_two_groups(text, bytes, at + 4);
 }
 
-/// Appends the IPv6 address in the sixteen bytes from place `at`.
+/// Appends the IPv6 address in the sixteen bytes from place `at`: all eight groups, never
+/// shortened.
 #[tactic(auto, unfolding(crate::specs::Addresses::ipv6_text))]
 pub fn push_ipv6(text: &mut Text, bytes: &[u8], at: usize)
     requires room { length text.old + 39 ≤ 256 }
@@ -73,7 +74,7 @@ pub fn push_ipv6(text: &mut Text, bytes: &[u8], at: usize)
     push_four_groups(text, bytes, at + 8);
 }
 
-/// Appends a point and a port, if there is one.
+/// Appends a port after an address, as `.80`, if there is one.
 pub fn push_port(text: &mut Text, port: Option<u16>)
     requires { length text.old + 11 ≤ 256 }
     ensures value { text.new ≡ text.old ++ port_text port }
@@ -85,7 +86,7 @@ pub fn push_port(text: &mut Text, port: Option<u16>)
     }
 }
 
-/// Appends three bytes of an Ethernet address, from place `at`.
+/// Appends three bytes of an Ethernet address, from place `at`, as `02:00:5e`.
 #[tactic(auto, unfolding(crate::specs::Addresses::three_bytes))]
 fn push_three_bytes(text: &mut Text, bytes: &[u8], at: usize)
     requires room { length text.old + 8 ≤ 256 }

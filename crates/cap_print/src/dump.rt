@@ -1,6 +1,6 @@
-//! The bytes of a packet in hexadecimal, 16 a row.
+//! The bytes of a packet in hexadecimal, 16 a row, after `tcpdump -x`.
 ghost use Rattle.std.specs.Prelude.{◌≡◌, ◌+◌, ◌*◌, ◌≤◌, ◌<◌, ◌++◌, length};
-ghost use Rattle.cap_print.specs.Dump.{pairs, payload, row, row_count};
+ghost use Rattle.cap_print.specs.Dump.{pairs, link_payload, row, row_count};
 
 use crate::hexadecimal::{push_hex_place, push_hex_two};
 use crate::text::Text;
@@ -9,9 +9,9 @@ use cap_octet::link_header_length;
 /// How many bytes a row has.
 const ROW_BYTES: usize = 16;
 
-/// The captured bytes after the link header.
-pub fn payload(link: u16, bytes: &[u8]) -> &[u8]
-    ensures { result.now ≡ payload link bytes.now }
+/// The captured bytes after the link header; none where they end inside it.
+pub fn link_payload(link: u16, bytes: &[u8]) -> &[u8]
+    ensures { result.now ≡ link_payload link bytes.now }
 {
     let start = link_header_length(link).min(bytes.len());
     &bytes[start..]
@@ -44,7 +44,8 @@ fn push_pairs(text: &mut Text, bytes: &[u8])
     }
 }
 
-/// Replaces the bytes of the buffer by the row after `index` others, which ends with a line feed.
+/// Replaces the bytes of the buffer by the row after `index` others: a tab, the place of its first
+/// byte as `0x0010:`, its bytes, and a line feed.
 #[tactic(auto, unfolding(crate::specs::Dump::row))]
 pub fn write_row(text: &mut Text, bytes: &[u8], index: usize)
     requires { 16 * index < length bytes.now }

@@ -5,8 +5,10 @@ ghost use Rattle.cap_print.specs.Hexadecimal.{hex_group, hex_place, without_zero
 
 use crate::text::Text;
 
+/// The digits, in ASCII.
 static DIGITS: [u8; 16] = *b"0123456789abcdef";
 
+/// The digit of a number below 16, in ASCII.
 #[inline]
 fn hex_digit(digit: u16) -> u8
     requires { digit < 16 }
@@ -15,7 +17,7 @@ fn hex_digit(digit: u16) -> u8
     DIGITS[digit as usize]
 }
 
-/// The four digits.
+/// The four digits of a number of 16 bits.
 #[inline]
 #[tactic(auto, unfolding(crate::specs::Hexadecimal::hex_four))]
 fn hex_four(number: u16) -> [u8; 4]
@@ -29,7 +31,7 @@ fn hex_four(number: u16) -> [u8; 4]
     ]
 }
 
-/// The eight digits.
+/// The eight digits of a number of 32 bits.
 #[tactic(auto, unfolding(crate::specs::Hexadecimal::hex_eight, crate::specs::Hexadecimal::hex_four))]
 fn hex_eight(number: u32) -> [u8; 8]
     ensures { result ≡ hex_eight number }
@@ -39,7 +41,7 @@ fn hex_eight(number: u32) -> [u8; 8]
     [a, b, c, d, e, f, g, h]
 }
 
-/// The sixteen digits.
+/// The sixteen digits of a number of 64 bits.
 fn hex_sixteen(number: u64) -> [u8; 16]
     ensures { result ≡ hex_sixteen number }
 {
@@ -50,7 +52,7 @@ fn hex_sixteen(number: u64) -> [u8; 16]
     [a, b, c, d, e, f, g, h, i, j, k, l, m, n, o, p]
 }
 
-/// How many of the first `most` digits are zeros before another digit.
+/// How many zeros, at most `most`, digits begin with.
 fn leading_zeros(digits: &[u8], most: usize) -> usize
     requires { most ≤ length digits.now }
     ensures value { drop result digits.now ≡ without_zeros most digits.now }
@@ -75,7 +77,7 @@ pub fn push_hex_two(text: &mut Text, number: u8)
     text.push_all(&[hex_digit(number / 16), hex_digit(number % 16)]);
 }
 
-/// Appends all four digits.
+/// Appends the four digits of a number of 16 bits.
 pub fn push_hex_four(text: &mut Text, number: u16)
     requires { length text.old + 4 ≤ 256 }
     ensures value { text.new ≡ text.old ++ hex_four number }
@@ -84,7 +86,7 @@ pub fn push_hex_four(text: &mut Text, number: u16)
     text.push_all(&hex_four(number));
 }
 
-/// Appends the digits without leading zeros.
+/// Appends the digits of a number of 16 bits without leading zeros, as a group of an IPv6 address.
 #[tactic(auto, unfolding(crate::specs::Hexadecimal::hex_group))]
 pub fn push_hex_group(text: &mut Text, number: u16)
     requires { length text.old + 4 ≤ 256 }
@@ -100,13 +102,14 @@ pub fn push_hex_group(text: &mut Text, number: u16)
     }
 }
 
-/// Appends a place among bytes, with at least four digits.
+/// Appends a place among bytes: its digits without leading zeros, but four at least.
 #[tactic(auto, unfolding(crate::specs::Hexadecimal::hex_place))]
 pub fn push_hex_place(text: &mut Text, place: u64)
     requires { length text.old + 16 ≤ 256 }
     ensures value { text.new ≡ text.old ++ hex_place place }
     ensures bound { length text.new ≤ length text.old + 16 }
 {
+    // Of the sixteen digits twelve may be left out.
     let digits = hex_sixteen(place);
     let start = leading_zeros(&digits, 12);
     text.push_all(&digits[start..]);

@@ -1,4 +1,4 @@
-//! The date of the last second.
+//! The date of the second that was printed last, so that it isn't made anew for each packet.
 use cap_octet::date::second_bytes;
 use std::marker::Model;
 
@@ -25,6 +25,7 @@ impl LastSecond {
     ghost use Rattle.std.specs.Prelude.{◌≡◌, ◌^◌, ◌<◌};
     ghost use Rattle.cap_octet.specs.Date.{second_text};
 
+    /// A second since 1970-01-01 00:00:00 UTC, and its date.
     pub fn new(second: u64) -> Self
         requires { second < 2 ^ 34 }
         ensures { result ≡ second }
@@ -35,7 +36,8 @@ impl LastSecond {
         }
     }
 
-    /// The date of a second since 1970-01-01 00:00:00 UTC, and a point.
+    /// The date of a second since 1970-01-01 00:00:00 UTC up to its point, `YYYY-MM-DD hh:mm:ss.`;
+    /// the second is kept.
     #[inline]
     pub fn date_of(&mut self, second: u64) -> [u8; 20]
         requires { second < 2 ^ 34 }

@@ -1,20 +1,20 @@
-//! The line of a packet.
+//! The line of a packet, as docs/LINES.md has it, and what it says of the link header.
 ghost use Rattle.std.specs.Prelude.{◌≡◌, ◌+◌, ◌≤◌, ◌<◌, ◌++◌, IfSome, length};
 ghost use Rattle.cap_octet.specs.Link.{network_offset};
 ghost use Rattle.cap_octet.specs.Packet.{captured};
-ghost use Rattle.cap_print.specs.Line.{link_header, line, link_part, link_text, type_text};
+ghost use Rattle.cap_print.specs.Line.{link_header, line, link_part, link_text, ethertype_text};
 
-use crate::address::{push_mac, u16_of};
+use crate::address::{network_u16, push_mac};
 use crate::hexadecimal::push_hex_four;
 use crate::network::push_network_part;
 use crate::text::Text;
 use cap_octet::{Link, Packet};
 
-/// Appends the type of the network header.
-#[tactic(auto, unfolding(crate::specs::Line::type_text))]
-fn push_type(text: &mut Text, kind: u16)
+/// Appends an EtherType, as `, type 0x0800, `.
+#[tactic(auto, unfolding(crate::specs::Line::ethertype_text))]
+fn push_ethertype(text: &mut Text, kind: u16)
     requires { length text.old + 15 ≤ 256 }
-    ensures value { text.new ≡ text.old ++ type_text kind }
+    ensures value { text.new ≡ text.old ++ ethertype_text kind }
     ensures bound { length text.new ≡ length text.old + 15 }
 {
     text.push_all(b", type 0x");
@@ -22,7 +22,8 @@ fn push_type(text: &mut Text, kind: u16)
     text.push_all(b", ");
 }
 
-/// Appends what names the link: of Ethernet the source and the destination.
+/// Appends what names the link before its EtherType: of Ethernet the source, in the header's bytes
+/// 6 to 11, and the destination, in its bytes 0 to 5.
 #[tactic(auto, unfolding(crate::specs::Line::link_text))]
 fn push_link_text(text: &mut Text, link: Link, bytes: &[u8])
     requires room { length text.old + 37 ≤ 256 }
@@ -40,7 +41,8 @@ fn push_link_text(text: &mut Text, link: Link, bytes: &[u8])
     }
 }
 
-/// Appends what is said of the link header, whose type stands at a place, if it has one.
+/// Appends what is said of the header of a link that is known, whose EtherType is at a place, if it
+/// has one.
 #[tactic(auto, unfolding(crate::specs::Line::link_header))]
 fn push_link_header(text: &mut Text, link: Link, type_offset: Option<usize>, bytes: &[u8])
     requires room { length text.old + 60 ≤ 256 }
@@ -59,12 +61,12 @@ fn push_link_header(text: &mut Text, link: Link, type_offset: Option<usize>, byt
         }
         Some(at) => {
             push_link_text(text, link, bytes);
-            push_type(text, u16_of(bytes, at));
+            push_ethertype(text, network_u16(bytes, at));
         }
     }
 }
 
-/// Appends what is said of the link header.
+/// Appends what is said of the link header of a link type, known or not.
 #[tactic(auto, unfolding(crate::specs::Line::link_part))]
 fn push_link_part(text: &mut Text, link: u16, bytes: &[u8])
     requires { length text.old + 60 ≤ 256 }

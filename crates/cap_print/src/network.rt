@@ -2,11 +2,11 @@
 ghost use Rattle.std.specs.Prelude.{◌≡◌, ◌+◌, ◌*◌, ◌≤◌, ◌<◌, ◌++◌, decimal, length};
 ghost use Rattle.cap_octet.specs.Link.{longest_header};
 ghost use Rattle.cap_print.specs.Network.{address_text, arp_part, address_with_port, has_ports};
-ghost use Rattle.cap_print.specs.Network.{header_end, header_part, ip_ends, ip_name, ip_part};
-ghost use Rattle.cap_print.specs.Network.{is_later_fragment, layout_of, least_end, network_part};
+ghost use Rattle.cap_print.specs.Network.{header_end, header_part, ip_endpoints, ip_name, ip_part};
+ghost use Rattle.cap_print.specs.Network.{is_later_fragment, layout_of, addresses_end, network_part};
 ghost use Rattle.cap_print.specs.Network.{ports_at, protocol_text};
 
-use crate::address::{push_ipv4, push_ipv6, push_port, u16_of};
+use crate::address::{network_u16, push_ipv4, push_ipv6, push_port};
 use crate::hexadecimal::push_hex_four;
 use crate::text::Text;
 use cap_octet::assigned::{IPPROTO_ICMP, IPPROTO_ICMPV6, IPPROTO_TCP, IPPROTO_UDP};
@@ -21,7 +21,8 @@ pub(crate) enum Ip {
 
 /// Where a header of IP has what a line says of it, in bytes from its start.
 #[derive(Clone, Copy)]
-pub(crate) struct Layout {
+pub(crate) struct IpLayout {
+    /// The number of the protocol after the header.
     protocol: usize,
     /// The source's address, which the destination's follows.
     addresses: usize,
@@ -29,16 +30,17 @@ pub(crate) struct Layout {
     address_length: usize,
 }
 
-fn layout_of(ip: Ip) -> Layout
+/// The places in a header of this version of IP (RFC 791, section 3.1; RFC 8200, section 3).
+fn layout_of(ip: Ip) -> IpLayout
     ensures { result ≡ layout_of ip }
 {
     match ip {
-        Ip::V4 => Layout {
+        Ip::V4 => IpLayout {
             protocol: 9,
             addresses: 12,
             address_length: 4,
         },
-        Ip::V6 => Layout {
+        Ip::V6 => IpLayout {
             protocol: 6,
             addresses: 8,
             address_length: 16,
@@ -46,16 +48,17 @@ fn layout_of(ip: Ip) -> Layout
     }
 }
 
-/// Where the addresses of the header at place `l` end, and the header if it has no options.
-fn least_end(ip: Ip, l: usize) -> usize
+/// Where the two addresses of the header at place `l` end, and the header too if it has no options.
+fn addresses_end(ip: Ip, l: usize) -> usize
     requires { l ≤ longest_header }
-    ensures { result ≡ least_end ip l }
+    ensures { result ≡ addresses_end ip l }
 {
     let header = layout_of(ip);
     l + header.addresses + 2 * header.address_length
 }
 
-fn push_name(text: &mut Text, ip: Ip)
+/// Appends what a line calls this version of IP.
+fn push_ip_name(text: &mut Text, ip: Ip)
     requires { length text.old + 3 ≤ 256 }
     ensures value { text.new ≡ text.old ++ ip_name ip }
     ensures bound { length text.new ≤ length text.old + 3 }
@@ -66,9 +69,9 @@ fn push_name(text: &mut Text, ip: Ip)
     }
 }
 
-/// Appends what a number is called, and the number.
+/// Appends what a number is called, and the number in decimal.
 #[inline(always)]
-fn push_named(text: &mut Text, name: &[u8], number: u32)
+fn push_name_and_number(text: &mut Text, name: &[u8], number: u32)
     requires { length text.old + length name.now + 10 ≤ 256 }
     ensures value { text.new ≡ text.old ++ (name.now ++ decimal number) }
     ensures bound { length text.new ≤ length text.old + length name.now + 10 }
@@ -77,6 +80,7 @@ fn push_named(text: &mut Text, name: &[u8], number: u32)
     text.push_decimal(number);
 }
 
+/// Appends the name of a protocol, or its number, as `proto 47`.
 #[inline(always)]
 #[tactic(auto, unfolding(crate::specs::Network::protocol_text))]
 fn push_protocol(text: &mut Text, ip: Ip, protocol: u8)
@@ -90,11 +94,12 @@ fn push_protocol(text: &mut Text, ip: Ip, protocol: u8)
         (Ip::V4, IPPROTO_ICMP) => text.push_all(b"ICMP"),
         (Ip::V6, IPPROTO_ICMPV6) => text.push_all(b"ICMP6"),
         _ => {
-            push_named(text, b"proto ", protocol as u32);
+            push_name_and_number(text, b"proto ", protocol as u32);
         }
     }
 }
 
+/// Appends the address of this version of IP at place `at`.
 #[inline(always)]
 fn push_address(text: &mut Text, ip: Ip, bytes: &[u8], at: usize)
     requires room { length text.old + 43 ≤ 256 }
@@ -108,9 +113,9 @@ fn push_address(text: &mut Text, ip: Ip, bytes: &[u8], at: usize)
     }
 }
 
-/// Appends the address at place `at`, and its port if there is one.
+/// Appends the address at place `at`, and its port if there is one, as `10.0.0.5.80`.
 #[inline(always)]
-fn push_end(text: &mut Text, ip: Ip, bytes: &[u8], at: usize, port: Option<u16>)
+fn push_address_with_port(text: &mut Text, ip: Ip, bytes: &[u8], at: usize, port: Option<u16>)
     requires room { length text.old + 54 ≤ 256 }
     requires there { at + (layout_of ip).address_length ≤ length bytes.now }
     ensures value { text.new ≡ text.old ++ address_with_port ip bytes.now at port }
@@ -123,11 +128,11 @@ fn push_end(text: &mut Text, ip: Ip, bytes: &[u8], at: usize, port: Option<u16>)
 /// Appends `IP A > B: ` or `IP6 A > B: ` of the header at place `l`, each address with its port if
 /// there are ports.
 #[inline(always)]
-#[tactic(auto, unfolding(crate::specs::Network::ip_ends))]
-fn push_ends(text: &mut Text, ip: Ip, bytes: &[u8], l: usize, ports: Option<(u16, u16)>)
+#[tactic(auto, unfolding(crate::specs::Network::ip_endpoints))]
+fn push_endpoints(text: &mut Text, ip: Ip, bytes: &[u8], l: usize, ports: Option<(u16, u16)>)
     requires room { length text.old + 117 ≤ 256 }
-    requires there { (l ≤ longest_header) × (least_end ip l ≤ length bytes.now) }
-    ensures value { text.new ≡ text.old ++ ip_ends ip l bytes.now ports }
+    requires there { (l ≤ longest_header) × (addresses_end ip l ≤ length bytes.now) }
+    ensures value { text.new ≡ text.old ++ ip_endpoints ip l bytes.now ports }
     ensures bound { length text.new ≤ length text.old + 117 }
 {
     let header = layout_of(ip);
@@ -136,11 +141,11 @@ fn push_ends(text: &mut Text, ip: Ip, bytes: &[u8], l: usize, ports: Option<(u16
         Some((from, to)) => (Some(from), Some(to)),
         None => (None, None),
     };
-    push_name(text, ip);
+    push_ip_name(text, ip);
     text.push(b' ');
-    push_end(text, ip, bytes, source, from);
+    push_address_with_port(text, ip, bytes, source, from);
     text.push_all(b" > ");
-    push_end(text, ip, bytes, source + header.address_length, to);
+    push_address_with_port(text, ip, bytes, source + header.address_length, to);
     text.push_all(b": ");
 }
 
@@ -148,26 +153,27 @@ fn push_ends(text: &mut Text, ip: Ip, bytes: &[u8], l: usize, ports: Option<(u16
 /// own, which isn't read.
 fn is_later_fragment(ip: Ip, bytes: &[u8], l: usize) -> bool
     requires place { l ≤ longest_header }
-    requires there { least_end ip l ≤ length bytes.now }
+    requires there { addresses_end ip l ≤ length bytes.now }
     ensures { result ≡ is_later_fragment ip l bytes.now }
 {
     match ip {
-        // The lower 13 bits are the fragment's offset.
-        Ip::V4 => u16_of(bytes, l + 6) % 8192 != 0,
+        // The lower 13 of the 16 bits from byte 6 on are the fragment's offset.
+        Ip::V4 => network_u16(bytes, l + 6) % 8192 != 0,
         Ip::V6 => false,
     }
 }
 
-/// Where the header at place `l` ends.
+/// Where the header at place `l` ends: one of IPv4 has four bytes for each unit of the lower half
+/// of its first byte.
 fn header_end(ip: Ip, bytes: &[u8], l: usize) -> usize
     requires place { l ≤ longest_header }
-    requires there { least_end ip l ≤ length bytes.now }
+    requires there { addresses_end ip l ≤ length bytes.now }
     ensures value { result ≡ header_end ip l bytes.now }
     ensures bound { result ≤ longest_header + 60 }
 {
     match ip {
         Ip::V4 => 4 * (bytes[l] as usize % 16) + l,
-        Ip::V6 => least_end(ip, l),
+        Ip::V6 => addresses_end(ip, l),
     }
 }
 
@@ -178,19 +184,20 @@ fn has_ports(protocol: u8) -> bool
     protocol == IPPROTO_TCP || protocol == IPPROTO_UDP
 }
 
-/// The two ports from a place, if a header of the protocol is there and they are captured.
+/// The source's and the destination's port, in the four bytes from a place, if the protocol has
+/// ports and they are captured.
 fn ports_at(protocol: u8, bytes: &[u8], at: usize) -> Option<(u16, u16)>
     requires { at ≤ longest_header + 60 }
     ensures { result ≡ ports_at protocol at bytes.now }
 {
     if has_ports(protocol) && at + 4 <= bytes.len() {
-        Some((u16_of(bytes, at), u16_of(bytes, at + 2)))
+        Some((network_u16(bytes, at), network_u16(bytes, at + 2)))
     } else {
         None
     }
 }
 
-/// Appends what is said of the header of IP at place `l`.
+/// Appends what is said of the header of IP at place `l`: `IP A > B: ` with the protocol.
 // Inlined with what it calls, so that the version is a constant in each copy.
 #[inline(always)]
 #[tactic(auto, unfolding(crate::specs::Network::ip_part))]
@@ -200,23 +207,24 @@ fn push_ip_part(text: &mut Text, ip: Ip, bytes: &[u8], l: usize)
     ensures value { text.new ≡ text.old ++ ip_part ip l bytes.now }
     ensures bound { length text.new ≤ length text.old + 133 }
 {
-    if bytes.len() < least_end(ip, l) {
-        push_name(text, ip);
+    if bytes.len() < addresses_end(ip, l) {
+        push_ip_name(text, ip);
         text.push_all(b" [short]");
         return;
     }
     if is_later_fragment(ip, bytes, l) {
-        push_ends(text, ip, bytes, l, None);
+        push_endpoints(text, ip, bytes, l, None);
         text.push_all(b"fragment");
         return;
     }
     let protocol = bytes[l + layout_of(ip).protocol];
     let ports = ports_at(protocol, bytes, header_end(ip, bytes, l));
-    push_ends(text, ip, bytes, l, ports);
+    push_endpoints(text, ip, bytes, l, ports);
     push_protocol(text, ip, protocol);
 }
 
-/// Appends what is said of the ARP or RARP header at place `l`, after its name.
+/// Appends what is said of the ARP or RARP header at place `l`, after its name: its operation, and
+/// the IPv4 addresses of sender and target, at the places that RFC 826 gives with Ethernet.
 #[tactic(auto, unfolding(crate::specs::Network::arp_part))]
 fn push_arp_part(text: &mut Text, bytes: &[u8], l: usize)
     requires room { length text.old + 120 ≤ 256 }
@@ -228,7 +236,7 @@ fn push_arp_part(text: &mut Text, bytes: &[u8], l: usize)
         text.push_all(b" [short]");
         return;
     }
-    push_named(text, b" op ", u16_of(bytes, l + 6) as u32);
+    push_name_and_number(text, b" op ", network_u16(bytes, l + 6) as u32);
     text.push_all(b" ");
     push_ipv4(text, bytes, l + 14);
     text.push_all(b" > ");
@@ -258,8 +266,10 @@ fn push_header_part(text: &mut Text, header: NetworkHeader, bytes: &[u8], l: usi
             text.push_all(b"type 0x");
             push_hex_four(text, ethertype);
         }
-        NetworkHeader::OtherVersion(version) => { push_named(text, b"version ", version as u32) }
-        NetworkHeader::OtherLink(link) => { push_named(text, b"link ", link as u32) }
+        NetworkHeader::OtherVersion(version) => {
+            push_name_and_number(text, b"version ", version as u32)
+        }
+        NetworkHeader::OtherLink(link) => { push_name_and_number(text, b"link ", link as u32) }
         NetworkHeader::Short => text.push_all(b"[short]"),
     }
 }

@@ -1,11 +1,11 @@
-//! Packets, printed.
+//! What is printed of a packet: its line, and the rows of its bytes.
 ghost use Rattle.std.specs.Prelude.{◌≡◌, ◌+◌, IsTrue};
 ghost use Rattle.cap_octet.specs.Device.{AppendsOrStops, failures_of};
 ghost use Rattle.cap_octet.specs.Packet.{captured};
 ghost use Rattle.cap_print.specs.Dump.{rows};
 ghost use Rattle.cap_print.specs.Rendering.{printed_text};
 
-use crate::dump::{payload, row_count, write_row};
+use crate::dump::{link_payload, row_count, write_row};
 use crate::line::write_line;
 use crate::text::Text;
 use cap_octet::{DeviceFault, Output, Packet, write_all};
@@ -39,12 +39,13 @@ pub fn print_packet<O: Output>(
         return Err(DeviceFault);
     };
     if options.bytes {
-        return write_rows(text, payload(packet.link, packet.bytes), output);
+        return write_rows(text, link_payload(packet.link, packet.bytes), output);
     }
     Ok(())
 }
 
-/// Writes the rows of these bytes, one after another.
+/// Writes the rows of these bytes, one `write_all` each. An error is a failure of the device in
+/// this call, after a prefix of the rows that isn't the whole.
 fn write_rows<O: Output>(text: &mut Text, bytes: &[u8], output: &mut O) -> Result<(), DeviceFault>
     ensures exact { IsTrue O.tells
         → AppendsOrStops result (O.written output.old) (rows bytes.now) (O.written output.new) }

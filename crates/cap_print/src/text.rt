@@ -1,4 +1,4 @@
-//! A buffer for one line.
+//! The buffer in which a line or a row is made.
 use crate::last_second::LastSecond;
 use cap_octet::date::{NANOS_PER_SECOND, nine_digits, two_digits};
 use itoa::Buffer;
@@ -47,7 +47,7 @@ impl Text {
         self.len = 0;
     }
 
-    /// The bytes.
+    /// The bytes that the buffer has.
     pub fn as_slice(&self) -> &[u8]
         ensures { result.now ≡ self.now }
     {
@@ -77,7 +77,7 @@ impl Text {
 
     /// Appends a number below 100 in decimal.
     #[inline]
-    fn push_short(&mut self, number: u32)
+    fn push_below_100(&mut self, number: u32)
         requires room { length self.old + 2 ≤ 256 }
         requires short { number < 100 }
         ensures value { self.new ≡ self.old ++ decimal number }
@@ -97,22 +97,22 @@ impl Text {
         ensures bound { length self.new ≤ length self.old + 10 }
     {
         if number < 100 {
-            self.push_short(number);
+            self.push_below_100(number);
         } else if number < 10_000 {
-            self.push_short(number / 100);
+            self.push_below_100(number / 100);
             self.push_all(&two_digits(number % 100));
         } else if number < 1_000_000 {
-            self.push_short(number / 10_000);
+            self.push_below_100(number / 10_000);
             self.push_all(&two_digits(number / 100 % 100));
             self.push_all(&two_digits(number % 100));
         } else {
-            self.push_long(number);
+            self.push_any_decimal(number);
         }
     }
 
-    /// Appends a number of any length in decimal.
+    /// Appends any number in decimal. It stands apart since most numbers are below a million.
     #[inline(never)]
-    fn push_long(&mut self, number: u32)
+    fn push_any_decimal(&mut self, number: u32)
         requires { length self.old + 10 ≤ 256 }
         ensures value { self.new ≡ self.old ++ decimal number }
         ensures bound { length self.new ≤ length self.old + 10 }
@@ -121,7 +121,8 @@ impl Text {
         self.push_all(buffer.format(number).as_bytes());
     }
 
-    /// Appends the date of a time in nanoseconds since 1970-01-01 00:00:00 UTC.
+    /// Appends the date of a time in nanoseconds since 1970-01-01 00:00:00 UTC, as
+    /// `YYYY-MM-DD hh:mm:ss.nnnnnnnnn`.
     pub(crate) fn push_date(&mut self, time: u64)
         requires room { length self.old + 29 ≤ 256 }
         requires time { time < 2 ^ 63 }

@@ -8,7 +8,7 @@ use Rattle.cap_io.specs.declared.source.Kind.{Kind}
 use Rattle.cap_process.specs.Reports.{Report}
 use Rattle.cap_io.specs.Sequence.{Event, Packet, InputEnd, SequenceEnd, Complete, Sequence, with_front}
 use Rattle.cap_process.specs.Verdict.{Policy, Edit, Filter, KeepAll, Count, SelectorState, Verdict, Pass, PassLast, Skip, Refuse, judge}
-use Rattle.cap_process.specs.Outcome.{Form, JobProgress, no_progress, decide, decide_unless, apply_verdict, end_input, apply_event, next_progress, apply_events, final_progress, form_refuses, end_with, end_unless_ended, unless_ended}
+use Rattle.cap_process.specs.Outcome.{Form, JobProgress, no_progress, decide, unless_refused, apply_verdict, end_input, apply_event, next_progress, apply_events, final_progress, form_refuses, end_with, end_unless_ended, unless_ended}
 use Rattle.cap_process.proofs.Outcomes.{progress-append}
 
 pub record Grows (w w' : JobProgress) : Type 0 where
@@ -20,9 +20,9 @@ pub record Grows (w w' : JobProgress) : Type 0 where
 grows-none : (w w' : JobProgress) → w'.packets ≡ w.packets → w'.reports ≡ w.reports → Grows w w'
 grows-none w w' ps rs = record { packets = []; packets_is = ps ∙ sym (append-nil w.packets); reports = []; reports_is = rs ∙ sym (append-nil w.reports) }
 
-refused-grows : (r : Option Fault) (w : JobProgress) (i : ℕ) (x : Placed) (state : SelectorState) (q : Captured) (o : Option SequenceEnd) → Grows w (decide_unless r w i x (decide w state (q ∷ []) o))
+refused-grows : (r : Option Fault) (w : JobProgress) (i : ℕ) (x : Placed) (state : SelectorState) (q : Captured) (o : Option SequenceEnd) → Grows w (unless_refused r w i x (decide w state (q ∷ []) o))
 refused-grows None w i x state q o = record { packets = q ∷ []; packets_is = refl; reports = []; reports_is = sym (append-nil w.reports) }
-refused-grows (Some fault) w i x state q o = grows-none w (decide_unless (Some fault) w i x (decide w state (q ∷ []) o)) refl refl
+refused-grows (Some fault) w i x state q o = grows-none w (unless_refused (Some fault) w i x (decide w state (q ∷ []) o)) refl refl
 
 verdict-grows : (form : Form) (w : JobProgress) (i : ℕ) (x : Placed) (v : Verdict) (state : SelectorState) → Grows w (apply_verdict form w i x v state)
 verdict-grows form w i x (Pass q) state = refused-grows (form_refuses form w.packets q) w i x state q None

@@ -6,7 +6,7 @@ use Rattle.std.specs.Option.{is_some}
 use Rattle.cap_octet.specs.Packet.{Captured}
 use Rattle.cap_octet.specs.declared.link.Link.{Link}
 use Rattle.flt_ast.specs.Tree.{TruthTree, denied, truth}
-use Rattle.flt_emit.specs.Elementary.{Reading, Yes, No, Rejected}
+use Rattle.flt_emit.specs.Elementary.{MatchResult, Yes, No, Rejected}
 use Rattle.flt_emit.specs.Formula.{negation}
 use Rattle.flt_gen.specs.Reading.{holds}
 use Rattle.cap_filter.specs.FilterRules.{by_reading, decision_of, read_on}
@@ -22,7 +22,7 @@ module _ (f : Captured → ℕ) where
   first p ps = let one : 0 + f p ≡ f p = omega arith in sum_by-append f (p ∷ []) ps ∙ ap (λ (n : ℕ). n + sum_by f ps) one
 
   -- one packet, by its reading
-  part : (r : Reading) (p : Captured) (ks os rs : List Captured) (n : ℕ) → sum_by f ks + (sum_by f os + sum_by f rs) ≡ n
+  part : (r : MatchResult) (p : Captured) (ks os rs : List Captured) (n : ℕ) → sum_by f ks + (sum_by f os + sum_by f rs) ≡ n
       → sum_by f (kept_by (decision_of r) p ks) + (sum_by f (kept_by (decision_of (negation r)) p os) + sum_by f (if is_rejection r then p ∷ rs else rs)) ≡ f p + n
   part Yes p ks os rs n h = let e : sum_by f (p ∷ ks) + (sum_by f os + sum_by f rs) ≡ f p + n = omega (arith, h, first p ks) in e
   part No p ks os rs n h = let e : sum_by f ks + (sum_by f (p ∷ os) + sum_by f rs) ≡ f p + n = omega (arith, h, first p os) in e

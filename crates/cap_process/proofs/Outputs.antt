@@ -10,8 +10,8 @@ use Rattle.std.proofs.lemmas.Grind.{flat_map-append}
 use Rattle.cap_print.specs.declared.print.Options.{Options}
 use Rattle.cap_print.specs.Rendering.{printed_text}
 use Rattle.cap_io.specs.Sink as sinks
-use Rattle.cap_io.specs.Sink.{SinkView, HasPackets, IsPutAnswer, PutWrites, WritesPacket, takes_memory}
-use Rattle.cap_io.specs.Text.{added_text, refusal_of}
+use Rattle.cap_io.specs.Sink.{SinkView, HasPackets, IsPutAnswer, PutWrites, WritesPacket}
+use Rattle.cap_io.specs.Text.{takes_memory, added_text, refusal_of}
 use Rattle.cap_io.proofs.Texts.{put-next, put-answer, put-writes, put-taken, HasPackets-put, refused-write_failed, refused-no_memory}
 use Rattle.cap_process.specs.Reports.{Report}
 use Rattle.cap_io.specs.Sequence.{Complete}

@@ -18,7 +18,7 @@ use Rattle.cap_filter.specs.FilterRules.{Rule}
 use Rattle.cap_io.specs.Sequence.{Event, Packet, InputEnd, SequenceEnd, Complete, FaultIn, Sequence, PacketOrder, InTurn, ByTime, InputItems, whole_input, Entry, packet_events, input_sequence, sequence_in_turn, sequence_of, end_of, end_after, end_at, entries_of, input_entries, comes_before, insert_entry, sort_entries, end_or_more, sequence_of_entries, sequence_by_time, first_end, unless_fault, with_front}
 use Rattle.cap_process.specs.Verdict.{Policy, Edit, Filter, KeepAll, Count, Judgement, SelectorState, initial_state, Verdict, Pass, PassLast, Skip, Refuse, edited_packet_with, judge, judge_by, passes, refuses}
 use Rattle.cap_process.specs.Reports.{Report, Tally, nothing_counted, tally_with, reports_text}
-use Rattle.cap_process.specs.Outcome.{Form, AsCapture, AsReports, AsLines, JobProgress, Work, no_progress, form_refuses, decide_unless, decide, end_with, apply_verdict, apply_event, apply_events, next_progress, end_input, unless_ended, end_unless_ended, final_progress, output_text, text_at_end, first_link, lines_text, status, outcome_at, outcome}
+use Rattle.cap_process.specs.Outcome.{Form, AsCapture, AsReports, AsLines, JobProgress, Work, no_progress, form_refuses, unless_refused, decide, end_with, apply_verdict, apply_event, apply_events, next_progress, end_input, unless_ended, end_unless_ended, final_progress, output_text, text_at_end, first_link, lines_text, status, outcome_at, outcome}
 use Rattle.cap_process.specs.Selector.{is_count}
 use Rattle.cap_process.specs.Edits.{coming, packets_selected, unique_after}
 use Rattle.cap_process.specs.Lists.{at_most, packets_kept, packets_of, tally_of}
@@ -82,11 +82,11 @@ packet-next a f k state out reports input p es next = by_verdict (judge a state 
     ended : (e : JobProgress) (c : SequenceEnd) → e.end ≡ Some c → (apply_events a f e es).packets ≡ e.packets
     ended e c is = ap (λ (u : JobProgress). u.packets) (progress-ended a f e es c is)
 
-    passing : (q : Captured) (o : Option Fault) → form_refuses f out q ≡ o → (apply_events a f (decide_unless o w input p (decide w after (q ∷ []) None)) es).packets ≡ out ++ written_unless o q (packets_written f (out ++ q ∷ []) rest)
+    passing : (q : Captured) (o : Option Fault) → form_refuses f out q ≡ o → (apply_events a f (unless_refused o w input p (decide w after (q ∷ []) None)) es).packets ≡ out ++ written_unless o q (packets_written f (out ++ q ∷ []) rest)
     passing q None is = next after (out ++ q ∷ []) ∙ append_assoc out (q ∷ []) (packets_written f (out ++ q ∷ []) rest)
     passing q (Some fault) is = ended (end_with w (FaultIn input fault p.offset)) (FaultIn input fault p.offset) refl ∙ sym (append-nil out)
 
-    last : (q : Captured) (o : Option Fault) → (apply_events a f (decide_unless o w input p (decide w after (q ∷ []) (Some Complete))) es).packets ≡ out ++ written_unless o q []
+    last : (q : Captured) (o : Option Fault) → (apply_events a f (unless_refused o w input p (decide w after (q ∷ []) (Some Complete))) es).packets ≡ out ++ written_unless o q []
     last q None = ended (decide w after (q ∷ []) (Some Complete)) Complete refl
     last q (Some fault) = ended (end_with w (FaultIn input fault p.offset)) (FaultIn input fault p.offset) refl ∙ sym (append-nil out)
 
@@ -349,7 +349,7 @@ and-false true = refl
 and-false false = refl
 
 abbrev entry : ℕ → Ending → ℕ → Placed → List Placed → Entry
-entry input ending greatest p ps = record { key = max greatest p.packet.time; input = input; p = p; last = end_after input ending ps }
+entry input ending greatest p ps = record { key = max greatest p.packet.time; input = input; p = p; end = end_after input ending ps }
 
 not-before : (input : ℕ) (ending : Ending) (greatest : ℕ) (p q : Placed) (ps : List Placed) → comes_before (entry input ending (max greatest p.packet.time) q ps) (entry input ending greatest p (q ∷ ps)) ≡ false
 not-before input ending greatest p q ps =

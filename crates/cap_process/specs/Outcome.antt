@@ -1,5 +1,5 @@
 -- What a job makes of the packets that come: the output, the message and the status.
-use Rattle.std.specs.Prelude.{◌≡◌, ℕ, zero, suc, ◌+◌, List, [], ◌∷◌, ◌++◌, Option, None, Some, unwrap_or, Bool, false}
+use Rattle.std.specs.Prelude.{◌≡◌, ℕ, zero, suc, ◌+◌, List, [], ◌∷◌, ◌++◌, Option, None, Some, Bool, true, false}
 use Rattle.std.specs.List.{flat_map}
 use Rattle.std.specs.Option.{option_or}
 use Rattle.cap_octet.specs.Packet.{Captured}
@@ -7,13 +7,13 @@ use Rattle.cap_octet.specs.declared.fault.Fault.{Fault}
 use Rattle.cap_octet.specs.declared.format.Format.{Format}
 use Rattle.cap_io.specs.declared.source.Kind.{Kind}
 use Rattle.cap_io.specs.Capture.{Placed, Items, first_link_of}
-use Rattle.cap_io.specs.Sink.{takes_memory}
-use Rattle.cap_io.specs.Text.{added_text, file_start, text, refusal_of}
+use Rattle.cap_io.specs.Sink.{link_or_ethernet}
+use Rattle.cap_io.specs.Text.{takes_memory, added_text, file_start, text, refusal_of}
 use Rattle.cap_print.specs.declared.print.Options.{Options}
 use Rattle.cap_print.specs.Rendering.{printed_text}
 use Rattle.cap_io.specs.Sequence.{Event, Packet, InputEnd, SequenceEnd, Complete, FaultIn, Sequence, InputItems, PacketOrder, sequence_of, with_front}
 use Rattle.cap_process.specs.Messages.{fault_message}
-use Rattle.cap_process.specs.Verdict.{Policy, Count, SelectorState, initial_state, Verdict, Pass, PassLast, Skip, Refuse, judge}
+use Rattle.cap_process.specs.Verdict.{Policy, Count, SelectorState, initial_state, Verdict, Pass, PassLast, PassesAs, Skip, Refuse, judge}
 use Rattle.cap_process.specs.Reports.{Report, nothing_counted, report_text, reports_text, name_at}
 
 -- ---- forms
@@ -29,15 +29,13 @@ pub data Form : Type 0 where
 -- why a packet that comes after these isn't written
 abbrev pub form_refuses : Form → List Captured → Captured → Option Fault
 form_refuses (AsCapture format) ps p = refusal_of format ps p
-form_refuses (AsReports names) ps p = None
-form_refuses (AsLines options) ps p = None
+form_refuses form ps p = None
 
 -- whether memory is taken to write a packet that comes after these: that of an interface which a
 -- pcapng file hasn't had yet
 abbrev pub form_takes_memory : Form → List Captured → Captured → Bool
 form_takes_memory (AsCapture format) ps p = takes_memory format ps p
-form_takes_memory (AsReports names) ps p = false
-form_takes_memory (AsLines options) ps p = false
+form_takes_memory form ps p = false
 
 -- ---- the fold
 
@@ -55,49 +53,35 @@ no_progress = record { decided = 0; state = initial_state; packets = []; reports
 
 -- one packet is decided
 abbrev pub decide : JobProgress → SelectorState → List Captured → Option SequenceEnd → JobProgress
-decide w state new end = record {
-  decided = w.decided + 1;
-  state = state;
-  packets = w.packets ++ new;
-  reports = w.reports;
-  end = end;
-}
+decide w state new end =
+    record w { decided = w.decided + 1; state = state; packets = w.packets ++ new; end = end }
 
 -- a packet isn't decided: the job ends at it
 abbrev pub end_with : JobProgress → SequenceEnd → JobProgress
-end_with w close =
-    record {
-      decided = w.decided;
-      state = w.state;
-      packets = w.packets;
-      reports = w.reports;
-      end = Some close;
-    }
+end_with w close = record w { end = Some close }
 
--- a packet that passes is written, which leaves `decided`; or the form refuses it
-abbrev pub decide_unless : Option Fault → JobProgress → ℕ → Placed → (decided : JobProgress)
+-- a packet that passes is written, which leaves `decided`; unless the form refuses it, where the
+-- job ends
+abbrev pub unless_refused : Option Fault → JobProgress → ℕ → Placed → (decided : JobProgress)
     → JobProgress
-decide_unless None w input p decided = decided
-decide_unless (Some fault) w input p decided = end_with w (FaultIn input fault p.offset)
+unless_refused None w input p decided = decided
+unless_refused (Some fault) w input p decided = end_with w (FaultIn input fault p.offset)
 
 abbrev pub apply_verdict : Form → JobProgress → ℕ → Placed → Verdict → SelectorState → JobProgress
 apply_verdict form w input p (Pass q) state =
-    decide_unless (form_refuses form w.packets q) w input p (decide w state (q ∷ []) None)
+    unless_refused (form_refuses form w.packets q) w input p (decide w state (q ∷ []) None)
 apply_verdict form w input p (PassLast q) state =
-    decide_unless (form_refuses form w.packets q) w input p
+    unless_refused (form_refuses form w.packets q) w input p
     (decide w state (q ∷ []) (Some Complete))
 apply_verdict form w input p Skip state = decide w state [] None
 apply_verdict form w input p (Refuse fault) state = end_with w (FaultIn input fault p.offset)
 
 -- an input that was read to its end is reported, where reports are asked
 abbrev pub end_input : Policy → JobProgress → ℕ → Option Kind → ℕ → JobProgress
-end_input Count w input kind size = record {
-  decided = w.decided;
-  state = record { passed = w.state.passed; window = w.state.window; tally = nothing_counted };
-  packets = w.packets;
+end_input Count w input kind size = record w {
+  state = record w.state { tally = nothing_counted };
   reports =
       w.reports ++ record { input = input; kind = kind; size = size; tally = w.state.tally } ∷ [];
-  end = w.end;
 }
 end_input policy w input kind size = w
 
@@ -149,9 +133,8 @@ packet_bytes (AsLines options) ps p = printed_text options p
 
 -- what a report adds
 abbrev pub report_bytes : Form → Report → List ℕ
-report_bytes (AsCapture format) r = []
 report_bytes (AsReports names) r = report_text names r
-report_bytes (AsLines options) r = []
+report_bytes form r = []
 
 -- the first link type that the inputs declare, in their order
 abbrev pub first_link : List InputItems → Option ℕ
@@ -160,10 +143,8 @@ first_link (r ∷ rs) = option_or (first_link_of r.items.declared) (first_link r
 
 -- what a clean end adds: a capture without packets has its file header or section header
 abbrev pub closing_text : Form → Option ℕ → List Captured → List ℕ
-closing_text (AsCapture format) link [] = file_start format (unwrap_or link 1)
-closing_text (AsCapture format) link (p ∷ ps) = []
-closing_text (AsReports names) link ps = []
-closing_text (AsLines options) link ps = []
+closing_text (AsCapture format) link [] = file_start format (link_or_ethernet link)
+closing_text form link ps = []
 
 -- What the end adds. After a fault that is nothing: where no packet was kept, the output has no file
 -- header either.
@@ -210,7 +191,7 @@ outcome work names rs =
 -- these items in place of one input's
 abbrev pub cut_at : List InputItems → ℕ → Items → List InputItems
 cut_at [] i items = []
-cut_at (r ∷ rs) zero items = record { greatest = r.greatest; items = items; size = r.size } ∷ rs
+cut_at (r ∷ rs) zero items = record r { items = items } ∷ rs
 cut_at (r ∷ rs) (suc i) items = r ∷ cut_at rs i items
 
 -- ---- what comes next
@@ -243,3 +224,21 @@ pub record IsNextEvent (work : Work) (rs : List InputItems) (es : List Event)
 pub record AreAllEvents (work : Work) (rs : List InputItems) (es : List Event) : Type 0 where
   pub is : sequence_of work.order rs ≡ record { events = es; end = Complete }
   pub goes : (job_progress_after work es).end ≡ None
+
+-- What comes next after these events: the bytes that this one adds, or those of a clean end.
+abbrev pub IsNextAnswer : Work → List InputItems → List Event → Option Event → List ℕ → Type 0
+IsNextAnswer work rs es (Some e) bytes =
+    IsNextEvent work rs es e × (text_after work (es ++ e ∷ []) ≡ text_after work es ++ bytes)
+IsNextAnswer work rs es None bytes =
+    AreAllEvents work rs es
+    × (bytes ≡ closing_text work.form (first_link rs) (job_progress_after work es).packets)
+
+-- A packet comes next after these events that passes, isn't refused, and takes memory to be written.
+pub record NeedsMemory (work : Work) (rs : List InputItems) (es : List Event) (input : ℕ)
+    (packet : Placed) : Type 0 where
+  pub next : IsNextEvent work rs es (Packet input packet)
+  pub kept : Captured
+  pub passes : PassesAs (judge work.policy (job_progress_after work es).state
+      ((job_progress_after work es).decided + 1) packet.packet).verdict kept
+  pub taken : form_refuses work.form (job_progress_after work es).packets kept ≡ None
+  pub takes : form_takes_memory work.form (job_progress_after work es).packets kept ≡ true

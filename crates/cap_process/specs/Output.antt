@@ -45,9 +45,6 @@ form_to names (Capture sink) = AsCapture sink.format
 form_to names (Text written failures room) = AsReports names
 form_to names (Lines options written failures room) = AsLines options
 
-abbrev pub form_at : JobOutputView → Form
-form_at d = form_to d.names d.target
-
 abbrev pub written_to : Target → List ℕ
 written_to (Capture sink) = sink.written
 written_to (Text written failures room) = written
@@ -61,8 +58,7 @@ failures_to (Lines options written failures room) = failures
 -- no more interfaces than a file may have, with names of few bytes
 abbrev pub HasFewOutputInterfaces : Target → Type 0
 HasFewOutputInterfaces (Capture sink) = FitFile sink.interfaces
-HasFewOutputInterfaces (Text written failures room) = Unit {0}
-HasFewOutputInterfaces (Lines options written failures room) = Unit {0}
+HasFewOutputInterfaces target = Unit {0}
 
 -- After what the output held before, what is written is the text of these packets, or of these
 -- reports, or the lines of these packets.
@@ -72,6 +68,3 @@ HasWrittenTo before names (Text written failures room) packets reports =
     written ≡ before ++ reports_text names reports
 HasWrittenTo before names (Lines options written failures room) packets reports =
     written ≡ before ++ lines_text options packets
-
-abbrev pub HasWritten : List ℕ → JobOutputView → List Captured → List Report → Type 0
-HasWritten before d packets reports = HasWrittenTo before d.names d.target packets reports

@@ -23,9 +23,6 @@ pub record SelectorView : Type 0 where
   -- by which packets are judged
   pub programs : List Content
 
-abbrev pub state_with : ℕ → Tally → SelectorState
-state_with passed tally = record { passed = passed; window = []; tally = tally }
-
 -- the state of a selector with these marks in its window
 abbrev pub state_of : ℕ → List Mark → Tally → SelectorState
 state_of passed marks tally = record { passed = passed; window = marks; tally = tally }
@@ -51,10 +48,8 @@ policy_of policy.Count = Count
 
 -- the programs by which packets are judged
 abbrev pub programs_in : {Z : Type 0} → code_policy.Policy Z → List Content
-programs_in (policy.Edit edit) = []
 programs_in (policy.Filter filter count) = programs_of filter
-programs_in policy.KeepAll = []
-programs_in policy.Count = []
+programs_in other = []
 
 -- the programs for what a rule asks, whether or not they ran: of an expression one for each link
 -- type, each of which accepts exactly the packets that match; or the listing's; or none where all
@@ -66,24 +61,18 @@ AreFor (by_answer prog) programs = map (λ program. program.insns) programs ≡ 
 
 -- the programs are those for the policy: only a filter has any
 abbrev pub HavePrograms : Policy → List Content → Type 0
-HavePrograms (Edit s) programs = programs ≡ []
 HavePrograms (Filter rule count) programs = AreFor rule programs
-HavePrograms KeepAll programs = programs ≡ []
-HavePrograms Count programs = programs ≡ []
+HavePrograms other programs = programs ≡ []
 
 -- what judging a packet costs: under a filter one run of one program, or nothing
 abbrev pub spent_by : Policy → Captured → List Content → List Content
-spent_by (Edit s) p programs = programs
 spent_by (Filter rule count) p programs = spent_on rule p programs
-spent_by KeepAll p programs = programs
-spent_by Count p programs = programs
+spent_by other p programs = programs
 
 -- how many instructions deciding a packet meets at most
 abbrev pub most_spent : Policy → ℕ
-most_spent (Edit s) = 0
 most_spent (Filter rule count) = most_cost rule
-most_spent KeepAll = 0
-most_spent Count = 0
+most_spent other = 0
 
 -- what deciding a packet costs: a packet too many is refused before any program runs
 abbrev pub spent_by_verdict : Policy → ℕ → Captured → List Content → List Content
@@ -92,10 +81,8 @@ spent_by_verdict policy number p programs =
 
 -- whether reports are asked
 abbrev pub is_count : Policy → Bool
-is_count (Edit s) = false
-is_count (Filter rule count) = false
-is_count KeepAll = false
 is_count Count = true
+is_count other = false
 
 abbrev pub marks_in : Option WindowView → List Mark
 marks_in None = []
@@ -104,9 +91,7 @@ marks_in (Some w) = w.marks
 -- how many packets in a row are looked through for duplicates, the last among them
 abbrev pub window_of : Policy → Option ℕ
 window_of (Edit s) = s.window
-window_of (Filter rule count) = None
-window_of KeepAll = None
-window_of Count = None
+window_of other = None
 
 -- how many marks that takes
 abbrev pub places : Option ℕ → ℕ

@@ -10,6 +10,7 @@ use Rattle.cap_command.specs.declared.command.Shift.TheVariants as shift
 use Rattle.cap_filter.specs.Decisions as chosen
 use Rattle.cap_filter.specs.Decisions.{Decision}
 use Rattle.cap_filter.specs.FilterRules.{Rule, rule_decides}
+use Rattle.cap_command.specs.Command.{PACKET_NUMBER_END}
 use Rattle.cap_command.specs.Selection.{is_kept}
 use Rattle.cap_process.specs.Reports.{Tally, nothing_counted, tally_with}
 use Rattle.cap_window.specs.declared.mark.Mark.{Mark}
@@ -175,10 +176,10 @@ judge_by Count state number p = record {
   state = record { passed = state.passed; window = state.window; tally = tally_with state.tally p };
 }
 
--- there are fewer than 2^63 packets, but where they are counted alone
+-- packets have numbers, but where they are counted alone
 abbrev pub is_too_many : Policy → ℕ → Bool
 is_too_many Count number = false
-is_too_many policy number = nat_le (2 ^ 63) number
+is_too_many policy number = nat_le PACKET_NUMBER_END number
 
 abbrev pub judge : Policy → SelectorState → ℕ → Captured → Judgement
 judge policy state number p =
@@ -189,5 +190,4 @@ judge policy state number p =
 abbrev pub PassesAs : Verdict → Captured → Type 0
 PassesAs (Pass p) q = p ≡ q
 PassesAs (PassLast p) q = p ≡ q
-PassesAs Skip q = ⊥
-PassesAs (Refuse fault) q = ⊥
+PassesAs verdict q = ⊥

@@ -12,7 +12,7 @@ use Rattle.cap_io.specs.RoundTrip.{Carries}
 use Rattle.cap_command.specs.declared.command.Shift.TheVariants as shift
 use Rattle.cap_print.specs.declared.print.Options.{Options}
 use Rattle.flt_ast.specs.Tree.{TruthTree, denied, truth}
-use Rattle.flt_emit.specs.Elementary.{Reading, Rejected}
+use Rattle.flt_emit.specs.Elementary.{MatchResult, Rejected}
 use Rattle.flt_gen.specs.Reading.{holds}
 use Rattle.cap_filter.specs.FilterRules.{Rule, by_reading}
 use Rattle.cap_io.specs.Sequence.{Event, Packet, InputEnd, PacketOrder, InTurn, InputItems, whole_input, sequence_of}
@@ -193,7 +193,7 @@ EditsAlike =
 
 -- ---- an expression and its negation
 
-abbrev pub is_rejection : Reading → Bool
+abbrev pub is_rejection : MatchResult → Bool
 is_rejection Rejected = true
 is_rejection r = false
 

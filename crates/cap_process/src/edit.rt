@@ -123,7 +123,7 @@ fn is_unique<A: Allocator>(window: &mut Option<Window<A>>, packet: &Packet<'_>) 
 
 /// Whether a packet passes: it is selected by its number and its time, cut and moved, and no
 /// duplicate. It is made what it passes as. The one error is `TimeOutOfRange`.
-pub(crate) fn select<A: Allocator>(
+pub(crate) fn selects<A: Allocator>(
     edit: &Edit<A>,
     window: &mut Option<Window<A>>,
     number: u64,

@@ -3,10 +3,13 @@ ghost use Rattle.std.specs.Prelude.{◌≡◌, ◌+◌, IfErr, IsTrue, true};
 ghost use Rattle.cap_octet.specs.Device.{AppendsOrStops, failures_of};
 ghost use Rattle.cap_octet.specs.Packet.{captured};
 ghost use Rattle.cap_print.specs.Rendering.{printed_text};
+ghost use Rattle.cap_process.specs.Output.{Capture, HasFewOutputInterfaces};
+ghost use Rattle.cap_process.specs.inside.Output.{EndsOutput};
+ghost use Rattle.flt_bpf.specs.Listing.{listing};
 
 use crate::report::{Report, write_report};
 use cap_io::Sink;
-use cap_octet::{DeviceFault, Fault, Format, Output, Packet, Stopped};
+use cap_octet::{DeviceFault, Fault, Format, Output, Packet};
 use cap_print::{Options, Text, print_packet};
 use flt_bpf::{Program, write_listing};
 use std::alloc::Allocator;
@@ -46,9 +49,9 @@ impl<O: Output, A: Allocator> Model for JobOutput<O, A> {
 }
 
 impl<O: Output, A: Allocator> JobOutput<O, A> {
-    ghost use Rattle.std.specs.Prelude.{◌≡◌, IsTrue};
+    ghost use Rattle.std.specs.Prelude.{◌≡◌, IsTrue, true};
     ghost use Rattle.cap_octet.specs.Packet.{captured};
-    ghost use Rattle.cap_process.specs.inside.Output.{EndsOutput, ListsText, PutsIntoOutput, Reports};
+    ghost use Rattle.cap_process.specs.inside.Output.{EndsOutput, PutsIntoOutput, Reports, is_text};
     ghost use Rattle.cap_process.specs.Output.{HasFewOutputInterfaces, failures_to};
     ghost use Rattle.cap_process.specs.Output.{target_at, written_to};
     ghost use Rattle.cap_process.specs.Reports.{file_report};
@@ -107,26 +110,27 @@ impl<O: Output, A: Allocator> JobOutput<O, A> {
         }
     }
 
-    /// Writes the listing of a program, where text is written.
-    pub fn list(&mut self, program: &Program<A>) -> Result<(), Stopped>
+    /// Writes the listing of a program, as text.
+    pub fn list(&mut self, program: &Program<A>) -> Result<(), DeviceFault>
+        requires { is_text self.old ≡ true }
         ensures exact { IsTrue O.tells
-            → ListsText (listing program.now.insns) self.old result self.new }
+            → Reports (listing program.now.insns) self.old result self.new }
         ensures upper_bound { HasFewOutputInterfaces self.old → HasFewOutputInterfaces self.new }
     {
         match &mut self.device {
-            Device::Capture(_) => Ok(()),
-            Device::Text(output) => write_listing(program, output),
-            Device::Lines(_, _, _) => Ok(()),
+            Device::Capture(_) => unreachable!(),
+            Device::Text(output) => put_listing(program, output),
+            Device::Lines(_, _, _) => unreachable!(),
         }
     }
 
     /// Ends what is written: a capture without packets gets its file header, with this link type.
-    pub fn finish(&mut self, first: Option<u16>) -> Result<(), Fault>
+    pub fn finish(&mut self, first: Option<u16>) -> Result<(), DeviceFault>
         ensures exact { IsTrue O.tells → EndsOutput first self.old result self.new }
         ensures upper_bound { HasFewOutputInterfaces self.old → HasFewOutputInterfaces self.new }
     {
         match &mut self.device {
-            Device::Capture(sink) => sink.finish(first),
+            Device::Capture(sink) => end_capture(sink, first),
             Device::Text(_) | Device::Lines(_, _, _) => Ok(()),
         }
     }
@@ -162,5 +166,37 @@ fn put_line<O: Output>(
     match print_packet(text, options, packet, output) {
         Ok(()) => Ok(()),
         Err(_) => Err(Fault::WriteFailed),
+    }
+}
+
+/// Writes the listing of a program.
+fn put_listing<O: Output, A: Allocator>(
+    program: &Program<A>,
+    output: &mut O,
+) -> Result<(), DeviceFault>
+    ensures exact { IsTrue O.tells → AppendsOrStops result (O.written output.old)
+        (listing program.now.insns) (O.written output.new) }
+    ensures failed { O.failures output.new ≡ O.failures output.old + failures_of result }
+    ensures room { O.room output.new ≡ O.room output.old }
+{
+    match write_listing(program, output) {
+        Ok(()) => Ok(()),
+        Err(_) => Err(DeviceFault),
+    }
+}
+
+/// Ends a capture, which gets its file header here where it has no packets.
+fn end_capture<O: Output, A: Allocator>(
+    sink: &mut Sink<O, A>,
+    first: Option<u16>,
+) -> Result<(), DeviceFault>
+    ensures exact { IsTrue O.tells
+        → EndsOutput first (Capture sink.old) result (Capture sink.new) }
+    ensures upper_bound { HasFewOutputInterfaces (Capture sink.old)
+        → HasFewOutputInterfaces (Capture sink.new) }
+{
+    match sink.finish(first) {
+        Ok(()) => Ok(()),
+        Err(_) => Err(DeviceFault),
     }
 }

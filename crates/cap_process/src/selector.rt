@@ -16,9 +16,9 @@ ghost use Rattle.cap_process.specs.inside.Selector.{verdict_of};
 ghost use Rattle.cap_process.specs.Reports.{Tally, nothing_counted};
 ghost use Rattle.cap_window.specs.View.{window};
 
-use crate::edit::select;
+use crate::edit::selects;
 use crate::tally::Tally;
-use cap_command::Edit;
+use cap_command::{Edit, PACKET_NUMBER_END};
 use cap_filter::filter::Filter;
 use cap_octet::{Fault, Packet};
 use cap_window::Window;
@@ -26,7 +26,7 @@ use std::alloc::{AllocError, Allocator};
 use std::marker::Model;
 
 /// From this number on there are too many packets.
-const MOST_PACKETS: u128 = 0x8000_0000_0000_0000;
+const MOST_PACKETS: u128 = PACKET_NUMBER_END as u128;
 
 /// What becomes of a packet that is not refused.
 #[derive(Clone, Copy)]
@@ -123,7 +123,7 @@ impl<A: Allocator> Policy<A> {
             + most_spent (policy_of self.old) }
     {
         match self {
-            Policy::Edit(edit) => select(edit, window, number, packet),
+            Policy::Edit(edit) => selects(edit, window, number, packet),
             Policy::Filter(filter, _) => filter.passes(packet),
             Policy::KeepAll => Ok(true),
             Policy::Count => Ok(false),
@@ -172,7 +172,8 @@ impl<A: Allocator> Selector<A> {
     ghost use Rattle.cap_process.specs.inside.Reports.{FitsTally};
     ghost use Rattle.cap_process.specs.Selector.{SelectorView};
     ghost use Rattle.cap_process.specs.inside.Selector.{TakesTally, policy_state};
-    ghost use Rattle.cap_process.specs.Selector.{spent_by_verdict, state_with};
+    ghost use Rattle.cap_process.specs.Selector.{spent_by_verdict};
+    ghost use Rattle.cap_process.specs.inside.Selector.{state_with};
 
     /// A selector that has met nothing. Where it looks for duplicates it takes the memory of their
     /// window here.

@@ -9,7 +9,7 @@ use Rattle.cap_octet.specs.declared.fault.Fault.TheVariants.{NoMemory, TooManyPa
 use Rattle.cap_io.specs.Capture.{Placed}
 use Rattle.cap_io.specs.Position.{IsAt}
 use Rattle.cap_io.specs.Sink.{SinkView}
-use Rattle.cap_io.specs.Text.{text, added_text, packets_text, refusal_of}
+use Rattle.cap_io.specs.Text.{text, added_text, packets_text, refusal_of, takes_memory}
 use Rattle.cap_io.proofs.Standing.{IsAt-decided}
 use Rattle.cap_io.proofs.Texts.{text-more}
 use Rattle.cap_filter.specs.Decisions as chosen
@@ -21,7 +21,7 @@ use Rattle.flt_bpf.specs.Machine as bpf
 use Rattle.flt_bpf.specs.Machine.{machine, Answered}
 use Rattle.flt_ast.specs.Tree.{Expression, empty, truth}
 use Rattle.cap_octet.specs.declared.link.Link.{Link}
-use Rattle.flt_emit.specs.Elementary.{Reading, Yes, No, Rejected}
+use Rattle.flt_emit.specs.Elementary.{MatchResult, Yes, No, Rejected}
 use Rattle.flt_gen.specs.Reading.{holds}
 use Rattle.cap_process.specs.declared.selector.Verdict as code
 use Rattle.cap_process.specs.declared.selector.Verdict.TheVariants as code_verdict
@@ -37,15 +37,15 @@ use Rattle.cap_process.specs.Selector.{IsWithin}
 use Rattle.cap_process.specs.inside.Selector.{PolicyState, GrowsByOne, IsVerdict}
 use Rattle.cap_print.specs.declared.print.Options.{Options}
 use Rattle.cap_print.specs.Rendering.{printed_text}
-use Rattle.cap_process.specs.Outcome.{Form, AsCapture, AsLines, JobProgress, IsNextEvent, lines_text, no_progress, decide, decide_unless, apply_verdict, apply_event, apply_events, final_progress, packet_bytes, form_refuses, end_with, final_text, first_link, output_text}
+use Rattle.cap_process.specs.Outcome.{Form, AsCapture, AsLines, JobProgress, IsNextEvent, lines_text, no_progress, decide, unless_refused, apply_verdict, apply_event, apply_events, final_progress, packet_bytes, form_refuses, end_with, final_text, first_link, output_text}
 use Rattle.cap_process.specs.Outcome as course_spec
-use Rattle.cap_process.specs.Output.{JobOutputView, Target, Capture, Text, Lines, HasWritten, form_at, form_to, output_at, written_to, failures_to}
-use Rattle.cap_process.specs.inside.Output.{PutsIntoOutput}
-use Rattle.cap_inputs.specs.Inputs.{InputView, InputsView, Future, InputPast, AreInputsAfter, AreSettled, IsInput, input_after_decided, inputs_with, items_left, inputs_left, sequence_left}
+use Rattle.cap_process.specs.Output.{JobOutputView, Target, Capture, Text, Lines, form_to, output_at, written_to, failures_to}
+use Rattle.cap_process.specs.inside.Output.{HasWritten, form_at, PutsIntoOutput}
+use Rattle.cap_inputs.specs.Inputs.{InputView, Future, InputPast, AreInputsAfter, AreSettled, IsInput, input_after_decided, items_left, inputs_left, sequence_left}
 use Rattle.cap_inputs.specs.inside.Inputs.{actual_future, most_steps}
-use Rattle.cap_inputs.specs.Inputs as input_spec
-use Rattle.cap_tools.specs.Packets.{JobState, PacketsDecided, GoesOn, CompletesOutput, StopsWriting, NextPacket, EndLeaves, progress_at, progress_of, progress_over, output_form, wholes_of, work_of, written_by}
-use Rattle.cap_tools.specs.inside.Packets.{DecidesPacket, Offers, end_of_failed_write, sieve}
+use Rattle.cap_inputs.specs.inside.Inputs as input_spec
+use Rattle.cap_tools.specs.Packets.{JobState, Meets, a_packet, PacketsDecided, GoesOn, CompletesOutput, StopsWriting, EndLeaves, StepLeaves, progress_at, progress_of, progress_over, output_form, wholes_of, work_of, written_by}
+use Rattle.cap_tools.specs.inside.Packets.{DecidesPacket, Offers, end_after, end_of_failed_write, sieve, NextPacket}
 use Rattle.cap_tools.proofs.Places.{get-at}
 use Rattle.cap_tools.proofs.Splits.{At, stands-split, stands-join, stands-length, rests-join, finish-here, come-on}
 use Rattle.cap_tools.proofs.Coming.{carries-decided, come-first, true-wholes, true-fit, true-fits}
@@ -55,61 +55,59 @@ use Rattle.cap_tools.proofs.Laws.{DecideLaws, DecideAt, decide-at}
 use Rattle.cap_tools.proofs.Once.{once-nothing, once-packet}
 use Rattle.cap_process.proofs.Outcomes.{progress-next, course-stop}
 use Rattle.cap_inputs.proofs.Cursors.{greatest-decided, greatest-here, limits-at, set-here}
+use Rattle.cap_inputs.proofs.Nexts.{next-is-of}
+use Rattle.cap_tools.proofs.Nexts.{told-next}
 use Rattle.cap_tools.proofs.Fetches.{mk, among-same, comes-broken, inputs_at}
 
 -- ---- a packet that is judged
 
-abbrev pub end_if : Bool → Option SequenceEnd
-end_if true = Some Complete
-end_if false = None
+abbrev pub end_if : code.Verdict → Option SequenceEnd
+end_if code_verdict.PassLast = Some Complete
+end_if verdict = None
 
 -- what is written and how far the job is where a packet is decided
-pub record Took (policy : Policy) (w : JobProgress) (before : List ℕ) (i : ℕ) (x : Placed) (state' : SelectorState) (old new : JobOutputView) (last : Bool) : Type 0 where
+pub record Took (policy : Policy) (w : JobProgress) (before : List ℕ) (i : ℕ) (x : Placed) (state' : SelectorState) (old new : JobOutputView) (end : Option SequenceEnd) : Type 0 where
   pub passed : List Captured
   -- one at most
   pub upper_bound : (passed ≡ []) ⊎ ((q : Captured) × (passed ≡ q ∷ []))
-  pub went : apply_event policy (form_at old) w (Packet i x) ≡ course_spec.decide w state' passed (end_if last)
+  pub went : apply_event policy (form_at old) w (Packet i x) ≡ course_spec.decide w state' passed end
   pub output : HasWritten before new (w.packets ++ passed) w.reports
   pub form : form_at new ≡ form_at old
   pub failures : failures_to new.target ≡ failures_to old.target
-  pub names : new.names ≡ old.names
 
 goes-by : (policy : Policy) (form : Form) (w : JobProgress) (i : ℕ) (x : Placed) (v : Verdict) (state' : SelectorState) → v ≡ (judge policy w.state (w.decided + 1) x.packet).verdict → state' ≡ (judge policy w.state (w.decided + 1) x.packet).state
     → apply_event policy form w (Packet i x) ≡ apply_verdict form w i x v state'
 goes-by policy form w i x v state' one other = rw (one, other) refl
 
-put-took : (policy : Policy) (w : JobProgress) (before : List ℕ) (i : ℕ) (x : Placed) (q : Captured) (state' : SelectorState) (old new : JobOutputView) (last : Bool) → HasWritten before old w.packets w.reports → new.names ≡ old.names → PutsIntoOutput q old.target (Ok tt) new.target
-    → apply_event policy (form_at old) w (Packet i x) ≡ decide_unless (form_refuses (form_at old) w.packets q) w i x (decide w state' (q ∷ []) (end_if last))
-    → Took policy w before i x state' old new last
-put-took policy w before i x q state' old new last has names puts went =
+put-took : (policy : Policy) (w : JobProgress) (before : List ℕ) (i : ℕ) (x : Placed) (q : Captured) (state' : SelectorState) (old new : JobOutputView) (end : Option SequenceEnd) → HasWritten before old w.packets w.reports → new.names ≡ old.names → PutsIntoOutput q old.target (Ok tt) new.target
+    → apply_event policy (form_at old) w (Packet i x) ≡ unless_refused (form_refuses (form_at old) w.packets q) w i x (decide w state' (q ∷ []) end)
+    → Took policy w before i x state' old new end
+put-took policy w before i x q state' old new end has names puts went =
     let ok : PutOk before w.packets w.reports q old.names new.names old.target new.target = put-ok before w.packets w.reports q old.names new.names old.target new.target names has puts in
     record {
       passed = q ∷ [];
       upper_bound = inr (q, refl);
-      went = went ∙ ap (λ (f : Option Fault). decide_unless f w i x (decide w state' (q ∷ []) (end_if last))) ok.none;
+      went = went ∙ ap (λ (f : Option Fault). unless_refused f w i x (decide w state' (q ∷ []) end)) ok.none;
       output = ok.output;
       form = ok.form;
       failures = ok.failures;
-      names = names;
     }
 
-pub took : (policy : Policy) (w : JobProgress) (before : List ℕ) (i : ℕ) (x : Placed) (old new : JobOutputView) (last : Bool) (state' : SelectorState) (v : code.Verdict) (q : Captured) → HasWritten before old w.packets w.reports
-    → IsVerdict (judge policy w.state (w.decided + 1) x.packet) (Ok v) q state' → new.names ≡ old.names → Offers v q old.target (Ok last) new.target → Took policy w before i x state' old new last
-took policy w before i x old new last state' code_verdict.Pass q has exact names offers =
-    rw offers.0 (put-took policy w before i x q state' old new false has names offers.1 (goes-by policy (form_at old) w i x (Pass q) state' exact.0 exact.1))
-took policy w before i x old new last state' code_verdict.PassLast q has exact names offers =
-    rw offers.0 (put-took policy w before i x q state' old new true has names offers.1 (goes-by policy (form_at old) w i x (PassLast q) state' exact.0 exact.1))
-took policy w before i x old new last state' code_verdict.Skip q has exact names offers =
-    let b : last ≡ false = (cc (offers.0)) in
+pub took : (policy : Policy) (w : JobProgress) (before : List ℕ) (i : ℕ) (x : Placed) (old new : JobOutputView) (state' : SelectorState) (v : code.Verdict) (q : Captured) → HasWritten before old w.packets w.reports
+    → IsVerdict (judge policy w.state (w.decided + 1) x.packet) (Ok v) q state' → new.names ≡ old.names → Offers v q old.target (Ok tt) new.target → Took policy w before i x state' old new (end_if v)
+took policy w before i x old new state' code_verdict.Pass q has exact names offers =
+    put-took policy w before i x q state' old new None has names offers (goes-by policy (form_at old) w i x (Pass q) state' exact.0 exact.1)
+took policy w before i x old new state' code_verdict.PassLast q has exact names offers =
+    put-took policy w before i x q state' old new (Some Complete) has names offers (goes-by policy (form_at old) w i x (PassLast q) state' exact.0 exact.1)
+took policy w before i x old new state' code_verdict.Skip q has exact names offers =
     let same : new ≡ old = ap₂ output_at names offers.1 in
-    rw (b, same) (record {
+    rw same (record {
       passed = [];
       upper_bound = inl refl;
       went = goes-by policy (form_at old) w i x Skip state' exact.0 exact.1;
       output = rw (append-nil w.packets) has;
       form = refl;
       failures = refl;
-      names = refl;
     })
 
 -- ---- the true order begins with it
@@ -170,7 +168,7 @@ counted-more n t t' within grows =
 pub decided-goes : (us vs : List InputPast) (s : InputPast) (before : List ℕ) (xs ys : List InputView) (h : InputView) (order : PacketOrder) (turn : ℕ) (policy : Policy) (state state' : SelectorState) (output output' : JobOutputView) (decided : ℕ) (p : Captured)
     → DecideLaws order turn xs ys h → AreInputsAfter us xs → At s h → AreInputsAfter vs ys → h.source.packet ≡ Some p → state'.passed ≤ decided + 1 → GrowsByOne state.tally state'.tally
     → (d : PacketsDecided (us ++ s ∷ vs) before (mk (xs ++ h ∷ ys) order policy state output decided))
-    → Took policy (progress_at (mk (xs ++ h ∷ ys) order policy state output decided) d.packets d.reports) before turn (record { offset = h.source.offset; packet = p }) state' output output' false
+    → Took policy (progress_at (mk (xs ++ h ∷ ys) order policy state output decided) d.packets d.reports) before turn (record { offset = h.source.offset; packet = p }) state' output output' None
     → GoesOn d (mk (xs ++ input_after_decided h ∷ ys) order policy state' output' (decided + 1))
 decided-goes us vs s before xs ys h order turn policy state state' output output' decided p laws front at back held within grows d t =
     let waits : h.waiting ≡ true = laws.waits in
@@ -214,7 +212,6 @@ decided-goes us vs s before xs ys h order turn policy state state' output output
             (ap (λ (l : List Captured). d.packets ++ l) one.1) refl
       ];
       output = t.failures;
-      names = t.names;
       order = refl;
       limits = limits-at xs ys h (input_after_decided h) refl;
     }
@@ -246,19 +243,17 @@ pub record LastTook (policy : Policy) (w : JobProgress) (before : List ℕ) (i :
   pub form : form_at new ≡ form_at old
   pub failures : failures_to new.target ≡ failures_to old.target
 
-pub last-took : (policy : Policy) (w : JobProgress) (before : List ℕ) (i : ℕ) (x : Placed) (old new : JobOutputView) (state' : SelectorState) (v : code.Verdict) (q : Captured) → IsVerdict (judge policy w.state (w.decided + 1) x.packet) (Ok v) q state' → new.names ≡ old.names → Offers v q old.target (Ok true) new.target
+pub last-took : (policy : Policy) (w : JobProgress) (before : List ℕ) (i : ℕ) (x : Placed) (old new : JobOutputView) (state' : SelectorState) (q : Captured) → IsVerdict (judge policy w.state (w.decided + 1) x.packet) (Ok code_verdict.PassLast) q state' → new.names ≡ old.names → PutsIntoOutput q old.target (Ok tt) new.target
     → HasWritten before old w.packets w.reports → LastTook policy w before i x state' old new
-last-took policy w before i x old new state' code_verdict.Pass q exact names offers has = absurd (let b = offers.0 in cc)
-last-took policy w before i x old new state' code_verdict.PassLast q exact names offers has =
-    let ok : PutOk before w.packets w.reports q old.names new.names old.target new.target = put-ok before w.packets w.reports q old.names new.names old.target new.target names has offers.1 in
+last-took policy w before i x old new state' q exact names puts has =
+    let ok : PutOk before w.packets w.reports q old.names new.names old.target new.target = put-ok before w.packets w.reports q old.names new.names old.target new.target names has puts in
     record {
       packet = q;
-      went = goes-by policy (form_at old) w i x (PassLast q) state' exact.0 exact.1 ∙ ap (λ (f : Option Fault). decide_unless f w i x (decide w state' (q ∷ []) (Some Complete))) ok.none;
+      went = goes-by policy (form_at old) w i x (PassLast q) state' exact.0 exact.1 ∙ ap (λ (f : Option Fault). unless_refused f w i x (decide w state' (q ∷ []) (Some Complete))) ok.none;
       output = ok.output;
       form = ok.form;
       failures = ok.failures;
     }
-last-took policy w before i x old new state' code_verdict.Skip q exact names offers has = absurd (let b = offers.0 in cc)
 
 -- ---- it is not put
 
@@ -283,10 +278,13 @@ stops-writing ss before cursors order policy state state' names sink sink' decid
     (progress-next policy form d.events e w w' d.progress went) in
     let closes : List ℕ = course_spec.text_at_end all.end form (first_link (wholes_of ss)) all.packets in
     let tail : List ℕ = packets_text sink.format (packets ++ q ∷ []) grows.packets in
+    let told = told-next ss before (mk cursors order policy state (record { names = names; target = Capture sink }) decided) new (added_text sink.format packets q) d (inl (answers why.0 (added_text sink.format packets q) refl)) in
     record {
       failures = ap failures_to is ∙ why.1;
+      event = told.event;
+      met = told.met;
       bytes = added_text sink.format packets q;
-      answer = inl (answers why.0 (added_text sink.format packets q) refl);
+      answer = told.answer;
       back = tail ++ closes;
       whole =
           ap (λ (l : List Captured). text sink.format l ++ closes) (grows.packets_is ∙ append_assoc packets (q ∷ []) grows.packets)
@@ -315,10 +313,13 @@ stops-line ss before cursors order policy state state' names options bytes after
     let closes : List ℕ = course_spec.text_at_end all.end form (first_link (wholes_of ss)) all.packets in
     let tail : List ℕ = lines_text options grows.packets in
     let T : Target → Type 0 = λ t. Stops bytes (printed_text options q) (written_to t) in
+    let told = told-next ss before (mk cursors order policy state (record { names = names; target = Lines options bytes failures room }) decided) new (printed_text options q) d (inl (answers refl (printed_text options q) refl)) in
     record {
       failures = ap failures_to is;
+      event = told.event;
+      met = told.met;
       bytes = printed_text options q;
-      answer = inl (answers refl (printed_text options q) refl);
+      answer = told.answer;
       back = tail ++ closes;
       whole =
           ap (λ (l : List Captured). lines_text options l ++ closes) grows.packets_is
@@ -334,38 +335,39 @@ stops-line ss before cursors order policy state state' names options bytes after
 -- a packet that passes isn't put into a capture
 unput-capture : (ss : List InputPast) (before : List ℕ) (cursors : List InputView) (order : PacketOrder) (turn : ℕ) (policy : Policy) (state state' : SelectorState) (names : List (List ℕ)) (sink sink' : SinkView) (decided : ℕ) (new : JobState) (x : Placed) (q : Captured) (o : Option SequenceEnd) (fault : Fault)
     → (d : PacketsDecided ss before (mk cursors order policy state (record { names = names; target = Capture sink }) decided)) → Ahead ss cursors order d.events (Packet turn x)
-    → apply_event policy (AsCapture sink.format) (progress_of d) (Packet turn x) ≡ decide_unless (refusal_of sink.format d.packets q) (progress_of d) turn x (decide (progress_of d) state' (q ∷ []) o)
-    → input_spec.IsNext (inputs_at order cursors) (next.Decide turn) → new.inputs ≡ record { order = order; cursors = cursors } → (cursor : InputView) → slice_get new.inputs.cursors turn ≡ Some cursor → cursor.source.offset ≡ x.offset
+    → apply_event policy (AsCapture sink.format) (progress_of d) (Packet turn x) ≡ unless_refused (refusal_of sink.format d.packets q) (progress_of d) turn x (decide (progress_of d) state' (q ∷ []) o)
+    → Meets (inputs_at order cursors) new.inputs (Some (Packet turn x)) → (cursor : InputView) → slice_get new.inputs.cursors turn ≡ Some cursor → cursor.source.offset ≡ x.offset
     → PassesAs (judge policy state (decided + 1) x.packet).verdict q → AnswersNext d new q → WhyUnput fault sink d.packets q sink' → new.output.target ≡ Capture sink'
     → EndLeaves d (end_of_failed_write turn fault) new
-unput-capture ss before cursors order turn policy state state' names sink sink' decided new x q o WriteFailed d ahead went tells same_feed cursor among offset passes answers why is =
+unput-capture ss before cursors order turn policy state state' names sink sink' decided new x q o WriteFailed d ahead went met cursor among offset passes answers why is =
     stops-writing ss before cursors order policy state state' names sink sink' decided new (Packet turn x) q o d ahead
-    (went ∙ ap (λ (f : Option Fault). decide_unless f (progress_of d) turn x (decide (progress_of d) state' (q ∷ []) o)) why.0) answers why is
-unput-capture ss before cursors order turn policy state state' names sink sink' decided new x q o NoMemory d ahead went tells same_feed cursor among offset passes answers why is =
+    (went ∙ ap (λ (f : Option Fault). unless_refused f (progress_of d) turn x (decide (progress_of d) state' (q ∷ []) o)) why.0) answers why is
+unput-capture ss before cursors order turn policy state state' names sink sink' decided new x q o NoMemory d ahead went met cursor among offset passes answers why is =
     record {
       cursor = cursor;
       among = among;
       why = inr (inr (record {
-        next = tells;
         packet = x;
-        comes = is-next ss before cursors order policy state (record { names = names; target = Capture sink }) decided (Packet turn x) d ahead;
+        met = met;
+        needs = record {
+          next = is-next ss before cursors order policy state (record { names = names; target = Capture sink }) decided (Packet turn x) d ahead;
+          kept = q;
+          passes = (let G : JobProgress → Type 0 = λ v. PassesAs (judge policy v.state (v.decided + 1) x.packet).verdict q in subst G (sym d.progress) passes);
+          taken = (let F : JobProgress → Type 0 = λ v. refusal_of sink.format v.packets q ≡ None in subst F (sym d.progress) why.0);
+          takes = (let M : JobProgress → Type 0 = λ v. takes_memory sink.format v.packets q ≡ true in subst M (sym d.progress) why.1);
+        };
         place = offset;
-        kept = q;
-        passes = passes;
-        taken = why.0;
-        takes = why.1;
-        inputs = same_feed;
         why = refl;
         written = ap written_to is ∙ why.2;
         device = ap failures_to is ∙ why.3;
       }));
     }
-unput-capture ss before cursors order turn policy state state' names sink sink' decided new x q o fault d ahead went tells same_feed cursor among offset passes answers why is =
+unput-capture ss before cursors order turn policy state state' names sink sink' decided new x q o fault d ahead went met cursor among offset passes answers why is =
     let m : JobState = mk cursors order policy state (record { names = names; target = Capture sink }) decided in
     let w : JobProgress = progress_of d in
     let stop : final_progress policy (AsCapture sink.format) (sequence_of order (wholes_of ss)) ≡ end_with w (FaultIn turn fault x.offset) =
     stops-course ss cursors order d.events (Packet turn x) policy (AsCapture sink.format) w (end_with w (FaultIn turn fault x.offset)) (FaultIn turn fault x.offset) ahead d.progress refl
-    (went ∙ ap (λ (f : Option Fault). decide_unless f w turn x (decide w state' (q ∷ []) o)) why.0) refl in
+    (went ∙ ap (λ (f : Option Fault). unless_refused f w turn x (decide w state' (q ∷ []) o)) why.0) refl in
     record {
       cursor = cursor;
       among = among;
@@ -374,15 +376,15 @@ unput-capture ss before cursors order turn policy state state' names sink sink' 
 
 unput-leaves : (ss : List InputPast) (before : List ℕ) (cursors : List InputView) (order : PacketOrder) (turn : ℕ) (policy : Policy) (state state' : SelectorState) (names : List (List ℕ)) (target : Target) (decided : ℕ) (new : JobState) (x : Placed) (q : Captured) (o : Option SequenceEnd) (fault : Fault)
     → (d : PacketsDecided ss before (mk cursors order policy state (record { names = names; target = target }) decided)) → Ahead ss cursors order d.events (Packet turn x)
-    → apply_event policy (form_to names target) (progress_of d) (Packet turn x) ≡ decide_unless (form_refuses (form_to names target) d.packets q) (progress_of d) turn x (decide (progress_of d) state' (q ∷ []) o)
-    → input_spec.IsNext (inputs_at order cursors) (next.Decide turn) → new.inputs ≡ record { order = order; cursors = cursors } → (cursor : InputView) → slice_get new.inputs.cursors turn ≡ Some cursor → cursor.source.offset ≡ x.offset
+    → apply_event policy (form_to names target) (progress_of d) (Packet turn x) ≡ unless_refused (form_refuses (form_to names target) d.packets q) (progress_of d) turn x (decide (progress_of d) state' (q ∷ []) o)
+    → Meets (inputs_at order cursors) new.inputs (Some (Packet turn x)) → (cursor : InputView) → slice_get new.inputs.cursors turn ≡ Some cursor → cursor.source.offset ≡ x.offset
     → PassesAs (judge policy state (decided + 1) x.packet).verdict q → AnswersNext d new q → PutsIntoOutput q target (Err fault) new.output.target
     → EndLeaves d (end_of_failed_write turn fault) new
-unput-leaves ss before cursors order turn policy state state' names (Capture sink) decided new x q o fault d ahead went tells same_feed cursor among offset passes answers puts =
-    unput-capture ss before cursors order turn policy state state' names sink puts.sink decided new x q o fault d ahead went tells same_feed cursor among offset passes answers
+unput-leaves ss before cursors order turn policy state state' names (Capture sink) decided new x q o fault d ahead went met cursor among offset passes answers puts =
+    unput-capture ss before cursors order turn policy state state' names sink puts.sink decided new x q o fault d ahead went met cursor among offset passes answers
     (unput before d.packets q sink puts.sink fault d.output puts.puts puts.writes) puts.is
-unput-leaves ss before cursors order turn policy state state' names (Text bytes failures room) decided new x q o fault d ahead went tells same_feed cursor among offset passes answers puts = absurd (let e = puts.0 in cc)
-unput-leaves ss before cursors order turn policy state state' names (Lines options bytes failures room) decided new x q o fault d ahead went tells same_feed cursor among offset passes answers puts =
+unput-leaves ss before cursors order turn policy state state' names (Text bytes failures room) decided new x q o fault d ahead went met cursor among offset passes answers puts = absurd (let e = puts.0 in cc)
+unput-leaves ss before cursors order turn policy state state' names (Lines options bytes failures room) decided new x q o fault d ahead went met cursor among offset passes answers puts =
     let L : Fault → Type 0 = λ f. EndLeaves d (end_of_failed_write turn f) new in
     subst L (sym puts.fault)
     (stops-line ss before cursors order policy state state' names options bytes puts.after failures room decided new (Packet turn x) q o d ahead went answers puts.appends puts.is)
@@ -426,7 +428,7 @@ own-link : (e : Expression) (o : Option Link) (p : Captured) → OwnDecision (re
 own-link e None p = λ is. (cc)
 own-link e (Some link) p = by_reading (holds e link p.bytes p.orig)
   where
-    by_reading : (r : Reading) → OwnDecision (decision_of r)
+    by_reading : (r : MatchResult) → OwnDecision (decision_of r)
     by_reading Yes = tt
     by_reading No = tt
     by_reading Rejected = tt
@@ -477,51 +479,44 @@ never-device : (policy : Policy) (state state' : SelectorState) (number : ℕ) (
 never-device policy state state' number p fault exact is = (let P : Verdict → Type 0 = λ v. Own v in subst P exact (own-verdict policy state number p)) is
 
 -- what an answer leaves: `new` is the machine where the packet is decided, `failed` where it isn't
-abbrev pub AnswerLeaves : {ss : List InputPast} {before : List ℕ} {old : JobState} → PacketsDecided ss before old → ℕ → Result Bool Fault → JobState → JobState → Type 0
-AnswerLeaves {ss} {before} {old} d i (Ok false) new failed = GoesOn d new
-AnswerLeaves {ss} {before} {old} d i (Ok true) new failed = CompletesOutput (wholes_of ss) d new Complete
+abbrev pub AnswerLeaves : {ss : List InputPast} {before : List ℕ} {old : JobState} → PacketsDecided ss before old → ℕ → Result code.Verdict Fault → JobState → JobState → Type 0
+AnswerLeaves {ss} {before} {old} d i (Ok verdict) new failed = StepLeaves d (end_after verdict) new
 AnswerLeaves {ss} {before} {old} d i (Err fault) new failed = EndLeaves d (end_of_failed_write i fault) failed
 
-answer-core : (us vs : List InputPast) (s : InputPast) (before : List ℕ) (xs ys : List InputView) (h : InputView) (order : PacketOrder) (turn : ℕ) (policy : Policy) (state state' : SelectorState) (output output' : JobOutputView) (decided : ℕ) (p : Captured) (r : Result Bool Fault)
+answer-core : (us vs : List InputPast) (s : InputPast) (before : List ℕ) (xs ys : List InputView) (h : InputView) (order : PacketOrder) (turn : ℕ) (policy : Policy) (state state' : SelectorState) (output output' : JobOutputView) (decided : ℕ) (p : Captured) (r : Result code.Verdict Fault)
     → DecideLaws order turn xs ys h → input_spec.IsNext (inputs_at order (xs ++ h ∷ ys)) (next.Decide turn) → AreInputsAfter us xs → At s h → AreInputsAfter vs ys → h.source.packet ≡ Some p → state'.passed ≤ decided + 1 → GrowsByOne state.tally state'.tally
     → (d : PacketsDecided (us ++ s ∷ vs) before (mk (xs ++ h ∷ ys) order policy state output decided))
     → output'.names ≡ output.names → DecidesPacket (Some p) (decided + 1) (sieve (record { policy = policy; state = state }) output.target) r (sieve (record { policy = policy; state = state' }) output'.target)
     → AnswerLeaves d turn r (mk (xs ++ input_after_decided h ∷ ys) order policy state' output' (decided + 1)) (mk (xs ++ h ∷ ys) order policy state' output' decided)
-answer-core us vs s before xs ys h order turn policy state state' output output' decided p (Ok false) laws tells front at back held within grows d names decides =
-    elim decides [
-      | inl j ↦ decided-goes us vs s before xs ys h order turn policy state state' output output' decided p laws front at back held within grows d
-          (took policy (progress_at (mk (xs ++ h ∷ ys) order policy state output decided) d.packets d.reports) before turn (record { offset = h.source.offset; packet = p }) output output' false state' j.answer j.packet d.output j.exact names j.offers)
-      | inr x ↦ absurd (let e = x.answer in cc)
-    ]
-answer-core us vs s before xs ys h order turn policy state state' output output' decided p (Ok true) laws tells front at back held within grows d names decides =
-    elim decides [
-      | inl j ↦
-          let w : JobProgress = progress_at (mk (xs ++ h ∷ ys) order policy state output decided) d.packets d.reports in
-          let x : Placed = record { offset = h.source.offset; packet = p } in
-          let l = last-took policy w before turn x output output' state' j.answer j.packet j.exact names j.offers d.output in
-          let stop = stops-course (us ++ s ∷ vs) (xs ++ h ∷ ys) order d.events (Packet turn x) policy (form_at output) w (course_spec.decide w state' (l.packet ∷ []) (Some Complete)) Complete
-          (next-true us vs s before xs ys h order turn policy state output decided p laws front at back held d) d.progress refl l.went refl in
-          record {
-            ends = ap (λ (v : JobProgress). v.end) stop;
-            written =
-                closing-some before output'.names (form_at output) output'.target (first_link (wholes_of (us ++ s ∷ vs))) (d.packets ++ l.packet ∷ []) d.reports (decided + 1) state' l.output l.form (some d.packets l.packet)
-                ∙ ap (λ (v : JobProgress). before ++ final_text (form_at output) (first_link (wholes_of (us ++ s ∷ vs))) v) (sym stop);
-            once = once-packet (first_link (wholes_of (us ++ s ∷ vs))) before w (progress_over (mk (xs ++ h ∷ ys) order policy state output decided) (wholes_of (us ++ s ∷ vs))) output output' l.packet d.output l.output l.form
-                (ap (λ (v : JobProgress). v.packets) stop) (ap (λ (v : JobProgress). v.reports) stop);
-            device = l.failures;
-          }
-      | inr x ↦ absurd (let e = x.answer in cc)
-    ]
+answer-core us vs s before xs ys h order turn policy state state' output output' decided p (Ok code_verdict.Pass) laws tells front at back held within grows d names decides =
+    decided-goes us vs s before xs ys h order turn policy state state' output output' decided p laws front at back held within grows d
+    (took policy (progress_at (mk (xs ++ h ∷ ys) order policy state output decided) d.packets d.reports) before turn (record { offset = h.source.offset; packet = p }) output output' state' code_verdict.Pass decides.packet d.output decides.exact names decides.offers)
+answer-core us vs s before xs ys h order turn policy state state' output output' decided p (Ok code_verdict.Skip) laws tells front at back held within grows d names decides =
+    decided-goes us vs s before xs ys h order turn policy state state' output output' decided p laws front at back held within grows d
+    (took policy (progress_at (mk (xs ++ h ∷ ys) order policy state output decided) d.packets d.reports) before turn (record { offset = h.source.offset; packet = p }) output output' state' code_verdict.Skip decides.packet d.output decides.exact names decides.offers)
+answer-core us vs s before xs ys h order turn policy state state' output output' decided p (Ok code_verdict.PassLast) laws tells front at back held within grows d names decides =
+    let w : JobProgress = progress_at (mk (xs ++ h ∷ ys) order policy state output decided) d.packets d.reports in
+    let x : Placed = record { offset = h.source.offset; packet = p } in
+    let l = last-took policy w before turn x output output' state' decides.packet decides.exact names decides.offers d.output in
+    let stop = stops-course (us ++ s ∷ vs) (xs ++ h ∷ ys) order d.events (Packet turn x) policy (form_at output) w (course_spec.decide w state' (l.packet ∷ []) (Some Complete)) Complete
+    (next-true us vs s before xs ys h order turn policy state output decided p laws front at back held d) d.progress refl l.went refl in
+    record {
+      ends = ap (λ (v : JobProgress). v.end) stop;
+      written =
+          closing-some before output'.names (form_at output) output'.target (first_link (wholes_of (us ++ s ∷ vs))) (d.packets ++ l.packet ∷ []) d.reports (decided + 1) state' l.output l.form (some d.packets l.packet)
+          ∙ ap (λ (v : JobProgress). before ++ final_text (form_at output) (first_link (wholes_of (us ++ s ∷ vs))) v) (sym stop);
+      once = once-packet (first_link (wholes_of (us ++ s ∷ vs))) before w (progress_over (mk (xs ++ h ∷ ys) order policy state output decided) (wholes_of (us ++ s ∷ vs))) output output' l.packet d.output l.output l.form
+          (ap (λ (v : JobProgress). v.packets) stop) (ap (λ (v : JobProgress). v.reports) stop);
+      device = l.failures;
+    }
   where
     some : (ps : List Captured) (q : Captured) → 0 ≡ length (ps ++ q ∷ []) → ⊥
     some [] q e = absurd (omega (arith, e))
     some (x ∷ ps) q e = absurd (omega (arith, e))
 answer-core us vs s before xs ys h order turn policy state state' output output' decided p (Err fault) laws tells front at back held within grows d names decides =
     elim decides [
-      | inl j ↦ by_verdict_of j.answer j.packet j.exact j.offers
-      | inr j ↦
-          let e : fault ≡ j.fault = (let e = j.answer in cc) in
-          rw e (reject-leaves (us ++ s ∷ vs) before (xs ++ h ∷ ys) order turn policy state state' output decided failed x j.fault d ahead j.exact h here refl (ap₂ output_at names j.same) (never-device policy state state' (decided + 1) p j.fault j.exact))
+      | inl j ↦ by_verdict_of j.0 j.1.packet j.1.exact j.1.offers
+      | inr j ↦ reject-leaves (us ++ s ∷ vs) before (xs ++ h ∷ ys) order turn policy state state' output decided failed x fault d ahead j.exact h here refl (ap₂ output_at names j.same) (never-device policy state state' (decided + 1) p fault j.exact)
     ]
   where
     x : Placed
@@ -542,7 +537,7 @@ answer-core us vs s before xs ys h order turn policy state state' output output'
     answers : (q : Captured) → PassesAs (judge policy state (decided + 1) p).verdict q → AnswersNext d failed q
     answers q passes = λ taken bytes is. record {
       input = turn;
-      next = tells;
+      next = next-is-of (inputs_at order (xs ++ h ∷ ys)) (next.Decide turn) tells;
       cursor = h;
       among = here;
       packet = p;
@@ -558,13 +553,13 @@ answer-core us vs s before xs ys h order turn policy state state' output output'
     by_verdict_of : (v : code.Verdict) (q : Captured) → IsVerdict (judge policy state (decided + 1) p) (Ok v) q state' → Offers v q output.target (Err fault) output'.target → EndLeaves d (end_of_failed_write turn fault) failed
     by_verdict_of code_verdict.Pass q exact offers =
         unput-leaves (us ++ s ∷ vs) before (xs ++ h ∷ ys) order turn policy state state' output.names output.target decided failed x q None fault d ahead
-        (goes-by policy (form_at output) w turn x (Pass q) state' exact.0 exact.1) tells refl h here refl (let A : Verdict → Type 0 = λ v. PassesAs v q in subst A exact.0 refl) (answers q (let A : Verdict → Type 0 = λ v. PassesAs v q in subst A exact.0 refl)) offers
+        (goes-by policy (form_at output) w turn x (Pass q) state' exact.0 exact.1) (a_packet turn h p (next-is-of (inputs_at order (xs ++ h ∷ ys)) (next.Decide turn) tells) here held refl) h here refl (let A : Verdict → Type 0 = λ v. PassesAs v q in subst A exact.0 refl) (answers q (let A : Verdict → Type 0 = λ v. PassesAs v q in subst A exact.0 refl)) offers
     by_verdict_of code_verdict.PassLast q exact offers =
         unput-leaves (us ++ s ∷ vs) before (xs ++ h ∷ ys) order turn policy state state' output.names output.target decided failed x q (Some Complete) fault d ahead
-        (goes-by policy (form_at output) w turn x (PassLast q) state' exact.0 exact.1) tells refl h here refl (let A : Verdict → Type 0 = λ v. PassesAs v q in subst A exact.0 refl) (answers q (let A : Verdict → Type 0 = λ v. PassesAs v q in subst A exact.0 refl)) offers
+        (goes-by policy (form_at output) w turn x (PassLast q) state' exact.0 exact.1) (a_packet turn h p (next-is-of (inputs_at order (xs ++ h ∷ ys)) (next.Decide turn) tells) here held refl) h here refl (let A : Verdict → Type 0 = λ v. PassesAs v q in subst A exact.0 refl) (answers q (let A : Verdict → Type 0 = λ v. PassesAs v q in subst A exact.0 refl)) offers
     by_verdict_of code_verdict.Skip q exact offers = absurd (let e = offers.0 in cc)
 
-pub answer-leaves : (ss : List InputPast) (before : List ℕ) (cursors : List InputView) (order : PacketOrder) (policy : Policy) (state : SelectorState) (output : JobOutputView) (decided i : ℕ) (r : Result Bool Fault) (h : InputView) (selector' : PolicyState) (output' : JobOutputView)
+pub answer-leaves : (ss : List InputPast) (before : List ℕ) (cursors : List InputView) (order : PacketOrder) (policy : Policy) (state : SelectorState) (output : JobOutputView) (decided i : ℕ) (r : Result code.Verdict Fault) (h : InputView) (selector' : PolicyState) (output' : JobOutputView)
     → output'.names ≡ output.names → input_spec.IsNext (inputs_at order cursors) (next.Decide i) → IsInput cursors i h → selector'.policy ≡ policy → (state.passed ≤ decided + 1 → selector'.state.passed ≤ decided + 1) → GrowsByOne state.tally selector'.state.tally → decided ≤ most_steps
     → (state.passed < decided + 1 → FitsTally state.tally → DecidesPacket h.source.packet (decided + 1) (sieve (record { policy = policy; state = state }) output.target) r (sieve selector' output'.target))
     → (d : PacketsDecided ss before (mk cursors order policy state output decided))

@@ -1,13 +1,12 @@
 -- What the run of a job leaves, in terms of its call.
-use Rattle.std.proofs.Common.{◌≡◌, ◌⊎◌, inl, inr, ℕ, ◌+◌, ◌-◌, ◌≤◌, arith, Bool, true, false, List, [], ◌∷◌, ◌++◌, length, map, take, Option, None, Some, Ok, refl, sym, ◌∙◌, ap, subst}
+use Rattle.std.proofs.Common.{◌≡◌, inl, inr, ℕ, ◌+◌, ◌-◌, ◌≤◌, arith, Bool, false, List, [], ◌∷◌, ◌++◌, length, map, take, Option, None, Some, Ok, refl, sym, ◌∙◌, ap, subst}
 use Rattle.std.proofs.lemmas.List.{append-nil, length-map, length-set}
 use Rattle.std.proofs.lemmas.Option.{slice_get-map}
 use Rattle.std.specs.List.{slice_get}
 use Rattle.std.specs.Option.{option_map}
 use Rattle.cap_octet.specs.Device.{HasGiven, Stops}
-use Rattle.cap_octet.specs.Packet.{Captured}
 use Rattle.cap_octet.specs.declared.fault.Fault.{Fault}
-use Rattle.cap_io.specs.Capture.{Declared, Placed, kind_of}
+use Rattle.cap_io.specs.Capture.{Declared}
 use Rattle.cap_io.specs.Position.{ReadFailsAt, given_in_all}
 use Rattle.cap_io.specs.Reading.{decisive_length}
 use Rattle.cap_octet.specs.declared.link.Link.{Link}
@@ -21,35 +20,34 @@ use Rattle.cap_process.specs.Messages.{fault_message, refusal_message, write_fai
 use Rattle.cap_filter.specs.Refusals.{refusal_status}
 use Rattle.cap_octet.specs.Views.{OutputView, output_view}
 use Rattle.cap_process.specs.Messages.{IsTold}
-use Rattle.cap_tools.specs.Listing.{Runs}
+use Rattle.cap_tools.specs.inside.Listing.{Runs}
 use Rattle.cap_octet.specs.Views.{FreshInput}
 use Rattle.cap_inputs.specs.Fresh.{fresh_view, nothing_done}
 use Rattle.cap_inputs.specs.inside.Fresh.{fresh_limits}
 use Rattle.cap_inputs.specs.Inputs.{DeviceLimits, InputView, InputsView, InputPast, input_after, device_limits, limits_of, offset_at}
-use Rattle.cap_io.specs.Sequence.{InputItems, Event, Packet, InputEnd, SequenceEnd, Complete, FaultIn, PacketOrder, InTurn, ByTime, whole_input}
+use Rattle.cap_io.specs.Sequence.{InputItems, Event, SequenceEnd, Complete, FaultIn, whole_input}
 use Rattle.cap_process.specs.declared.output.Writing.{Writing}
 use Rattle.cap_process.specs.declared.output.Writing.TheVariants as writing
 use Rattle.cap_command.specs.Call.{Call, RunResult}
 use Rattle.cap_tools.proofs.CommandRuns.{RunsBy}
 use Rattle.cap_tools.proofs.Runs.{JobRuns}
-use Rattle.cap_tools.specs.FirstStep.{filtering, output_of, output_name}
+use Rattle.cap_tools.specs.FirstStep.{filtering}
+use Rattle.cap_tools.specs.inside.FirstStep.{output_of, output_name}
 use Rattle.cap_tools.specs.Jobs.{JobView, end_status, end_message, first_job}
 use Rattle.cap_tools.specs.declared.step.JobEnd.{JobEnd}
 use Rattle.cap_tools.specs.declared.step.JobEnd.TheVariants as end
 use Rattle.cap_io.specs.Source.{SourceView}
-use Rattle.cap_tools.specs.Packets.{JobState, PacketsDecided, CompletesOutput, EndLeaves, EndsByCut, NextPacket, NextReport, NextClosing, StopsWriting, WantsMemory, asks_report, failures_by, output_form, progress_of, texts, wholes_of, work_of, written_by}
-use Rattle.cap_process.specs.Outcome.{Form, Outcome, JobProgress, Work, IsNextEvent, apply_event, apply_verdict, closing_text, end_input, cut_at, decide, decide_unless, first_link, form_refuses, form_takes_memory, message, outcome, packet_bytes, job_progress_after, report_bytes, status, text_after, text_of_progress}
+use Rattle.cap_tools.specs.Packets.{JobState, PacketsDecided, CompletesOutput, EndLeaves, EndsByCut, Meets, StopsWriting, WantsMemory, a_packet, all_ends, an_end, failures_by, output_form, wholes_of, work_of, written_by}
+use Rattle.cap_tools.specs.inside.Packets.{texts}
+use Rattle.cap_process.specs.Outcome.{Outcome, JobProgress, Work, IsNextAnswer, NeedsMemory, cut_at, message, outcome, status, text_after, text_of_progress}
 use Rattle.cap_process.specs.Output.{failures_to, form_to, target_at, written_to}
 use Rattle.cap_process.specs.Reports.{name_at}
-use Rattle.cap_tools.specs.Run.{CommandRuns, HasCutInput, HasLackedMemory, HasLeft, HasLostOutput, IsNextAnswer, IsPolicy, IsWhyRefused, IsWork, by_end, by_event, ends, form_asked, input_cut, listing_answer, listing_outcome, next_judgement, no_memory, of_listing, of_packets, of_refusal, output_failed, packets_answer, refusal_outcome, whole_inputs}
+use Rattle.cap_tools.specs.Run.{CommandRuns, HasCutInput, HasLackedMemory, HasLeft, HasLostOutput, IsPolicy, IsWhyRefused, IsWork, ends, form_asked, input_cut, listing_answer, listing_outcome, no_memory, of_listing, of_packets, of_refusal, output_failed, packets_answer, refusal_outcome, whole_inputs}
 use Rattle.cap_tools.specs.Start.{Assignment, Preparing, ReadsFilter, Compiles}
 use Rattle.cap_filter.specs.FilterRules.{Rule}
 use Rattle.flt_bpf.specs.Content.{Content}
-use Rattle.cap_io.specs.declared.source.Kind.{Kind}
-use Rattle.cap_process.specs.Verdict.{Policy, Edit, Filter, KeepAll, Count, SelectorState, Verdict, Pass, PassLast, PassesAs, Skip, Refuse, judge}
+use Rattle.cap_process.specs.Verdict.{Filter}
 use Rattle.cap_tools.proofs.Ends.{offset-here, same-work}
-use Rattle.cap_tools.proofs.Once.{packet-more, report-more}
-use Rattle.cap_process.proofs.Outcomes.{progress-next}
 use Rattle.cap_process.proofs.Outputs.{drained-text}
 
 -- ---- the first view, by its call
@@ -144,72 +142,11 @@ fails-short input old new text done rest declared limits same failed =
     subst G (sym (ap (λ (l : DeviceLimits). l.sure) limits))
     (given-more old.sure new.given (input.given + length done + (decisive_length declared rest - 1)) (omega (arith, failed.few, in_all, ap length same)) failed.enough)
 
--- ---- what the next answer adds
-
--- a packet that passes
-passes-adds : (form : Form) (w : JobProgress) (i : ℕ) (x : Placed) (v : Verdict) (state : SelectorState) (q : Captured) → PassesAs v q → form_refuses form w.packets q ≡ None
-    → text_of_progress form (apply_verdict form w i x v state) ≡ text_of_progress form w ++ packet_bytes form w.packets q
-passes-adds form w i x (Pass p) state q is taken =
-    rw is (ap (λ (o : Option Fault). text_of_progress form (decide_unless o w i x (decide w state (q ∷ []) None))) taken ∙ packet-more form w.packets q w.reports)
-passes-adds form w i x (PassLast p) state q is taken =
-    rw is (ap (λ (o : Option Fault). text_of_progress form (decide_unless o w i x (decide w state (q ∷ []) (Some Complete)))) taken ∙ packet-more form w.packets q w.reports)
-passes-adds form w i x Skip state q is taken = absurd is
-passes-adds form w i x (Refuse fault) state q is taken = absurd is
-
--- a report
-report-adds : (order : PacketOrder) (policy : Policy) (form : Form) (w : JobProgress) (i : ℕ) (kind : Option Kind) (size : ℕ) → asks_report order policy ≡ true
-    → text_of_progress form (end_input policy w i kind size) ≡ text_of_progress form w ++ report_bytes form (record { input = i; kind = kind; size = size; tally = w.state.tally })
-report-adds ByTime policy form w i kind size asks = (cc)
-report-adds InTurn Count form w i kind size asks = report-more form w.packets w.reports (record { input = i; kind = kind; size = size; tally = w.state.tally })
-report-adds InTurn (Edit s) form w i kind size asks = (cc)
-report-adds InTurn (Filter rule count) form w i kind size asks = (cc)
-report-adds InTurn KeepAll form w i kind size asks = (cc)
-
-next-answer : (ss : List InputPast) (before : List ℕ) (old new : JobState) (bytes : List ℕ) (d : PacketsDecided ss before old) → NextPacket d new bytes ⊎ NextReport d new bytes ⊎ NextClosing d new bytes
-    → IsNextAnswer (work_of old) (wholes_of ss) (text_after (work_of old) d.events) bytes
-next-answer ss before old new bytes d next =
-    elim next [
-      | inl packet ↦
-          let x : Placed = record { offset = packet.cursor.source.offset; packet = packet.packet } in
-          by_event d.events (Packet packet.input x) packet.comes refl
-          (following-one (Packet packet.input x)
-          ∙ passes-adds form w packet.input x (judge old.policy old.state (old.decided + 1) packet.packet).verdict (judge old.policy old.state (old.decided + 1) packet.packet).state packet.passed packet.passes packet.taken
-          ∙ joins (sym packet.bytes_are))
-      | inr other ↦ elim other [
-        | inl report ↦
-            let kind : Option Kind = kind_of report.fetches.source.declared in
-            let size : ℕ = report.fetches.source.offset in
-            by_event d.events (InputEnd report.input kind size) report.comes refl
-            (following-one (InputEnd report.input kind size)
-            ∙ report-adds old.inputs.order old.policy form w report.input kind size report.policy
-            ∙ joins (sym report.bytes_are))
-        | inr closing ↦ by_end d.events closing.comes refl (closing.bytes_are ∙ ap (λ (v : JobProgress). closing_text form (first_link (wholes_of ss)) v.packets) (sym d.progress))
-      ]
-    ]
-  where
-    form : Form
-    form = output_form old
-
-    w : JobProgress
-    w = progress_of d
-
-    following-one : (e : Event) → text_after (work_of old) (d.events ++ e ∷ []) ≡ text_of_progress form (apply_event old.policy form w e)
-    following-one e = ap (text_of_progress form) (progress-next old.policy form d.events e w (apply_event old.policy form w e) d.progress refl)
-
-    joins : {added : List ℕ} → added ≡ bytes → text_of_progress form w ++ added ≡ text_after (work_of old) d.events ++ bytes
-    joins {added} is = ap (λ (l : List ℕ). text_of_progress form w ++ l) is ∙ ap (λ (v : JobProgress). text_of_progress form v ++ bytes) (sym d.progress)
-
 -- the inputs are as many as before
-same-count : (ss : List InputPast) (before : List ℕ) (old new : JobState) (bytes : List ℕ) (d : PacketsDecided ss before old) → NextPacket d new bytes ⊎ NextReport d new bytes ⊎ NextClosing d new bytes
-    → length new.inputs.cursors ≡ length old.inputs.cursors
-same-count ss before old new bytes d next =
-    elim next [
-      | inl packet ↦ ap (λ (f : InputsView). length f.cursors) packet.inputs
-      | inr other ↦ elim other [
-        | inl report ↦ ap (λ (f : InputsView). length f.cursors) report.fetches.is ∙ length-set old.inputs.cursors report.input (input_after report.fetches.cursor (Ok false) report.fetches.source)
-        | inr closing ↦ ap (λ (f : InputsView). length f.cursors) closing.inputs
-      ]
-    ]
+same-count : (old new : InputsView) {e : Option Event} → Meets old new e → length new.cursors ≡ length old.cursors
+same-count old new (a_packet i cursor p next among held same) = ap (λ (f : InputsView). length f.cursors) same
+same-count old new (an_end i next read) = ap (λ (f : InputsView). length f.cursors) read.is ∙ length-set old.cursors i (input_after read.cursor (Ok false) read.source)
+same-count old new (all_ends next same) = ap (λ (f : InputsView). length f.cursors) same
 
 -- ---- a job with packets
 
@@ -311,24 +248,13 @@ packets-run asked call first r b runs = by_end runs.end refl runs.leaves
 
     lacks-memory : (input : ℕ) (fault : Fault) (after : SourceView) → runs.end ≡ end.FaultIn input fault → offset_at runs.last.inputs.cursors input ≡ after.offset → WantsMemory d runs.last input fault after → HasLackedMemory call w r
     lacks-memory input fault after is place wants =
-        let e : Event = Packet input wants.packet in
-        let V : Work → Type 0 = λ v. IsNextEvent v (wholes_of runs.progress.past) d.events e in
-        let L : List InputItems → Type 0 = λ l. IsNextEvent w l d.events e in
-        let G : JobProgress → Type 0 = λ v. PassesAs (judge old.policy v.state (v.decided + 1) wants.packet.packet).verdict wants.kept in
-        let F : JobProgress → Type 0 = λ v. form_refuses (output_form old) v.packets wants.kept ≡ None in
-        let R : Work → Type 0 = λ v. form_refuses v.form (job_progress_after v d.events).packets wants.kept ≡ None in
-        let M : JobProgress → Type 0 = λ v. form_takes_memory (output_form old) v.packets wants.kept ≡ true in
-        let T : Work → Type 0 = λ v. form_takes_memory v.form (job_progress_after v d.events).packets wants.kept ≡ true in
-        let J : Work → Type 0 = λ v. PassesAs (next_judgement v d.events wants.packet.packet).verdict wants.kept in
+        let V : Work → Type 0 = λ v. NeedsMemory v (wholes_of runs.progress.past) d.events input wants.packet in
+        let L : List InputItems → Type 0 = λ l. NeedsMemory w l d.events input wants.packet in
         record {
           events = d.events;
           input = input;
           packet = wants.packet;
-          next = subst L wholes-are (subst V work-is wants.comes);
-          kept = wants.kept;
-          passes = subst J work-is (subst G (sym d.progress) wants.passes);
-          taken = subst R work-is (subst F (sym d.progress) wants.taken);
-          takes = subst T work-is (subst M (sym d.progress) wants.takes);
+          needs = subst L wholes-are (subst V work-is wants.needs);
           output = runs.written ∙ wants.written ∙ so-far;
           failures = runs.failures ∙ wants.device ∙ unfailed;
           message = reported (says input fault wants.packet.offset is (place ∙ wants.place)
@@ -340,19 +266,19 @@ packets-run asked call first r b runs = by_end runs.end refl runs.leaves
     loses-output : runs.end ≡ end.OutputFailed → StopsWriting d runs.last → HasLostOutput asked call r
     loses-output is stops =
         let bytes : List ℕ = stops.bytes in
-        let V : Work → Type 0 = λ v. IsNextAnswer v (wholes_of runs.progress.past) (text_after v d.events) bytes in
-        let L : List InputItems → Type 0 = λ l. IsNextAnswer w l (text_after w d.events) bytes in
+        let V : Work → Type 0 = λ v. IsNextAnswer v (wholes_of runs.progress.past) d.events stops.event bytes in
+        let L : List InputItems → Type 0 = λ l. IsNextAnswer w l d.events stops.event bytes in
         let S : List ℕ → Type 0 = λ l. Stops l bytes (written_by runs.last) in
         let R : List ℕ → Type 0 = λ l. Stops (before ++ text_after w d.events) bytes l in
         let count : length runs.last.inputs.cursors ≡ length call.inputs =
-        same-count runs.progress.past before old runs.last bytes d stops.answer
+        same-count old.inputs runs.last.inputs stops.met
         ∙ sym (length-map old.inputs.cursors (λ (h : InputView). limits_of h.source))
         ∙ ap length (runs.progress.limits ∙ b.limits)
         ∙ length-map call.inputs fresh_limits in
         record {
           written = text_after w d.events;
           bytes = bytes;
-          answer = packets_answer w b.work (subst L wholes-are (subst V work-is (next-answer runs.progress.past before old runs.last bytes d stops.answer)));
+          answer = packets_answer w b.work d.events stops.event refl (subst L wholes-are (subst V work-is stops.answer));
           stops = subst R (sym runs.written) (subst S so-far stops.stops);
           failures = runs.failures ∙ stops.failures ∙ ap (λ n. n + 1) unfailed;
           message = reported (ap (end_message names runs.last.inputs.cursors) is

@@ -1,14 +1,14 @@
 -- All steps of a command's job.
-use Rattle.std.proofs.Common.{◌≡◌, ◌⊎◌, inl, inr, ℕ, List, [], Bool, IsTrue, Option, None, Some, refl, sym, ◌∙◌, ap, subst}
-use Rattle.cap_process.specs.Messages.{refusal_message}
+use Rattle.std.proofs.Common.{◌≡◌, ◌⊎◌, inl, inr, ℕ, List, [], Bool, IsTrue, Option, None, Some, Ok, refl, sym, ◌∙◌, ap, subst, add-zero}
+use Rattle.std.proofs.lemmas.List.{append-nil}
+use Rattle.cap_process.specs.Messages.{refusal_message, write_failed_message}
 use Rattle.flt_bpf.specs.Content.{Content}
 use Rattle.cap_filter.specs.FilterRules.{Rule, IsRule, IsWhy}
 use Rattle.cap_filter.specs.Filters.{AreNew}
 use Rattle.cap_octet.specs.Views.{OutputView, output_view}
 use Rattle.cap_process.specs.Messages.{IsTold}
-use Rattle.cap_tools.specs.Listing.{Runs}
+use Rattle.cap_tools.specs.inside.Listing.{Runs, ListingLeaves}
 use Rattle.cap_tools.proofs.Compilations.{CompileLeaves}
-use Rattle.cap_tools.specs.Listing.{ListingLeaves}
 use Rattle.cap_filter.specs.declared.refusal.Refusal.{Refusal}
 use Rattle.cap_filter.specs.declared.refusal.Refusal.TheVariants.{Expression}
 use Rattle.cap_filter.specs.Refusals.{refusal_status}
@@ -21,7 +21,8 @@ use Rattle.cap_inputs.specs.Inputs.{InputPast}
 use Rattle.cap_tools.specs.Packets.{written_by, failures_by}
 use Rattle.cap_command.specs.Call.{RunResult}
 use Rattle.cap_tools.specs.Jobs.{JobView, Decided, JobGives, EndsJob, end_message}
-use Rattle.cap_tools.specs.FirstStep.{filtering, output_of, output_name}
+use Rattle.cap_tools.specs.FirstStep.{filtering}
+use Rattle.cap_tools.specs.inside.FirstStep.{output_of, output_name}
 use Rattle.cap_tools.specs.Start.{FilterAsked, Preparing, ReadsFilter, Compiles}
 use Rattle.cap_tools.specs.Commands.{CompileGives, DecidedBy, FilterGives, ListsSome, PreparesBy, RefusesExpression}
 use Rattle.cap_tools.proofs.Runs.{IsUnderWay, JobRuns, goes-on}
@@ -98,7 +99,7 @@ pub data Under (first : JobView) (ss : List InputPast) (before : List ℕ) (job 
   goes : job.preparing ≡ None → IsOn first.preparing first ss before job → Under first ss before job
 
 abbrev start-progress : (ss : List InputPast) (before : List ℕ) (j : JobView) → Decided ss before j → IsUnderWay ss before j j
-start-progress ss before j d = record { past = ss; texts = refl; decided = d; policy = refl; form = refl; output = refl; names = refl; order = refl; limits = refl }
+start-progress ss before j d = record { past = ss; texts = refl; decided = d; policy = refl; form = refl; output = refl; order = refl; limits = refl }
 
 first-more : (tells : Bool) (p : Option Preparing) (old new : JobView) (ss : List InputPast) (before : List ℕ) → Gives p tells old turn.More new → DecidedBy p ss before old → new.done ≡ None → new.state.output.names ≡ old.state.output.names
     → (p ≡ None → new.state.policy ≡ old.state.policy) → IsOn p old ss before new
@@ -171,14 +172,27 @@ output-is new out written failures = ap (λ (w : List ℕ). output_view w out.fa
 listed : (tells : Bool) (words : List ℕ) (link : Link) (old new : JobView) (r : RunResult) → r.output ≡ output_of new → r.messages ≡ new.err → ListsSome words link tells old r.status new
     → Runs (λ message. CompileLeaves words link (output_name old) (output_of old) r.output message r.status) tells old.err r.messages
 listed tells words link old new r same is some =
-    let L : OutputView → Type 0 = λ v. ListingLeaves some.prog (output_name old) (output_of old) v r.status some.lists.runs.message in
-    let T : OutputView → Type 0 = λ v. IsTold tells old.err some.lists.runs.message v in
-    record {
-      message = some.lists.runs.message;
-      left = inl (record { prog = some.prog; compiled = some.compiled; listed = subst L (sym same) some.lists.runs.left });
-      exact = subst T (sym is) some.lists.runs.exact;
-      quiet = λ none. is ∙ some.lists.runs.quiet none;
-    }
+    elim some.lists [
+      | inl whole ↦
+          let L : OutputView → Type 0 = λ v. ListingLeaves some.prog (output_name old) (output_of old) v r.status [] in
+          let T : OutputView → Type 0 = λ v. IsTold tells old.err [] v in
+          record {
+            message = [];
+            left = inl (record { prog = some.prog; compiled = some.compiled; listed = subst L (sym same) (inl (record { written = whole.written; device = whole.failures; exact = refl; answered = whole.status_is })) });
+            exact = subst T (sym (is ∙ whole.quiet)) (record { answer = Ok tt; exact = λ te. sym (append-nil old.err.written); counted = sym (add-zero old.err.failures) });
+            quiet = λ none. is ∙ whole.quiet;
+          }
+      | inr failed ↦
+          let message : List ℕ = write_failed_message (output_name old) in
+          let L : OutputView → Type 0 = λ v. ListingLeaves some.prog (output_name old) (output_of old) v r.status message in
+          let T : OutputView → Type 0 = λ v. IsTold tells old.err message v in
+          record {
+            message = message;
+            left = inl (record { prog = some.prog; compiled = some.compiled; listed = subst L (sym same) (inr (record { failures = failed.failures; count = failed.stops.0; within = failed.stops.1; written = failed.stops.2; exact = refl; answered = failed.status_is })) });
+            exact = subst T (sym is) failed.exact;
+            quiet = λ none. (cc);
+          }
+    ]
 
 -- a refusal has something to report
 never-silent : (fault : ExprFault) → refusal_message (Expression fault) ≡ [] → ⊥

@@ -1,11 +1,11 @@
 -- The job of a command of which nothing is done.
 use Rattle.std.proofs.Common.{◌≡◌, inl, inr, ℕ, ◌+◌, ◌≤◌, Bool, true, not, List, [], ◌++◌, map, length, take, None, Option, Ok, Err, refl, sym, ap, arith, subst, ◌∙◌, nat_eq, nat_le, ◌&&◌, add-zero}
 use Rattle.std.proofs.lemmas.List.{append-nil}
-use Rattle.cap_octet.specs.declared.device.Stopped.{Stopped}
+use Rattle.cap_octet.specs.declared.device.DeviceFault.{DeviceFault}
 use Rattle.flt_bpf.specs.Listing.{listing}
 use Rattle.cap_process.specs.Messages.{write_failed_message}
 use Rattle.cap_process.specs.Output.{Target, Capture, Text, Lines, output_at, target_at, written_to, failures_to}
-use Rattle.cap_process.specs.inside.Output.{ListsText}
+use Rattle.cap_process.specs.inside.Output.{Reports, is_text}
 use Rattle.cap_process.specs.Reports.{name_at, nothing_counted}
 use Rattle.cap_tools.specs.Packets.{JobState, written_by}
 use Rattle.cap_tools.specs.Messages.{MessagesView}
@@ -14,10 +14,9 @@ use Rattle.cap_command.specs.Command.{is_proper, is_proper_edit, is_proper_print
 use Rattle.cap_command.specs.declared.command.Command.{Command}
 use Rattle.cap_command.specs.declared.command.Command.TheVariants as command
 use Rattle.cap_filter.specs.Compilation.{IsCompiled}
-use Rattle.cap_tools.specs.Listing.{ListingLeaves}
+use Rattle.cap_tools.specs.inside.Listing.{ListingLeaves, Runs}
 use Rattle.cap_octet.specs.Views.{OutputView}
 use Rattle.cap_process.specs.Messages.{IsTold}
-use Rattle.cap_tools.specs.Listing.{Runs}
 use Rattle.flt_bpf.specs.declared.insn.Insn.{Insn}
 use Rattle.cap_octet.specs.declared.link.Link.{Link}
 use Rattle.cap_tools.specs.declared.job.Turn.{Turn}
@@ -31,11 +30,11 @@ use Rattle.cap_inputs.specs.Fresh.{fresh_inputs, nothing_done}
 use Rattle.cap_io.specs.Sequence.{order_of}
 use Rattle.cap_tools.specs.declared.step.JobEnd.TheVariants as end
 use Rattle.cap_inputs.specs.Inputs.{InputsView}
-use Rattle.cap_tools.specs.FirstStep.{output_by}
-use Rattle.cap_tools.specs.inside.FirstStep.{EndsList, is_text}
+use Rattle.cap_tools.specs.inside.FirstStep.{output_by, EndsList}
 use Rattle.cap_tools.specs.inside.Step.{ending}
 use Rattle.cap_tools.specs.Start.{Assignment, FilterAsked, Preparing, assignment}
-use Rattle.cap_process.specs.Selector.{SelectorView, state_with}
+use Rattle.cap_process.specs.Selector.{SelectorView}
+use Rattle.cap_process.specs.inside.Selector.{state_with}
 use Rattle.cap_tools.specs.Commands.{CompileGives, DecidedBy, FilterGives, PreparesOnly}
 use Rattle.cap_tools.specs.inside.Commands.{IsReadyIf, with_preparing}
 use Rattle.cap_tools.proofs.CommandRuns.{RunsBy, RunsCommand}
@@ -48,7 +47,14 @@ lists-some tells words link prog old new (turn.Done status) compiled lists = inl
 
 pub compile-gives : (words : List ℕ) (link : Link) (tells : Bool) (p : Option Preparing) (old : JobView) (r : Turn) (new : JobView) → CompileGives words link tells (with_preparing p old) r new → CompileGives words link tells old r new
 compile-gives words link tells p old turn.More new gives = gives
-compile-gives words link tells p old (turn.Done status) new (inl some) = inl (record { prog = some.prog; compiled = some.compiled; lists = record { runs = some.lists.runs } })
+compile-gives words link tells p old (turn.Done status) new (inl some) = inl (record {
+  prog = some.prog;
+  compiled = some.compiled;
+  lists = elim some.lists [
+    | inl listed ↦ inl (record { written = listed.written; failures = listed.failures; quiet = listed.quiet; status_is = listed.status_is })
+    | inr failed ↦ inr (record { stops = failed.stops; failures = failed.failures; exact = failed.exact; status_is = failed.status_is })
+  ];
+})
 compile-gives words link tells p old (turn.Done status) new (inr none) = inr (record { fault = none.fault; why = none.why; refuses = record { status_is = none.refuses.status_is; exact = none.refuses.exact; new_is = none.refuses.new_is } })
 
 pub filter-gives : (asked : FilterAsked) (tells : Bool) (p : Option Preparing) (old : JobView) (r : Turn) (new : JobView) → FilterGives asked tells (with_preparing p old) r new → FilterGives asked tells old r new
@@ -118,10 +124,10 @@ abbrev ListsInto : List Insn → Bool → JobState → OutputView → ℕ → Jo
 ListsInto insns tells old err status new err' =
     Runs (ListingLeaves insns (name_at old.output.names (length old.inputs.cursors)) (output_by old) (output_by new) status) tells err err'
 
-pub lists-ok : (insns : List Insn) (tells : Bool) (old new : JobState) (err : OutputView) → is_text old.output.target ≡ true → ListsText (listing insns) old.output.target (Ok tt) new.output.target → ListsInto insns tells old err 0 new err
+pub lists-ok : (insns : List Insn) (tells : Bool) (old new : JobState) (err : OutputView) → is_text old.output.target ≡ true → Reports (listing insns) old.output.target (Ok tt) new.output.target → ListsInto insns tells old err 0 new err
 lists-ok insns tells old new err text lists = by_target old.output.target refl text lists
   where
-    by_target : (t : Target) → old.output.target ≡ t → is_text t ≡ true → ListsText (listing insns) t (Ok tt) new.output.target → ListsInto insns tells old err 0 new err
+    by_target : (t : Target) → old.output.target ≡ t → is_text t ≡ true → Reports (listing insns) t (Ok tt) new.output.target → ListsInto insns tells old err 0 new err
     by_target (Capture sink) is text to = absurd (let e = text in cc)
     by_target (Lines options written failures room) is text to = absurd (let e = text in cc)
     by_target (Text written failures room) is text to =
@@ -134,11 +140,11 @@ lists-ok insns tells old new err text lists = by_target old.output.target refl t
           exact = record { answer = Ok tt; exact = λ te. sym (append-nil err.written); counted = sym (add-zero err.failures) };
         }
 
-pub lists-err : (insns : List Insn) (tells : Bool) (old new : JobState) (stopped : Stopped) (err err' : OutputView) → is_text old.output.target ≡ true → ListsText (listing insns) old.output.target (Err stopped) new.output.target
+pub lists-err : (insns : List Insn) (tells : Bool) (old new : JobState) (failed : DeviceFault) (err err' : OutputView) → is_text old.output.target ≡ true → Reports (listing insns) old.output.target (Err failed) new.output.target
     → IsTold tells err (write_failed_message (name_at old.output.names (length old.inputs.cursors))) err' → ListsInto insns tells old err 1 new err'
-lists-err insns tells old new stopped err err' text lists exact = by_target old.output.target refl text lists
+lists-err insns tells old new failed err err' text lists exact = by_target old.output.target refl text lists
   where
-    by_target : (t : Target) → old.output.target ≡ t → is_text t ≡ true → ListsText (listing insns) t (Err stopped) new.output.target → ListsInto insns tells old err 1 new err'
+    by_target : (t : Target) → old.output.target ≡ t → is_text t ≡ true → Reports (listing insns) t (Err failed) new.output.target → ListsInto insns tells old err 1 new err'
     by_target (Capture sink) is text to = absurd (let e = text in cc)
     by_target (Lines options written failures room) is text to = absurd (let e = text in cc)
     by_target (Text written failures room) is text to =
@@ -158,18 +164,28 @@ lists-err insns tells old new stopped err err' text lists exact = by_target old.
           quiet = λ none. (cc);
         }
 
-pub listed-ok : (insns : List Insn) (tells : Bool) (old mid new : JobView) → is_text old.state.output.target ≡ true → ListsText (listing insns) old.state.output.target (Ok tt) mid.state.output.target → mid.err ≡ old.err
+-- in terms of the job
+lists-told : (insns : List Insn) (tells : Bool) (old new : JobView) (status : ℕ) → ListsInto insns tells old.state old.err status new.state new.err → EndsList insns tells old (turn.Done status) new
+lists-told insns tells old new status runs =
+    elim runs.left [
+      | inl listed ↦ inl (record { written = listed.written; failures = listed.device; quiet = runs.quiet listed.exact; status_is = listed.answered })
+      | inr failed ↦
+          let T : List ℕ → Type 0 = λ m. IsTold tells old.err m new.err in
+          inr (record { stops = (failed.count, failed.within, failed.written); failures = failed.failures; exact = subst T failed.exact runs.exact; status_is = failed.answered })
+    ]
+
+pub listed-ok : (insns : List Insn) (tells : Bool) (old mid new : JobView) → is_text old.state.output.target ≡ true → Reports (listing insns) old.state.output.target (Ok tt) mid.state.output.target → mid.err ≡ old.err
     → new ≡ ending end.Complete new.err mid → new.err ≡ mid.err → EndsList insns tells old (turn.Done 0) new
 listed-ok insns tells old mid new text lists same is quiet =
     let M : JobState → Type 0 = λ m. ListsInto insns tells old.state old.err 0 m old.err in
     let E : OutputView → Type 0 = λ v. ListsInto insns tells old.state old.err 0 new.state v in
-    record { runs = subst E (sym (quiet ∙ same)) (subst M (sym (ap (λ (j : JobView). j.state) is)) (lists-ok insns tells old.state mid.state old.err text lists)) }
+    lists-told insns tells old new 0 (subst E (sym (quiet ∙ same)) (subst M (sym (ap (λ (j : JobView). j.state) is)) (lists-ok insns tells old.state mid.state old.err text lists)))
 
-pub listed-err : (insns : List Insn) (tells : Bool) (old mid new : JobView) (stopped : Stopped) → is_text old.state.output.target ≡ true → ListsText (listing insns) old.state.output.target (Err stopped) mid.state.output.target → mid.state.output.names ≡ old.state.output.names → mid.err ≡ old.err → mid.state.inputs ≡ old.state.inputs
+pub listed-err : (insns : List Insn) (tells : Bool) (old mid new : JobView) (failed : DeviceFault) → is_text old.state.output.target ≡ true → Reports (listing insns) old.state.output.target (Err failed) mid.state.output.target → mid.state.output.names ≡ old.state.output.names → mid.err ≡ old.err → mid.state.inputs ≡ old.state.inputs
     → new ≡ ending end.OutputFailed new.err mid → IsTold tells mid.err (end_message mid.state.output.names mid.state.inputs.cursors end.OutputFailed) new.err → EndsList insns tells old (turn.Done 1) new
-listed-err insns tells old mid new stopped text lists names same inputs is exact =
+listed-err insns tells old mid new failed text lists names same inputs is exact =
     let M : JobState → Type 0 = λ m. ListsInto insns tells old.state old.err 1 m new.err in
     let N : List (List ℕ) → Type 0 = λ l. IsTold tells mid.err (write_failed_message (name_at l (length mid.state.inputs.cursors))) new.err in
     let C : InputsView → Type 0 = λ f. IsTold tells mid.err (write_failed_message (name_at old.state.output.names (length f.cursors))) new.err in
     let F : OutputView → Type 0 = λ v. IsTold tells v (write_failed_message (name_at old.state.output.names (length old.state.inputs.cursors))) new.err in
-    record { runs = subst M (sym (ap (λ (j : JobView). j.state) is)) (lists-err insns tells old.state mid.state stopped old.err new.err text lists (subst F same (subst C inputs (subst N names exact)))) }
+    lists-told insns tells old new 1 (subst M (sym (ap (λ (j : JobView). j.state) is)) (lists-err insns tells old.state mid.state failed old.err new.err text lists (subst F same (subst C inputs (subst N names exact)))))

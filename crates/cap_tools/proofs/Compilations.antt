@@ -9,7 +9,7 @@ use Rattle.cap_filter.specs.Compilation.{IsCompiled}
 use Rattle.cap_filter.specs.Expressions.{IsTextFault}
 use Rattle.cap_filter.specs.Refusals.{refusal_status}
 use Rattle.cap_process.specs.Messages.{refusal_message}
-use Rattle.cap_tools.specs.Listing.{ListingLeaves}
+use Rattle.cap_tools.specs.inside.Listing.{ListingLeaves}
 
 -- The output is as it was, and this is reported.
 pub record OnlyTells (text : List ℕ) (answer : ℕ) (out out' : OutputView) (message : List ℕ)

@@ -11,7 +11,8 @@ use Rattle.cap_process.specs.Outcome.{Form}
 use Rattle.cap_inputs.specs.Inputs.{InputView, InputPast}
 use Rattle.cap_tools.specs.Packets.{JobState, StepGives, output_form, work_of}
 use Rattle.cap_tools.specs.Jobs.{JobView, EndsJob, end_message, end_status}
-use Rattle.cap_inputs.specs.Inputs.{offset_at, offset_of}
+use Rattle.cap_inputs.specs.Inputs.{offset_at}
+use Rattle.cap_inputs.specs.inside.Inputs.{offset_of}
 use Rattle.cap_tools.specs.inside.Step.{IsStep, ending}
 use Rattle.cap_tools.proofs.Runs.{IsUnderWay}
 

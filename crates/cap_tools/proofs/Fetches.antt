@@ -20,13 +20,14 @@ use Rattle.cap_process.specs.inside.Selector as selecting_inside
 use Rattle.cap_process.specs.Selector.{IsWithin, is_count}
 use Rattle.cap_process.specs.inside.Selector.{PolicyState, with_empty_tally}
 use Rattle.cap_process.specs.Outcome.{Form, AsReports, JobProgress, cut_at, no_progress, apply_events, final_progress, end_with, final_text, output_text, text_at_end, first_link}
-use Rattle.cap_process.specs.Output.{JobOutputView, Target, Capture, Text, Lines, HasWritten, form_at, written_to, failures_to}
-use Rattle.cap_process.specs.inside.Output.{Reports}
-use Rattle.cap_inputs.specs.Inputs.{InputView, InputsView, Future, InputPast, AreInputsAfter, AreSettled, IsInput, ReadsInput, IsNext, waiting_packets, input_after, input_items, inputs_with, inputs_left, limits_of, sequence_left}
-use Rattle.cap_inputs.specs.inside.Inputs.{actual_future, is_in_turn}
+use Rattle.cap_process.specs.Output.{JobOutputView, Target, Capture, Text, Lines, written_to, failures_to}
+use Rattle.cap_process.specs.inside.Output.{HasWritten, form_at, Reports}
+use Rattle.cap_inputs.specs.Inputs.{InputView, InputsView, Future, InputPast, AreInputsAfter, AreSettled, IsInput, ReadsInput, waiting_packets, input_after, input_items, inputs_with, inputs_left, limits_of, sequence_left}
+use Rattle.cap_inputs.specs.inside.Inputs.{IsNext, actual_future, is_in_turn}
 use Rattle.cap_process.specs.Reports.{report_text, reports_text}
-use Rattle.cap_tools.specs.Packets.{JobState, AppendsOnce, PacketsDecided, GoesOn, CompletesOutput, BreaksAt, WhyBroken, StopsWriting, StepLeaves, asks_report, report_at, progress_at, progress_of, progress_over, output_form, failures_by, written_by, wholes_of}
-use Rattle.cap_tools.specs.inside.Packets.{Closes, ClosesBy, unless_failed, sieve}
+use Rattle.cap_tools.specs.Packets.{JobState, AppendsOnce, PacketsDecided, GoesOn, CompletesOutput, BreaksAt, WhyBroken, StopsWriting, StepLeaves, asks_report, progress_at, progress_of, progress_over, output_form, failures_by, written_by, wholes_of}
+use Rattle.cap_tools.specs.inside.Packets.{Closes, ClosesBy, unless_failed, sieve, report_at}
+use Rattle.cap_tools.proofs.Nexts.{told-next}
 use Rattle.cap_tools.proofs.Places.{get-at}
 use Rattle.cap_tools.proofs.Splits.{At, Fit, stands-split, stands-join, stands-length, fits-join, wholes-join, rests-join, finish-here, come-on}
 use Rattle.cap_tools.proofs.Coming.{carries-found, carries-closed, come-first, true-wholes, true-fits, finds}
@@ -36,6 +37,7 @@ use Rattle.cap_tools.proofs.Laws.{ReadLaws, ReadAt, closed_in, read-at}
 use Rattle.cap_tools.proofs.Once.{once-nothing, once-report}
 use Rattle.cap_process.proofs.Outcomes.{progress-append, course-close}
 use Rattle.cap_inputs.proofs.Cursors.{greatest-here, greatest-same, limits-at, limits-kept, set-here}
+use Rattle.cap_inputs.proofs.Nexts.{next-is-of}
 
 abbrev pub inputs_at : PacketOrder → List InputView → InputsView
 inputs_at order cursors = record { order = order; cursors = cursors }
@@ -94,7 +96,6 @@ found-goes us vs s before xs ys h s' order turn policy state output decided laws
       form = refl;
       once = once-nothing (first_link (wholes_of (us ++ s ∷ vs))) (progress_of d) (progress_at new d.packets d.reports) output output refl refl refl;
       output = refl;
-      names = refl;
       order = refl;
       limits = limits-at xs ys h (input_after h (Ok true) s') limits;
     }
@@ -133,10 +134,10 @@ closed-goes : (us vs : List InputPast) (s : InputPast) (before : List ℕ) (xs y
     → (d : PacketsDecided (us ++ s ∷ vs) before (mk (xs ++ h ∷ ys) order policy state output decided))
     → closed_in order policy (progress_at (mk (xs ++ h ∷ ys) order policy state output decided) d.packets d.reports) turn (kind_of s'.declared) s'.offset
     ≡ record { decided = decided; state = state'; packets = d.packets; reports = reports; end = None }
-    → HasWritten before output' d.packets reports → AppendsOnce (first_link (wholes_of (us ++ s ∷ vs))) (progress_of d) (record { decided = decided; state = state'; packets = d.packets; reports = reports; end = None }) output output' → form_at output' ≡ form_at output → failures_to output'.target ≡ failures_to output.target → output'.names ≡ output.names
+    → HasWritten before output' d.packets reports → AppendsOnce (first_link (wholes_of (us ++ s ∷ vs))) (progress_of d) (record { decided = decided; state = state'; packets = d.packets; reports = reports; end = None }) output output' → form_at output' ≡ form_at output → failures_to output'.target ≡ failures_to output.target
     → state'.passed ≤ decided → IsWithin decided state'.tally
     → GoesOn d (mk (xs ++ input_after h (Ok false) s' ∷ ys) order policy state' output' decided)
-closed-goes us vs s before xs ys h s' order turn policy state output decided state' output' reports laws front at back advances limits d goes final_text once form failures names passed counted =
+closed-goes us vs s before xs ys h s' order turn policy state output decided state' output' reports laws front at back advances limits d goes final_text once form failures passed counted =
     let found : FindsEnd h.source s' = finds s h s' (Ok false) at laws.waits advances in
     let out = closed-out us vs s before xs ys h s' order turn policy state output decided laws front at back advances found d in
     let w : JobProgress = progress_at (mk (xs ++ h ∷ ys) order policy state output decided) d.packets d.reports in
@@ -166,7 +167,6 @@ closed-goes us vs s before xs ys h s' order turn policy state output decided sta
       form = form;
       once = once;
       output = failures;
-      names = names;
       order = refl;
       limits = limits-at xs ys h (input_after h (Ok false) s') limits;
     }
@@ -236,7 +236,7 @@ broken-ends us vs s before xs ys h s' fault order turn policy state output decid
         among = get-at us vs s turn (stands-length us xs front ∙ laws.here);
         cursor = h;
         cursor_is = get-at xs ys h turn laws.here;
-        next = tells;
+        next = next-is-of (inputs_at order (xs ++ h ∷ ys)) (next.Read turn) tells;
         advances = advances;
         held = record { packets = s.packets; declared = s'.declared; ending = FaultAt fault s'.offset };
         cut = cut.cut;
@@ -354,22 +354,27 @@ report-stops us vs s before xs ys h s' order turn policy state names (Text bytes
       steps = steps;
       is = ap (λ (l : List InputView). record { order = order; cursors = l }) (sym (set-here xs ys h h' turn laws.here));
     } in
+    let told = told-next (us ++ s ∷ vs) before (mk (xs ++ h ∷ ys) order policy state output decided) (mk hs' order policy state' output' decided) own d (
+    inr (inl (record {
+      input = turn;
+      next = next-is-of (inputs_at order (xs ++ h ∷ ys)) (next.Read turn) tells;
+      fetches = fetched;
+      comes = record {
+        later = (sequence_left order hs' (inputs_left hs' fs)).events;
+        is = ap (λ (q : Sequence). q.events) is ∙ append_assoc d.events es (sequence_left order hs' (inputs_left hs' fs)).events
+            ∙ ap (λ (l : List Event). d.events ++ (l ++ (sequence_left order hs' (inputs_left hs' fs)).events)) (laws.closed_one (in-turn order policy asks) (kind_of s'.declared) s'.offset);
+        goes = ap (λ (v : JobProgress). v.end) d.progress;
+      };
+      policy = asks;
+      bytes_are = refl;
+    }))
+    ) in
     record {
       failures = ap failures_to reports.is;
+      event = told.event;
+      met = told.met;
       bytes = own;
-      answer = inr (inl (record {
-        input = turn;
-        next = tells;
-        fetches = fetched;
-        comes = record {
-          later = (sequence_left order hs' (inputs_left hs' fs)).events;
-          is = ap (λ (q : Sequence). q.events) is ∙ append_assoc d.events es (sequence_left order hs' (inputs_left hs' fs)).events
-              ∙ ap (λ (l : List Event). d.events ++ (l ++ (sequence_left order hs' (inputs_left hs' fs)).events)) (laws.closed_one (in-turn order policy asks) (kind_of s'.declared) s'.offset);
-          goes = ap (λ (v : JobProgress). v.end) d.progress;
-        };
-        policy = asks;
-        bytes_are = refl;
-      }));
+      answer = told.answer;
       back = reports_text names grows.reports ++ ending;
       whole =
           ap (λ (l : List Report). reports_text names l ++ ending) grows.reports_is
@@ -389,7 +394,7 @@ closed-core us vs s before xs ys h s' order turn policy state output decided r s
     rw (by.0, by.1, by.2)
     (closed-goes us vs s before xs ys h s' order turn policy state output decided state output d.reports laws front at back advances (limits-kept h.source s' false steps advances) d
     (quiet-closed order policy (progress_at (mk (xs ++ h ∷ ys) order policy state output decided) d.packets d.reports) turn (kind_of s'.declared) s'.offset asks)
-    d.output (once-nothing (first_link (wholes_of (us ++ s ∷ vs))) (progress_of d) (progress_of d) output output refl refl refl) refl refl refl d.passed d.counted)
+    d.output (once-nothing (first_link (wholes_of (us ++ s ∷ vs))) (progress_of d) (progress_of d) output output refl refl refl) refl refl d.passed d.counted)
 closed-core us vs s before xs ys h s' order turn policy state output decided r selector' output' laws tells front at back advances steps d true asks by =
     rw (by.is, by.selector_is) (by_answer by.answer by.names by.reports)
   where
@@ -406,7 +411,7 @@ closed-core us vs s before xs ys h s' order turn policy state output decided r s
         report-ok before d.packets d.reports report output.names output'.names output.target output'.target names d.output reports in
         closed-goes us vs s before xs ys h s' order turn policy state output decided (with_empty_tally state) output' (d.reports ++ report ∷ []) laws front at back advances (limits-kept h.source s' false steps advances) d
         (told-closed order policy (progress_at old d.packets d.reports) turn (kind_of s'.declared) s'.offset asks)
-        ok.output (once-report (first_link (wholes_of (us ++ s ∷ vs))) before (progress_of d) (with_report (progress_of d) report) output output' report d.output ok.output ok.form refl refl) ok.form ok.failures names d.passed (omega arith, omega arith, omega arith)
+        ok.output (once-report (first_link (wholes_of (us ++ s ∷ vs))) before (progress_of d) (with_report (progress_of d) report) output output' report d.output ok.output ok.form refl refl) ok.form ok.failures d.passed (omega arith, omega arith, omega arith)
     by_answer (Err fault) names reports = report-stops us vs s before xs ys h s' order turn policy state output.names output.target decided (with_empty_tally state) output' fault laws tells front at back advances steps d asks reports
 
 -- ---- all of them

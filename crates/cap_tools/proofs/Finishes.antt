@@ -4,6 +4,7 @@ use Rattle.std.proofs.lemmas.List.{append-nil}
 use Rattle.std.specs.Option.{option_or}
 use Rattle.cap_octet.specs.Device.{Stops}
 use Rattle.cap_octet.specs.Packet.{Captured}
+use Rattle.cap_octet.specs.declared.device.DeviceFault.{DeviceFault}
 use Rattle.cap_octet.specs.declared.fault.Fault.{Fault}
 use Rattle.cap_octet.specs.declared.fault.Fault.TheVariants.{WriteFailed}
 use Rattle.cap_io.specs.Capture.{first_link_of, items}
@@ -16,12 +17,14 @@ use Rattle.cap_process.specs.Reports.{Report}
 use Rattle.cap_io.specs.Sequence.{Event, InputItems, Complete, sequence_of, with_front, PacketOrder}
 use Rattle.cap_process.specs.Verdict.{Policy, SelectorState}
 use Rattle.cap_process.specs.Outcome.{Form, AsCapture, JobProgress, closing_text, final_progress, lines_text, end_with, final_text, first_link}
-use Rattle.cap_process.specs.Output.{JobOutputView, Target, Capture, Text, Lines, HasWrittenTo, form_at, form_to, written_to, failures_to}
-use Rattle.cap_process.specs.inside.Output.{EndsOutput}
-use Rattle.cap_inputs.specs.Inputs.{InputView, Future, InputPast, AreInputsAfter, IsNext, AllEnded}
-use Rattle.cap_inputs.specs.inside.Inputs.{actual_future, first_declared_link}
+use Rattle.cap_process.specs.Output.{JobOutputView, Target, Capture, Text, Lines, HasWrittenTo, form_to, written_to, failures_to}
+use Rattle.cap_process.specs.inside.Output.{form_at, EndsOutput, FinishesInto}
+use Rattle.cap_inputs.specs.Inputs.{InputView, Future, InputPast, AreInputsAfter}
+use Rattle.cap_inputs.specs.inside.Inputs.{IsNext, AllEnded, actual_future, first_declared_link}
+use Rattle.cap_inputs.proofs.Nexts.{next-is-of}
 use Rattle.cap_process.specs.Reports.{reports_text}
 use Rattle.cap_tools.specs.Packets.{JobState, PacketsDecided, CompletesOutput, StopsWriting, progress_at, progress_of, progress_over, wholes_of}
+use Rattle.cap_tools.proofs.Nexts.{told-next}
 use Rattle.cap_tools.proofs.Splits.{At}
 use Rattle.cap_tools.proofs.Coming.{true-whole, true-wholes, true-fit, true-fits}
 use Rattle.cap_process.proofs.Outcomes.{course-close}
@@ -92,7 +95,7 @@ finish-device before names (q ∷ qs) rs (Capture sink) new link has finishes =
 finish-device before names ps rs (Text bytes failures room) new link has finishes = ap failures_to finishes.1
 finish-device before names ps rs (Lines options bytes failures room) new link has finishes = ap failures_to finishes.1
 
-abbrev pub FinishLeaves : {ss : List InputPast} {before : List ℕ} {old : JobState} → PacketsDecided ss before old → Result (Unit {0}) Fault → JobState → Type 0
+abbrev pub FinishLeaves : {ss : List InputPast} {before : List ℕ} {old : JobState} → PacketsDecided ss before old → Result (Unit {0}) DeviceFault → JobState → Type 0
 FinishLeaves {ss} {before} {old} d (Ok done) new = CompletesOutput (wholes_of ss) d new Complete
 FinishLeaves {ss} {before} {old} d (Err fault) new = StopsWriting d new
 
@@ -102,7 +105,7 @@ record StopsEmpty (before : List ℕ) (sink : SinkView) (packets : List Captured
   pub failures : failures_to new ≡ sink.failures + 1
   pub stops : Stops sink.written (file_start sink.format (link_or_ethernet link)) (written_to new)
 
-finish-empty : (before : List ℕ) (sink : SinkView) (packets : List Captured) (link : Option ℕ) (fault : Fault) (new : Target) → HasPackets before sink packets → EndsOutput link (Capture sink) (Err fault) new
+finish-empty : (before : List ℕ) (sink : SinkView) (packets : List Captured) (link : Option ℕ) (fault : Fault) (new : Target) → HasPackets before sink packets → FinishesInto link sink (Err fault) new
     → StopsEmpty before sink packets link new
 finish-empty before sink (q ∷ qs) link fault new has finishes =
     absurd (let same = finish-some before q qs sink link (Err fault) finishes.sink has finishes.finishes in let e = same.0 in cc)
@@ -117,7 +120,7 @@ finish-empty before sink [] link fault new has finishes =
       stops = subst S (sym finishes.is) (finish-none-writes before sink link (Err fault) finishes.sink has finishes.writes);
     }
 
-finish-stops : (ss : List InputPast) (before : List ℕ) (names : List (List ℕ)) (target : Target) (cursors : List InputView) (order : PacketOrder) (policy : Policy) (state : SelectorState) (decided : ℕ) (fault : Fault) (new : JobState)
+finish-stops : (ss : List InputPast) (before : List ℕ) (names : List (List ℕ)) (target : Target) (cursors : List InputView) (order : PacketOrder) (policy : Policy) (state : SelectorState) (decided : ℕ) (fault : DeviceFault) (new : JobState)
     → (d : PacketsDecided ss before (mk cursors order policy state (record { names = names; target = target }) decided))
     → final_progress policy (form_to names target) (sequence_of order (wholes_of ss)) ≡ over (mk cursors order policy state (record { names = names; target = target }) decided) d.packets d.reports
     → sequence_of order (wholes_of ss) ≡ record { events = d.events; end = Complete }
@@ -127,14 +130,17 @@ finish-stops ss before names (Text bytes failures room) cursors order policy sta
 finish-stops ss before names (Lines options bytes failures room) cursors order policy state decided fault new d stop all link tells inputs finishes = absurd (let e = finishes.0 in cc)
 finish-stops ss before names (Capture sink) cursors order policy state decided fault new d stop all link tells inputs finishes =
     let form : Form = AsCapture sink.format in
-    let empty : StopsEmpty before sink d.packets (first_declared_link cursors) new.output.target = finish-empty before sink d.packets (first_declared_link cursors) fault new.output.target d.output finishes in
+    let empty : StopsEmpty before sink d.packets (first_declared_link cursors) new.output.target = finish-empty before sink d.packets (first_declared_link cursors) finishes.0 new.output.target d.output finishes.1 in
     let bytes : List ℕ = file_start sink.format (link_or_ethernet (first_declared_link cursors)) in
     let closing_is : bytes ≡ closing_text form (first_link (wholes_of ss)) d.packets =
     ap (λ (o : Option ℕ). file_start sink.format (link_or_ethernet o)) (sym link) ∙ ap (closing_text form (first_link (wholes_of ss))) (sym empty.none) in
+    let told = told-next ss before (mk cursors order policy state (record { names = names; target = Capture sink }) decided) new bytes d (inr (inr (record { next = next-is-of (inputs_at order cursors) next.Finish tells; comes = record { is = all; goes = ap (λ (w : JobProgress). w.end) d.progress }; bytes_are = closing_is; inputs = inputs }))) in
     record {
       failures = empty.failures;
+      event = told.event;
+      met = told.met;
       bytes = bytes;
-      answer = inr (inr (record { next = tells; comes = record { is = all; goes = ap (λ (w : JobProgress). w.end) d.progress }; bytes_are = closing_is; inputs = inputs }));
+      answer = told.answer;
       back = [];
       whole =
           ap (λ (w : JobProgress). final_text form (first_link (wholes_of ss)) w) stop
@@ -143,7 +149,7 @@ finish-stops ss before names (Capture sink) cursors order policy state decided f
       stops = empty.stops;
     }
 
-pub finish-leaves : (ss : List InputPast) (before : List ℕ) (cursors : List InputView) (order : PacketOrder) (policy : Policy) (state : SelectorState) (output : JobOutputView) (decided : ℕ) (r : Result (Unit {0}) Fault) (new : JobState)
+pub finish-leaves : (ss : List InputPast) (before : List ℕ) (cursors : List InputView) (order : PacketOrder) (policy : Policy) (state : SelectorState) (output : JobOutputView) (decided : ℕ) (r : Result (Unit {0}) DeviceFault) (new : JobState)
     → IsNext (inputs_at order cursors) next.Finish → new.inputs ≡ record { order = order; cursors = cursors } → EndsOutput (first_declared_link cursors) output.target r new.output.target → (d : PacketsDecided ss before (mk cursors order policy state output decided))
     → FinishLeaves d r new
 finish-leaves ss before cursors order policy state output decided (Ok done) new tells inputs finishes d =

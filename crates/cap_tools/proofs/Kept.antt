@@ -29,6 +29,6 @@ few-kept (Some status) turns inputs inputs' paid upper_bound = tt
 pub reads-kept : (tells goes : Bool) (old mid : JobView) (p : Option Preparing) (err : OutputView) (turns : ℕ) (ended : Option ℕ) → StepReads tells goes old mid
     → StepReads tells goes old (record { preparing = p; state = mid.state; programs = mid.programs; err = err; turns = turns; done = ended })
 reads-kept tells goes old mid p err turns ended (reads_on i answer on reads) = reads_on i answer on (record { next = reads.next; fetches = reads.fetches; exact = reads.exact; decided = reads.decided; output = reads.output; programs = reads.programs })
-reads-kept tells goes old mid p err turns ended (decides_one i one) = decides_one i (record { next = one.next; packet = one.packet; holds = one.holds; settles = one.settles; decided = one.decided; programs = one.programs; cost = one.cost })
-reads-kept tells goes old mid p err turns ended (leaves_one i ends one) = leaves_one i ends (record { next = one.next; packet = one.packet; holds = one.holds; inputs = one.inputs; decided = one.decided; programs = one.programs; cost = one.cost })
+reads-kept tells goes old mid p err turns ended (decides_one i one settles more) = decides_one i (record { next = one.next; cursor = one.cursor; among = one.among; packet = one.packet; held = one.held; programs = one.programs; cost = one.cost }) settles more
+reads-kept tells goes old mid p err turns ended (leaves_one i ends one inputs same) = leaves_one i ends (record { next = one.next; cursor = one.cursor; among = one.among; packet = one.packet; held = one.held; programs = one.programs; cost = one.cost }) inputs same
 reads-kept tells goes old mid p err turns ended (reads_nothing ends none) = reads_nothing ends (record { inputs = none.inputs; decided = none.decided; programs = none.programs })

@@ -1,18 +1,20 @@
 -- What a place says of what is left, for inputs in turn and for a merge.
-use Rattle.std.proofs.Common.{◌≡◌, inl, inr, ℕ, zero, suc, ◌+◌, ◌<◌, ◌≤◌, Bool, true, false, max, List, [], ◌∷◌, ◌++◌, length, drop, Option, None, Some, refl, sym, ◌∙◌, ap, arith, subst}
+use Rattle.std.proofs.Common.{◌≡◌, inl, inr, ℕ, zero, suc, ◌+◌, ◌<◌, ◌≤◌, Bool, true, false, cond, not, max, List, [], ◌∷◌, ◌++◌, length, drop, Option, None, Some, refl, sym, ◌∙◌, ap, arith, subst}
 use Rattle.cap_octet.specs.Packet.{Captured}
 use Rattle.cap_octet.specs.declared.fault.Fault.{Fault}
 use Rattle.cap_io.specs.declared.source.Kind.{Kind}
 use Rattle.cap_io.specs.Capture.{Declared, Items, no_items, kind_of}
 use Rattle.cap_io.specs.Position.{IsAt}
-use Rattle.cap_io.specs.Source.{Phase, Reading, Ended, Failed}
+use Rattle.cap_io.specs.Source.{Phase, Ended}
 use Rattle.cap_inputs.specs.declared.inputs.Next.TheVariants as next
 use Rattle.cap_io.specs.Sequence.{InputItems, Event, Packet, InputEnd, SequenceEnd, Complete, FaultIn, PacketOrder, InTurn, ByTime, with_front, sequence_in_turn, sequence_by_time, fault_without_packets, sequence_of_entries, sort_entries, all_entries, unless_fault}
 use Rattle.cap_process.specs.Verdict.{Policy}
 use Rattle.cap_process.specs.Outcome.{Form, JobProgress, apply_events, end_input, unless_ended}
-use Rattle.cap_inputs.specs.Inputs.{InputView, InputPast, Future, AreFutures, AreInputsAfter, AllEnded, AllReady, IsInput, IsNextIn, IsOpen, IsReady, KeysOver, KeysFrom, NoneEnded, NoneWaits, ended_count, input_after_decided, items_left, inputs_left, key_of, one_more_if_ended, sequence_left, packet_time}
+use Rattle.cap_inputs.specs.Inputs.{InputView, InputPast, Future, AreFutures, AreInputsAfter, IsInput, ended_count, input_after_decided, is_open, items_left, inputs_left, key_of, sequence_left, packet_time}
+use Rattle.cap_inputs.specs.inside.Inputs.{AllEnded, AllReady, IsNextIn, IsOpen, IsReady, KeysOver, KeysFrom, NoneEnded, NoneWaits}
 use Rattle.cap_tools.proofs.Splits.{At, Fit, fits-join, rests-join, rests-length}
 use Rattle.cap_tools.proofs.Coming.{from_turn, left-decided, turn-closes, turn-broken}
+use Rattle.cap_inputs.proofs.Nexts.{count-open, count-all}
 use Rattle.cap_inputs.proofs.Order.{merged-broken}
 use Rattle.cap_tools.proofs.Merges.{InputFrom, InputOver, InputsFrom, InputsOver, ended_from, ended_over, ended-rest, merge-decides, none-broken, waits_from, waits_over}
 
@@ -42,28 +44,19 @@ all-ready (s ∷ ss) (h ∷ hs) following ready = (ready-one s h following.0 rea
 
 -- ---- how many inputs are at their ends
 
-not-more : (p : Phase) (n : ℕ) → (p ≡ Ended → ⊥) → one_more_if_ended p n ≡ 0
-not-more Reading n on = refl
-not-more Ended n on = absurd (on refl)
-not-more (Failed fault) n on = refl
-
-count-open : (xs ys : List InputView) (h : InputView) → AllEnded xs → IsOpen h → ended_count (xs ++ h ∷ ys) ≡ length xs
-count-open [] ys h ended on = not-more h.source.phase (ended_count ys) on
-count-open (x ∷ xs) ys h ended on = ap (λ (p : Phase). one_more_if_ended p (ended_count (xs ++ h ∷ ys))) ended.0 ∙ ap suc (count-open xs ys h ended.1 on)
-
 count-none : (ys : List InputView) → NoneEnded ys → ended_count ys ≡ 0
 count-none [] none = refl
-count-none (y ∷ ys) none = not-more y.source.phase (ended_count ys) none.0
+count-none (y ∷ ys) none = count-open [] ys y tt none.0
 
 count-ended : (xs ys : List InputView) (h : InputView) → AllEnded xs → h.source.phase ≡ Ended → NoneEnded ys → ended_count (xs ++ h ∷ ys) ≡ length xs + 1
-count-ended [] ys h ended is none = ap (λ (p : Phase). one_more_if_ended p (ended_count ys)) is ∙ ap suc (count-none ys none)
+count-ended [] ys h ended is none =
+    let zero_more = count-none ys none in
+    let one : 1 + ended_count ys ≡ 0 + 1 = omega (arith, zero_more) in
+    ap (λ (p : Phase). cond (not (is_open p)) (1 + ended_count ys) 0) is ∙ one
 count-ended (x ∷ xs) ys h ended is none =
-    let one : suc (length xs) + 1 ≡ suc (length xs + 1) = omega arith in
-    rw one (ap (λ (p : Phase). one_more_if_ended p (ended_count (xs ++ h ∷ ys))) ended.0 ∙ ap suc (count-ended xs ys h ended.1 is none))
-
-count-all : (hs : List InputView) → AllEnded hs → ended_count hs ≡ length hs
-count-all [] ended = refl
-count-all (h ∷ hs) ended = ap (λ (p : Phase). one_more_if_ended p (ended_count hs)) ended.0 ∙ ap suc (count-all hs ended.1)
+    let more = count-ended xs ys h ended.1 is none in
+    let one : 1 + ended_count (xs ++ h ∷ ys) ≡ suc (length xs) + 1 = omega (arith, more) in
+    ap (λ (p : Phase). cond (not (is_open p)) (1 + ended_count (xs ++ h ∷ ys)) 0) ended.0 ∙ one
 
 over-of : (k : ℕ) (hs : List InputView) → KeysOver k hs → InputsFrom 0 hs → InputsOver k hs
 over-of k [] over ready = tt

@@ -7,7 +7,8 @@ use Rattle.cap_io.specs.Text.{added_text, text}
 use Rattle.cap_io.specs.Sequence.{Complete}
 use Rattle.cap_process.specs.Reports.{Report, report_text, reports_text}
 use Rattle.cap_process.specs.Outcome.{Form, AsCapture, AsReports, AsLines, JobProgress, closing_text, packet_bytes, report_bytes, output_text}
-use Rattle.cap_process.specs.Output.{JobOutputView, HasWritten, form_at, written_to}
+use Rattle.cap_process.specs.Output.{JobOutputView, written_to}
+use Rattle.cap_process.specs.inside.Output.{HasWritten, form_at}
 use Rattle.cap_tools.specs.Packets.{AppendsOnce, nothing, packet, report, closes}
 use Rattle.cap_process.proofs.Outputs.{drained-text, lines-one, reports-more}
 

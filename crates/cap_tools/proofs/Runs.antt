@@ -5,7 +5,8 @@ use Rattle.cap_process.specs.Messages.{IsTold}
 use Rattle.cap_inputs.specs.Inputs.{InputPast, device_limits}
 use Rattle.cap_command.specs.Call.{RunResult}
 use Rattle.cap_tools.specs.declared.step.JobEnd.{JobEnd}
-use Rattle.cap_tools.specs.Packets.{EndLeaves, JobState, failures_by, finish_at, output_form, texts, written_by}
+use Rattle.cap_tools.specs.Packets.{EndLeaves, JobState, failures_by, finish_at, output_form, written_by}
+use Rattle.cap_tools.specs.inside.Packets.{texts}
 use Rattle.cap_tools.specs.Jobs.{JobView, Decided, StaysDecided, end_message, end_status}
 
 -- A job that went on from its first view, without a failure of the output: of the same texts more
@@ -17,7 +18,6 @@ pub record IsUnderWay (ss : List InputPast) (before : List ℕ) (first j : JobVi
   pub policy : j.state.policy ≡ first.state.policy
   pub form : output_form j.state ≡ output_form first.state
   pub output : failures_by j.state ≡ failures_by first.state
-  pub names : j.state.output.names ≡ first.state.output.names
   pub order : j.state.inputs.order ≡ first.state.inputs.order
   -- what is known of the inputs' devices when the job begins holds of them
   pub limits : device_limits j.state.inputs.cursors ≡ device_limits first.state.inputs.cursors
@@ -53,7 +53,6 @@ goes-on ss before first j new progress stays policy =
       policy = policy ∙ progress.policy;
       form = goes.form ∙ progress.form;
       output = goes.output ∙ progress.output;
-      names = goes.names ∙ progress.names;
       order = goes.order ∙ progress.order;
       limits = goes.limits ∙ progress.limits;
     }

@@ -12,9 +12,9 @@ use Rattle.cap_io.specs.Sequence.{InputItems, sequence_in_turn, sequence_by_time
 use Rattle.cap_process.specs.Verdict.{Policy}
 use Rattle.cap_octet.specs.Views.{FreshInput}
 use Rattle.cap_inputs.specs.Fresh.{fresh_view, nothing_done, fresh_inputs}
-use Rattle.cap_process.specs.Selector.{state_with}
-use Rattle.cap_inputs.specs.Inputs.{Future, AreInputsAfter, KnowGreatest, AreFutures, AreSettled, ended_count, inputs_with, inputs_left, input_items, steps_left_in, steps_left}
-use Rattle.cap_inputs.specs.inside.Inputs.{most_steps}
+use Rattle.cap_process.specs.inside.Selector.{state_with}
+use Rattle.cap_inputs.specs.Inputs.{Future, AreInputsAfter, KnowGreatest, AreFutures, AreSettled, ended_count, inputs_with, inputs_left, input_items, steps_left_in}
+use Rattle.cap_inputs.specs.inside.Inputs.{steps_left, most_steps}
 use Rattle.cap_tools.specs.Bounds.{reads_of, most_turns}
 use Rattle.cap_tools.specs.inside.Bounds.{steps_owed_in_all, owed_in}
 use Rattle.cap_tools.specs.Packets.{PacketsDecided}

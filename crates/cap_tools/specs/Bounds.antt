@@ -3,13 +3,13 @@
 use Rattle.std.specs.Prelude.{◌≡◌, ℕ, ◌+◌, ◌*◌, ◌≤◌, ◌&&◌, Bool, IsTrue, true, false, List, [], ◌∷◌, length, map, Some, Result, Ok, Err}
 use Rattle.std.specs.List.{All, slice_get}
 use Rattle.cap_octet.specs.declared.fault.Fault.{Fault}
-use Rattle.cap_io.specs.Capture.{Declared, Nothing, PcapFile, PcapngFile}
+use Rattle.cap_io.specs.Capture.{Declared, PcapngFile}
 use Rattle.cap_io.specs.Reading.{most_in_unit}
 use Rattle.cap_io.specs.Source.{SectionFits, end_offset}
 use Rattle.cap_io.specs.Text.{most_output_interfaces}
-use Rattle.cap_process.specs.Output.{Target, Capture, Text, Lines, HasFewOutputInterfaces}
+use Rattle.cap_process.specs.Output.{Target, Capture, HasFewOutputInterfaces}
 use Rattle.cap_inputs.specs.declared.inputs.Next.TheVariants as next
-use Rattle.cap_inputs.specs.Inputs.{InputView, InputsView, IsNext, ReadsInput, ReadSteps, MarksDecided, is_clean_end}
+use Rattle.cap_inputs.specs.Inputs.{InputView, InputsView, ReadsInput, ReadSteps, MarksDecided, is_clean_end, next_of}
 use Rattle.cap_octet.specs.Packet.{Captured}
 use Rattle.cap_filter.specs.Programs.{spent_in}
 use Rattle.cap_process.specs.Selector.{most_spent, places, spent_by_verdict, window_of}
@@ -20,7 +20,7 @@ use Rattle.cap_tools.specs.Jobs.{JobView}
 -- nothing is written unless the input was read to its end and is to be reported.
 pub record ReadsOn (tells : Bool) (old : JobView) (input : ℕ) (answer : Result Bool Fault)
     (new : JobView) : Type 0 where
-  pub next : IsNext old.state.inputs (next.Read input)
+  pub next : next_of old.state.inputs ≡ next.Read input
   pub fetches : ReadSteps old.state.inputs input answer new.state.inputs
   -- where the input tells its bytes: its next packet, its clean end or its fault, and no more
   pub exact : IsTrue tells → ReadsInput old.state.inputs input answer new.state.inputs
@@ -29,31 +29,14 @@ pub record ReadsOn (tells : Bool) (old : JobView) (input : ℕ) (answer : Result
       ≡ false → new.state.output ≡ old.state.output
   pub programs : new.programs ≡ old.programs
 
--- an input's current packet, which isn't decided yet
-pub record Holds (cursors : List InputView) (input : ℕ) (p : Captured) : Type 0 where
+-- The packet that waits of the input that is next was judged, and nothing is read. It cost one run of
+-- a program at most.
+pub record JudgesOne (old : JobView) (input : ℕ) (new : JobView) : Type 0 where
+  pub next : next_of old.state.inputs ≡ next.Decide input
   pub cursor : InputView
-  pub among : slice_get cursors input ≡ Some cursor
-  pub waits : cursor.waiting ≡ true
-  pub held : cursor.source.packet ≡ Some p
-
--- The packet that is next was decided, and nothing is read. It cost one run of a program at most.
-pub record DecidesOne (old : JobView) (input : ℕ) (new : JobView) : Type 0 where
-  pub next : IsNext old.state.inputs (next.Decide input)
+  pub among : slice_get old.state.inputs.cursors input ≡ Some cursor
   pub packet : Captured
-  pub holds : Holds old.state.inputs.cursors input packet
-  pub settles : MarksDecided old.state.inputs input new.state.inputs
-  pub decided : new.state.decided ≡ old.state.decided + 1
-  pub programs : new.programs
-      ≡ spent_by_verdict old.state.policy (old.state.decided + 1) packet old.programs
-  pub cost : spent_in new.programs ≤ spent_in old.programs + most_spent old.state.policy
-
--- it is refused, or wasn't written
-pub record LeavesOne (old : JobView) (input : ℕ) (new : JobView) : Type 0 where
-  pub next : IsNext old.state.inputs (next.Decide input)
-  pub packet : Captured
-  pub holds : Holds old.state.inputs.cursors input packet
-  pub inputs : new.state.inputs ≡ old.state.inputs
-  pub decided : new.state.decided ≡ old.state.decided
+  pub held : cursor.source.packet ≡ Some packet
   pub programs : new.programs
       ≡ spent_by_verdict old.state.policy (old.state.decided + 1) packet old.programs
   pub cost : spent_in new.programs ≤ spent_in old.programs + most_spent old.state.policy
@@ -73,8 +56,13 @@ is_fault (Err fault) = true
 pub data StepReads (tells goes : Bool) (old new : JobView) : Type 0 where
   reads_on : (input : ℕ) → (answer : Result Bool Fault) → (goes ≡ true → is_fault answer ≡ false)
       → ReadsOn tells old input answer new → StepReads tells goes old new
-  decides_one : (input : ℕ) → DecidesOne old input new → StepReads tells goes old new
-  leaves_one : (input : ℕ) → goes ≡ false → LeavesOne old input new → StepReads tells goes old new
+  decides_one : (input : ℕ) → JudgesOne old input new
+      → MarksDecided old.state.inputs input new.state.inputs
+      → new.state.decided ≡ old.state.decided + 1 → StepReads tells goes old new
+  -- it is refused, or wasn't written
+  leaves_one : (input : ℕ) → goes ≡ false → JudgesOne old input new
+      → new.state.inputs ≡ old.state.inputs
+      → new.state.decided ≡ old.state.decided → StepReads tells goes old new
   reads_nothing : goes ≡ false → ReadsNothing old new → StepReads tells goes old new
 
 -- the bytes that were read of the inputs: those that are skipped, and those of the current units
@@ -92,9 +80,8 @@ names_weight [] = 0
 names_weight (name ∷ names) = 19 + length name + names_weight names
 
 abbrev pub declared_weight : Declared → ℕ
-declared_weight Nothing = 0
-declared_weight (PcapFile head) = 0
 declared_weight (PcapngFile first section) = names_weight (map (λ i. i.name) section.interfaces)
+declared_weight declared = 0
 
 -- of an input: the block that holds its units, the interfaces of its section, and 40 for the rest
 abbrev pub input_weight : InputView → ℕ
@@ -107,8 +94,7 @@ inputs_weight (h ∷ hs) = input_weight h + inputs_weight hs
 -- of the output: its interfaces
 abbrev pub target_weight : Target → ℕ
 target_weight (Capture sink) = names_weight (map (λ i. i.name) sink.interfaces)
-target_weight (Text written failures room) = 0
-target_weight (Lines options written failures room) = 0
+target_weight target = 0
 
 -- the bytes that a job holds of its inputs and of its output, 20 for each mark in its window, and
 -- 128 for its counters

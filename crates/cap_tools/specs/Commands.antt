@@ -15,10 +15,10 @@ use Rattle.cap_tools.specs.declared.job.Turn.{Turn}
 use Rattle.cap_tools.specs.declared.job.Turn.TheVariants as turn
 use Rattle.cap_tools.specs.Start.{FilterAsked, Preparing, ReadsFilter, Compiles}
 use Rattle.cap_process.specs.Selector.{HavePrograms}
-use Rattle.cap_inputs.specs.Inputs.{InputPast, steps_left}
+use Rattle.cap_inputs.specs.Inputs.{InputPast, steps_left_in}
 use Rattle.cap_tools.specs.Bounds.{IsLight, StepReads, most_turns}
 use Rattle.cap_tools.specs.Jobs.{JobView, Decided, IsStatus, done_by}
-use Rattle.cap_tools.specs.FirstStep.{WritesListing, RefusesStart, filtering}
+use Rattle.cap_tools.specs.FirstStep.{WritesListing, StopsListing, RefusesStart, filtering}
 
 -- the filter is read
 pub record IsFiltered (asked : FilterAsked) (old new : JobView) : Type 0 where
@@ -44,7 +44,7 @@ pub record ListsSome (words : List ℕ) (link : Link) (tells : Bool) (old : JobV
     (new : JobView) : Type 0 where
   pub prog : List Insn
   pub compiled : IsCompiled words link prog
-  pub lists : WritesListing prog tells old status new
+  pub lists : WritesListing prog old status new ⊎ StopsListing prog tells old status new
 
 -- the expression is refused, or there was no memory for it
 pub record RefusesExpression (words : List ℕ) (tells : Bool) (old : JobView) (status : ℕ)
@@ -73,7 +73,7 @@ preparing_left None = 0
 preparing_left (Some preparing) = 1
 
 abbrev pub job_left : JobView → ℕ
-job_left j = preparing_left j.preparing + steps_left j.state.inputs
+job_left j = preparing_left j.preparing + steps_left_in j.state.inputs.cursors
 
 -- What every step of a job keeps, whatever the devices: it prepares no more, its end is known, a
 -- step is counted where it was under way, and what it holds is bounded.

@@ -7,10 +7,11 @@ use Rattle.cap_tools.specs.declared.step.JobEnd.{JobEnd}
 use Rattle.cap_tools.specs.declared.step.JobEnd.TheVariants as end
 use Rattle.cap_tools.specs.declared.job.Turn.{Turn}
 use Rattle.cap_tools.specs.declared.job.Turn.TheVariants as turn
-use Rattle.cap_process.specs.Output.{JobOutputView, target_at}
+use Rattle.cap_process.specs.Output.{JobOutputView, output_at, target_at}
 use Rattle.cap_tools.specs.Start.{Assignment, Preparing}
-use Rattle.cap_process.specs.Selector.{HavePrograms, SelectorView, state_with}
-use Rattle.cap_process.specs.Reports.{name_at, nothing_counted}
+use Rattle.cap_process.specs.Verdict.{initial_state}
+use Rattle.cap_process.specs.Selector.{HavePrograms, SelectorView}
+use Rattle.cap_process.specs.Reports.{name_at}
 use Rattle.cap_inputs.specs.Inputs.{InputView, InputsView, InputPast, offset_at}
 use Rattle.cap_inputs.specs.Fresh.{fresh_inputs}
 use Rattle.cap_command.specs.Call.{Call}
@@ -48,12 +49,9 @@ first_job a call = record {
   state = record {
     inputs = fresh_inputs a.order call.inputs;
     policy = a.policy;
-    state = state_with 0 nothing_counted;
-    output =
-        record {
-          names = call.names;
-          target = target_at a.writing call.output.written call.output.failures call.room;
-        };
+    state = initial_state;
+    output = output_at call.names
+        (target_at a.writing call.output.written call.output.failures call.room);
     decided = 0;
   };
   programs = [];
@@ -78,8 +76,7 @@ end_message names cursors end.OutputFailed = write_failed_message (name_at names
 
 abbrev pub end_status : JobEnd → ℕ
 end_status end.Complete = 0
-end_status (end.FaultIn input fault) = 1
-end_status end.OutputFailed = 1
+end_status other = 1
 
 -- A step that ends a job ends it in one way. Its message and its status are those of the way; a
 -- message that can't be written is lost.

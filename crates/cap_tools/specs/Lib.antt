@@ -2,7 +2,6 @@ pub mod Bounds
 pub mod Commands
 pub mod FirstStep
 pub mod Jobs
-pub mod Listing
 pub mod Run
 pub mod Start
 pub mod Packets

@@ -1,5 +1,5 @@
 -- What a contract sees of a job under way, and what holds of it at each step.
-use Rattle.std.specs.Prelude.{◌≡◌, ◌⊎◌, ℕ, zero, suc, ◌+◌, ◌≤◌, Bool, true, false, List, [], ◌∷◌, ◌++◌, map, Option, None, Some, Ok, Err}
+use Rattle.std.specs.Prelude.{◌≡◌, ◌⊎◌, ℕ, zero, suc, ◌+◌, ◌≤◌, Bool, false, List, [], ◌∷◌, ◌++◌, map, Option, None, Some, Ok, Err}
 use Rattle.std.specs.List.{slice_get}
 use Rattle.cap_octet.specs.Device.{Stops}
 use Rattle.cap_octet.specs.Packet.{Captured}
@@ -11,13 +11,13 @@ use Rattle.cap_io.specs.Position.{IsCutShort, MemoryEndsAt, ReadFailsAt}
 use Rattle.cap_inputs.specs.declared.inputs.Next.TheVariants as next
 use Rattle.cap_tools.specs.declared.step.JobEnd.{JobEnd}
 use Rattle.cap_tools.specs.declared.step.JobEnd.TheVariants as end
-use Rattle.cap_process.specs.Reports.{Report, Tally}
-use Rattle.cap_process.specs.Output.{JobOutputView, HasWritten, form_at, written_to, failures_to}
+use Rattle.cap_process.specs.Reports.{Report}
+use Rattle.cap_process.specs.Output.{JobOutputView, HasWrittenTo, form_to, written_to, failures_to}
 use Rattle.cap_io.specs.Sequence.{Event, Packet, InputEnd, SequenceEnd, Complete, FaultIn, InputItems, PacketOrder, InTurn, ByTime, sequence_of, whole_input}
-use Rattle.cap_process.specs.Verdict.{Policy, SelectorState, PassesAs, judge}
+use Rattle.cap_process.specs.Verdict.{Policy, SelectorState}
 use Rattle.cap_process.specs.Selector.{IsWithin, is_count}
-use Rattle.cap_process.specs.Outcome.{Form, JobProgress, Work, ComeFirst, IsNextEvent, AreAllEvents, cut_at, no_progress, apply_events, final_progress, final_text, output_text, closing_text, first_link, packet_bytes, report_bytes, form_refuses, form_takes_memory}
-use Rattle.cap_inputs.specs.Inputs.{InputsView, InputView, InputPast, AreInputsAfter, KnowGreatest, AreSettled, ReadsInput, IsNext, input_after, device_limits}
+use Rattle.cap_process.specs.Outcome.{Form, JobProgress, Work, ComeFirst, cut_at, no_progress, apply_events, final_progress, final_text, output_text, closing_text, first_link, packet_bytes, report_bytes, NeedsMemory, IsNextAnswer}
+use Rattle.cap_inputs.specs.Inputs.{InputsView, InputView, InputPast, AreInputsAfter, KnowGreatest, AreSettled, ReadsInput, device_limits, next_of}
 
 -- the state of a job, whatever its programs cost so far
 pub record JobState : Type 0 where
@@ -29,7 +29,7 @@ pub record JobState : Type 0 where
   pub decided : ℕ
 
 abbrev pub output_form : JobState → Form
-output_form m = form_at m.output
+output_form m = form_to m.output.names m.output.target
 
 -- in which order its packets come, how they are judged, and in which form they are written
 abbrev pub work_of : JobState → Work
@@ -41,11 +41,8 @@ written_by m = written_to m.output.target
 abbrev pub failures_by : JobState → ℕ
 failures_by m = failures_to m.output.target
 
-abbrev pub texts : List InputPast → List (List ℕ)
-texts ss = map (λ s. s.text) ss
-
 abbrev pub wholes_of : List InputPast → List InputItems
-wholes_of ss = map whole_input (texts ss)
+wholes_of ss = map whole_input (map (λ (s : InputPast). s.text) ss)
 
 -- how far the job is, with these packets and reports
 abbrev pub progress_at : JobState → List Captured → List Report → JobProgress
@@ -74,7 +71,7 @@ pub record PacketsDecided (ss : List InputPast) (before : List ℕ) (m : JobStat
   pub reports : List Report
   pub progress : apply_events m.policy (output_form m) no_progress events
       ≡ progress_at m packets reports
-  pub output : HasWritten before m.output packets reports
+  pub output : HasWrittenTo before m.output.names m.output.target packets reports
   pub passed : m.state.passed ≤ m.decided
   pub counted : IsWithin m.decided m.state.tally
 
@@ -83,15 +80,6 @@ pub record PacketsDecided (ss : List InputPast) (before : List ℕ) (m : JobStat
 abbrev pub asks_report : PacketOrder → Policy → Bool
 asks_report InTurn policy = is_count policy
 asks_report ByTime policy = false
-
-abbrev pub report_at : ℕ → InputView → Tally → Report
-report_at input h tally =
-    record {
-      input = input;
-      kind = kind_of h.source.declared;
-      size = h.source.offset;
-      tally = tally;
-    }
 
 -- some bytes more of an input are done, with their packets
 abbrev pub finish_at : List InputPast → ℕ → List ℕ → List Placed → List InputPast
@@ -118,7 +106,7 @@ pub record AppendsOnce (link : Option ℕ) (far next : JobProgress)
     (old new : JobOutputView) : Type 0 where
   pub bytes : List ℕ
   pub appended : written_to new.target ≡ written_to old.target ++ bytes
-  pub one : OneAnswer (form_at old) link far next bytes
+  pub one : OneAnswer (form_to old.names old.target) link far next bytes
 
 -- how far the job is
 abbrev pub progress_of : {ss : List InputPast} {before : List ℕ} {m : JobState}
@@ -140,7 +128,6 @@ pub record GoesOn {ss : List InputPast} {before : List ℕ} {old : JobState}
       (progress_of decided) old.output new.output
   -- the output's device didn't fail
   pub output : failures_by new ≡ failures_by old
-  pub names : new.output.names ≡ old.output.names
   pub order : new.inputs.order ≡ old.inputs.order
   pub limits : device_limits new.inputs.cursors ≡ device_limits old.inputs.cursors
 
@@ -171,7 +158,7 @@ pub record EndsByCut {ss : List InputPast} {before : List ℕ} {old : JobState}
   pub cut : IsCutShort past.text fault held
   pub cursor : InputView
   pub cursor_is : slice_get old.inputs.cursors input ≡ Some cursor
-  pub next : IsNext old.inputs (next.Read input)
+  pub next : next_of old.inputs ≡ next.Read input
   pub advances : Advances cursor.source.phase cursor.source (Err fault) after
   pub why :
       ((fault ≡ ReadFailed)
@@ -180,68 +167,37 @@ pub record EndsByCut {ss : List InputPast} {before : List ℕ} {old : JobState}
   pub comes : CompletesOutput (cut_at (wholes_of ss) input held) d new
       (FaultIn input fault after.offset)
 
--- There was no memory to write the current packet of this input, which is the next of the order,
--- begins where `after` stands and is kept: the output stays.
+-- what a step met: the current packet of an input, the clean end of one that it read on, or that of
+-- all
+pub data Meets (old new : InputsView) : Option Event → Type 0 where
+  a_packet : (input : ℕ) → (cursor : InputView) → (p : Captured) → next_of old ≡ next.Decide input
+      → slice_get old.cursors input ≡ Some cursor → cursor.source.packet ≡ Some p → new ≡ old
+      → Meets old new (Some (Packet input (record { offset = cursor.source.offset; packet = p })))
+  an_end : (input : ℕ) → next_of old ≡ next.Read input → (read : ReadsInput old input (Ok false) new)
+      → Meets old new (Some (InputEnd input (kind_of read.source.declared) read.source.offset))
+  all_ends : next_of old ≡ next.Finish → new ≡ old → Meets old new None
+
+-- There was no memory to write the current packet of this input, which is the next of the order and
+-- begins where `after` stands: the output stays.
 pub record WantsMemory {ss : List InputPast} {before : List ℕ} {old : JobState}
     (d : PacketsDecided ss before old) (new : JobState) (input : ℕ) (fault : Fault)
     (after : SourceView) : Type 0 where
-  pub next : IsNext old.inputs (next.Decide input)
   pub packet : Placed
-  pub comes : IsNextEvent (work_of old) (wholes_of ss) d.events (Packet input packet)
+  pub met : Meets old.inputs new.inputs (Some (Packet input packet))
+  pub needs : NeedsMemory (work_of old) (wholes_of ss) d.events input packet
   pub place : after.offset ≡ packet.offset
-  pub kept : Captured
-  pub passes : PassesAs (judge old.policy old.state (old.decided + 1) packet.packet).verdict kept
-  pub taken : form_refuses (output_form old) d.packets kept ≡ None
-  pub takes : form_takes_memory (output_form old) d.packets kept ≡ true
-  pub inputs : new.inputs ≡ old.inputs
   pub why : fault ≡ NoMemory
   pub written : written_by new ≡ written_by old
   pub device : failures_by new ≡ failures_by old
-
--- next is the current packet of an input, which passes; this is what it adds
-pub record NextPacket {ss : List InputPast} {before : List ℕ} {old : JobState}
-    (d : PacketsDecided ss before old) (new : JobState) (bytes : List ℕ) : Type 0 where
-  pub input : ℕ
-  pub next : IsNext old.inputs (next.Decide input)
-  pub cursor : InputView
-  pub among : slice_get old.inputs.cursors input ≡ Some cursor
-  pub packet : Captured
-  pub held : cursor.source.packet ≡ Some packet
-  pub comes : IsNextEvent (work_of old) (wholes_of ss) d.events
-      (Packet input (record { offset = cursor.source.offset; packet = packet }))
-  pub passed : Captured
-  pub passes : PassesAs (judge old.policy old.state (old.decided + 1) packet).verdict passed
-  pub taken : form_refuses (output_form old) d.packets passed ≡ None
-  pub bytes_are : bytes ≡ packet_bytes (output_form old) d.packets passed
-  pub inputs : new.inputs ≡ old.inputs
-
--- next is an input that is read to its end in this step, and reported; this is its report
-pub record NextReport {ss : List InputPast} {before : List ℕ} {old : JobState}
-    (d : PacketsDecided ss before old) (new : JobState) (bytes : List ℕ) : Type 0 where
-  pub input : ℕ
-  pub next : IsNext old.inputs (next.Read input)
-  pub fetches : ReadsInput old.inputs input (Ok false) new.inputs
-  pub comes : IsNextEvent (work_of old) (wholes_of ss) d.events
-      (InputEnd input (kind_of fetches.source.declared) fetches.source.offset)
-  pub policy : asks_report old.inputs.order old.policy ≡ true
-  pub bytes_are : bytes
-      ≡ report_bytes (output_form old)
-      (report_at input (input_after fetches.cursor (Ok false) fetches.source) old.state.tally)
-
--- all inputs were read; this is what a clean end adds
-pub record NextClosing {ss : List InputPast} {before : List ℕ} {old : JobState}
-    (d : PacketsDecided ss before old) (new : JobState) (bytes : List ℕ) : Type 0 where
-  pub next : IsNext old.inputs next.Finish
-  pub comes : AreAllEvents (work_of old) (wholes_of ss) d.events
-  pub bytes_are : bytes ≡ closing_text (output_form old) (first_link (wholes_of ss)) d.packets
-  pub inputs : new.inputs ≡ old.inputs
 
 -- The output's device failed in this step, after a prefix of what comes next in the whole output.
 pub record StopsWriting {ss : List InputPast} {before : List ℕ} {old : JobState}
     (d : PacketsDecided ss before old) (new : JobState) : Type 0 where
   pub failures : failures_by new ≡ failures_by old + 1
+  pub event : Option Event
+  pub met : Meets old.inputs new.inputs event
   pub bytes : List ℕ
-  pub answer : NextPacket d new bytes ⊎ NextReport d new bytes ⊎ NextClosing d new bytes
+  pub answer : IsNextAnswer (work_of old) (wholes_of ss) d.events event bytes
   pub back : List ℕ
   pub whole : final_text (output_form old) (first_link (wholes_of ss))
       (progress_over old (wholes_of ss)) ≡ output_text (output_form old) d.packets d.reports

@@ -1,6 +1,6 @@
 -- What a run of a command leaves: its outcome on the whole inputs; or what it leaves where a device
 -- fails, or memory runs out. All of it is said by the call, and by what the run hands back.
-use Rattle.std.specs.Prelude.{◌≡◌, ◌⊎◌, ℕ, ◌+◌, ◌-◌, List, [], ◌∷◌, ◌++◌, length, map, Option, None, Some, true}
+use Rattle.std.specs.Prelude.{◌≡◌, ◌⊎◌, ℕ, ◌+◌, ◌-◌, List, [], ◌++◌, length, map, Option, None, Some}
 use Rattle.std.specs.List.{slice_get}
 use Rattle.cap_octet.specs.Device.{HasGiven, Stops}
 use Rattle.cap_octet.specs.declared.fault.Fault.{Fault}
@@ -16,18 +16,17 @@ use Rattle.cap_filter.specs.declared.refusal.Refusal.TheVariants as refusal
 use Rattle.cap_filter.specs.Compilation.{IsCompiled}
 use Rattle.cap_filter.specs.Expressions.{IsTextFault}
 use Rattle.cap_filter.specs.FilterRules.{Rule, IsRule, IsWhy}
-use Rattle.cap_io.specs.Sequence.{Event, Packet, InputItems, whole_input}
+use Rattle.cap_io.specs.Sequence.{Event, InputItems, whole_input}
 use Rattle.cap_process.specs.Messages.{fault_message, no_memory_message, refusal_message, write_failed_message, IsTold}
 use Rattle.cap_filter.specs.Refusals.{refusal_status}
 use Rattle.cap_octet.specs.Views.{FreshInput}
 use Rattle.cap_process.specs.declared.output.Writing.{Writing}
 use Rattle.cap_process.specs.declared.output.Writing.TheVariants as writing
 use Rattle.cap_command.specs.Call.{Call, RunResult}
-use Rattle.cap_process.specs.Outcome.{Form, AsCapture, AsReports, AsLines, Outcome, Work, IsNextEvent, AreAllEvents, closing_text, cut_at, first_link, form_refuses, form_takes_memory, outcome, job_progress_after, text_after}
+use Rattle.cap_process.specs.Outcome.{Form, AsCapture, AsReports, AsLines, Outcome, Work, IsNextAnswer, NeedsMemory, cut_at, outcome, text_after}
 use Rattle.cap_process.specs.Reports.{name_at}
 use Rattle.cap_tools.specs.Start.{Assignment, Preparing, ReadsFilter, Compiles}
-use Rattle.cap_octet.specs.Packet.{Captured}
-use Rattle.cap_process.specs.Verdict.{Policy, Filter, Judgement, PassesAs, judge}
+use Rattle.cap_process.specs.Verdict.{Policy, Filter}
 
 -- ---- the work that a command asks
 
@@ -113,21 +112,12 @@ pub record HasCutInput (call : Call) (work : Work) (r : RunResult) : Type 0 wher
 
 -- ---- memory runs out
 
--- what becomes of a packet that comes after these events
-abbrev pub next_judgement : Work → List Event → Captured → Judgement
-next_judgement work es p =
-    judge work.policy (job_progress_after work es).state ((job_progress_after work es).decided + 1) p
-
--- after these events there was no memory to write the next packet, which is kept, and takes some
+-- after these events there was no memory to write the next packet
 pub record HasLackedMemory (call : Call) (work : Work) (r : RunResult) : Type 0 where
   pub events : List Event
   pub input : ℕ
   pub packet : Placed
-  pub next : IsNextEvent work (whole_inputs call) events (Packet input packet)
-  pub kept : Captured
-  pub passes : PassesAs (next_judgement work events packet.packet).verdict kept
-  pub taken : form_refuses work.form (job_progress_after work events).packets kept ≡ None
-  pub takes : form_takes_memory work.form (job_progress_after work events).packets kept ≡ true
+  pub needs : NeedsMemory work (whole_inputs call) events input packet
   pub output : r.output.written ≡ call.output.written ++ text_after work events
   pub failures : r.output.failures ≡ call.output.failures
   pub message : IsTold call.tells call.messages
@@ -143,19 +133,12 @@ pub record NeverBegan (call : Call) (r : RunResult) : Type 0 where
 
 -- ---- the output fails
 
--- What is next after what was written: what one event adds, or what ends the output.
-pub data IsNextAnswer (work : Work) (rs : List InputItems) (written bytes : List ℕ) : Type 0 where
-  by_event : (es : List Event) (e : Event) → IsNextEvent work rs es e
-      → written ≡ text_after work es
-      → text_after work (es ++ e ∷ []) ≡ written ++ bytes → IsNextAnswer work rs written bytes
-  by_end : (es : List Event) → AreAllEvents work rs es → written ≡ text_after work es
-      → bytes ≡ closing_text work.form (first_link rs) (job_progress_after work es).packets
-      → IsNextAnswer work rs written bytes
-
--- it is a command's; that of a compilation is its listing
+-- What is next after what was written: what one event of the command's work adds, or its clean end;
+-- that of a compilation is its listing.
 pub data IsAnswer (asked : Assignment) (call : Call) (written bytes : List ℕ) : Type 0 where
-  packets_answer : (work : Work) → IsWork asked call work
-      → IsNextAnswer work (whole_inputs call) written bytes → IsAnswer asked call written bytes
+  packets_answer : (work : Work) → IsWork asked call work → (es : List Event) → (e : Option Event)
+      → written ≡ text_after work es → IsNextAnswer work (whole_inputs call) es e bytes
+      → IsAnswer asked call written bytes
   listing_answer : (words : List ℕ) (link : Link) (prog : List Insn)
       → asked.preparing ≡ Some (Compiles words link) → IsCompiled words link prog
       → written ≡ [] → bytes ≡ listing prog → IsAnswer asked call written bytes

@@ -7,14 +7,14 @@ ghost use Rattle.cap_octet.specs.Views.{device_view, fresh_input, fresh_output, 
 ghost use Rattle.cap_tools.specs.Bounds.{ReadsNothing, StepReads};
 ghost use Rattle.cap_command.specs.Call.{call_of, run_result};
 ghost use Rattle.cap_inputs.specs.inside.Inputs.{most_steps};
-ghost use Rattle.cap_inputs.specs.Inputs as input_spec;
+ghost use Rattle.cap_inputs.specs.inside.Inputs as input_spec;
 ghost use Rattle.cap_tools.specs.Jobs.{end_status, end_message};
 ghost use Rattle.cap_tools.specs.Run.{CommandRuns};
 ghost use Rattle.cap_tools.specs.Start.{assignment};
 
 use crate::messages::Messages;
 use crate::start::{Assignment, Preparation, assignment_of, read_filter};
-use crate::step::{JobEnd, close, decide, unwritten};
+use crate::step::{JobEnd, close, decide, end_after, unwritten};
 use cap_command::{Command, Compile, Print};
 use cap_filter::compile::compile_text;
 use cap_filter::filter::Filter;
@@ -62,7 +62,7 @@ impl<I: Input, O: Output, E: Output, A: Allocator> Model for Job<I, O, E, A> {
     ghost use Rattle.cap_tools.specs.Bounds.{IsBounded};
     ghost use Rattle.cap_tools.specs.inside.Bounds.{HasFewTurns};
     ghost use Rattle.cap_tools.specs.inside.Commands.{IsReadyIf};
-    ghost use Rattle.cap_inputs.specs.Inputs.{steps_left};
+    ghost use Rattle.cap_inputs.specs.inside.Inputs.{steps_left};
     ghost use Rattle.cap_inputs.specs.inside.Inputs.{most_steps};
     ghost use Rattle.cap_tools.specs.Jobs.{JobView, state_at};
     ghost use Rattle.cap_tools.specs.inside.Jobs.{IsCounted};
@@ -118,7 +118,7 @@ impl<I: Input, O: Output, E: Output, A: Allocator + Copy + Drop> Job<I, O, E, A>
     ghost use Rattle.cap_tools.specs.Commands.{StepReadsBy};
     ghost use Rattle.cap_tools.specs.FirstStep.{RefusesStart, filtering};
     ghost use Rattle.cap_tools.specs.inside.FirstStep.{EndsList, IsFresh};
-    ghost use Rattle.cap_tools.specs.inside.FirstStep.{is_text};
+    ghost use Rattle.cap_process.specs.inside.Output.{is_text};
     ghost use Rattle.cap_tools.specs.Jobs.{JobGives, first_job};
     ghost use Rattle.cap_tools.specs.Jobs.{turn_goes_on};
     ghost use Rattle.cap_inputs.specs.Fresh.{nothing_done};
@@ -282,10 +282,10 @@ impl<I: Input, O: Output, E: Output, A: Allocator + Copy + Drop> Job<I, O, E, A>
             &mut self.output,
             number,
         ) {
-            Ok(last) => {
+            Ok(verdict) => {
                 self.inputs.mark_decided(input);
                 self.decided = number;
-                if last { Some(JobEnd::Complete) } else { None }
+                end_after(verdict)
             }
             Err(fault) => Some(unwritten(input, fault)),
         }

@@ -9,7 +9,7 @@ ghost use Rattle.cap_io.specs.Sequence.{order_of};
 ghost use Rattle.cap_tools.specs.Start.{assignment, lines_unless, preparing_of};
 
 use cap_command::{Command, Compile, Print};
-use cap_filter::filter::{Filter, read_code, read_words};
+use cap_filter::filter::{Filter, filter_of_listing, filter_of_words};
 use cap_filter::refusal::Refusal;
 use cap_print::Options;
 use cap_process::{Policy, Writing};
@@ -125,7 +125,7 @@ pub fn read_filter<A: Allocator + Copy + Drop>(
 {
     let words = print.expr.as_str();
     match &print.code {
-        Some(text) => read_code(alloc, words, text),
-        None => read_words(alloc, words),
+        Some(text) => filter_of_listing(alloc, words, text),
+        None => filter_of_words(alloc, words),
     }
 }

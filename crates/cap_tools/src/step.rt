@@ -5,7 +5,7 @@ ghost use Rattle.cap_process.specs.Output.{HasFewOutputInterfaces, output_at};
 ghost use Rattle.cap_process.specs.inside.Reports.{FitsTally};
 ghost use Rattle.cap_process.specs.inside.Selector.{GrowsByOne, HasFewMarks, policy_state};
 ghost use Rattle.cap_tools.specs.Packets.{asks_report};
-ghost use Rattle.cap_tools.specs.inside.Packets.{Closes, DecidesPacket, Offers, Spends, sieve, end_of_failed_write};
+ghost use Rattle.cap_tools.specs.inside.Packets.{Closes, DecidesPacket, Offers, Spends, sieve, end_after, end_of_failed_write};
 
 use crate::messages::Messages;
 use cap_inputs::{InputCursor, Inputs};
@@ -24,34 +24,30 @@ pub enum JobEnd {
     OutputFailed,
 }
 
-/// Writes a packet that passes, and returns whether it is the last.
+/// Writes a packet that passes.
 fn put<O: Output, A: Allocator>(
     verdict: Verdict,
     packet: &Packet<'_>,
     output: &mut JobOutput<O, A>,
-) -> Result<bool, Fault>
+) -> Result<(), Fault>
     ensures exact { IsTrue O.tells → Offers verdict (captured packet.now) output.old result
         output.new }
     ensures upper_bound { HasFewOutputInterfaces output.old → HasFewOutputInterfaces output.new }
 {
-    let last = match verdict {
-        Verdict::Pass => false,
-        Verdict::PassLast => true,
-        Verdict::Skip => return Ok(false),
-    };
-    match output.put(packet) {
-        Ok(()) => Ok(last),
-        Err(fault) => Err(fault),
+    match verdict {
+        Verdict::Pass => output.put(packet),
+        Verdict::PassLast => output.put(packet),
+        Verdict::Skip => Ok(()),
     }
 }
 
-/// Decides the current packet of an input, and returns whether it is the last.
+/// Decides the current packet of an input, which is written where it passes.
 pub(crate) fn decide<I: Input, O: Output, A: Allocator + Copy + Drop>(
     cursor: &InputCursor<I, A>,
     selector: &mut Selector<A>,
     output: &mut JobOutput<O, A>,
     number: u128,
-) -> Result<bool, Fault>
+) -> Result<Verdict, Fault>
     requires { cursor.now.waiting ≡ true }
     ensures exact { IsTrue O.tells → selector.old.state.passed < number
         → FitsTally selector.old.state.tally
@@ -67,7 +63,18 @@ pub(crate) fn decide<I: Input, O: Output, A: Allocator + Copy + Drop>(
 {
     let mut packet = cursor.packet().unwrap();
     let verdict = selector.judge(number, &mut packet)?;
-    put(verdict, &packet, output)
+    put(verdict, &packet, output)?;
+    Ok(verdict)
+}
+
+/// The last packet that passes ends the job.
+pub(crate) fn end_after(verdict: Verdict) -> Option<JobEnd>
+    ensures { result ≡ end_after verdict }
+{
+    match verdict {
+        Verdict::PassLast => Some(JobEnd::Complete),
+        Verdict::Pass | Verdict::Skip => None,
+    }
 }
 
 /// Reports an input that was read to its end, where files are counted, one after another. It

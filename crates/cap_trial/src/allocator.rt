@@ -3,14 +3,14 @@
 use std::alloc::{AllocError, Allocator};
 use std::cell::Cell;
 
-/// What was asked, and what is to be refused.
+/// How many growths were asked for, and which one is refused: its number from 1, or 0 for none.
 pub struct Plan {
     growths: Cell<u64>,
     refused: Cell<u64>,
 }
 
-/// Passes each call on to another allocator, but for one growth. One that makes more of a vector
-/// counts as one.
+/// An allocator that passes each call on to another one, but refuses one growth. A growth is a call
+/// for memory; one that makes a vector longer is one call.
 pub struct Trial<B: Allocator> {
     inner: B,
     plan: Plan,
@@ -28,7 +28,7 @@ impl<B: Allocator> Trial<B> {
         }
     }
 
-    /// Counts from 0 again, and refuses growth number `number`, or none at 0.
+    /// Counts from 0 again, and refuses the growth with this number, from 1, or none at 0.
     pub fn refuse(&self, number: u64) {
         self.plan.growths.set(0);
         self.plan.refused.set(number);

@@ -2,7 +2,7 @@
 use Rattle.std.proofs.Common.{◌≡◌, ◌≢◌, ℕ, ◌+◌, ◌-◌, ◌<◌, ◌≤◌, inl, inr, Bool, not, List, length, refl, sym, ap, ◌∙◌, subst, arith, IsTrue}
 use Rattle.std.proofs.lemmas.Bool.{eq-eqb, cases_order}
 use Rattle.cap_window.specs.Marks.{is_same_mark}
-use Rattle.cap_window.specs.inside.Index.{IsMarkTree, Empty, Topped, every, marks_with_bit, but, has_hash, hash_of, is_one, link_by_bit, links_at, mark_at}
+use Rattle.cap_window.specs.inside.Index.{IsMarkTree, Empty, Topped, every, marks_with_bit, but, has_hash, hash_of, mark_bit, link_by_bit, links_at, mark_at}
 use Rattle.cap_window.specs.declared.links.Links.{Links}
 use Rattle.cap_window.specs.declared.mark.Mark.{Mark}
 use Rattle.cap_window.proofs.Marks.{is_same-Decides}
@@ -40,17 +40,17 @@ searched_step ms ls e depth limit d s = least s.class s.wanted depth limit d s.t
 -- e isn't the top
 next_of : (ms : List Mark) (ls : List Links) (e : Mark) (class wanted : Mark → Bool) (depth limit d top : ℕ) → IsMarkTree ms ls class wanted depth limit d → limit ≡ top + d
     → IsTrue (class e) → IsTrue (wanted e) → depth + limit ≤ length ms → ((j : ℕ) → limit ≤ j → j < length ms → mark_at ms j ≢ e) → mark_at ms top ≢ e
-    → IsSearched ms ls e (depth + 1) top (link_by_bit (links_at ls top) (is_one e depth))
+    → IsSearched ms ls e (depth + 1) top (link_by_bit (links_at ls top) (mark_bit e depth))
 next_of ms ls e class wanted depth limit d top (Empty _ _ _ _ _ past none) place belongs is_wanted within before other = absurd (omega arith)
 next_of ms ls e class wanted depth limit d top (Topped _ _ _ _ _ there at step is none below) place belongs is_wanted within before other =
     let same : there ≡ top = omega arith in
     let other' : mark_at ms there ≢ e = λ equal. other (ap (mark_at ms) (sym same) ∙ equal) in
-    subst (λ (i : ℕ). IsSearched ms ls e (depth + 1) i (link_by_bit (links_at ls i) (is_one e depth))) same
+    subst (λ (i : ℕ). IsSearched ms ls e (depth + 1) i (link_by_bit (links_at ls i) (mark_bit e depth))) same
     (record {
-      class = marks_with_bit class depth (is_one e depth);
+      class = marks_with_bit class depth (mark_bit e depth);
       wanted = but wanted (mark_at ms there);
-      tree = below (is_one e depth);
-      belongs = in_half class depth (is_one e depth) e belongs refl;
+      tree = below (mark_bit e depth);
+      belongs = in_half class depth (mark_bit e depth) e belongs refl;
       is_wanted = join (wanted e) (not (is_same_mark e (mark_at ms there))) is_wanted
           (true-not (is_same_mark e (mark_at ms there)) (λ equal. other' (sym ((is_same-Decides e (mark_at ms there)).0 equal))));
       within = omega arith;
@@ -66,7 +66,7 @@ next_of ms ls e class wanted depth limit d top (Topped _ _ _ _ _ there at step i
     })
 
 pub searched_next : (ms : List Mark) (ls : List Links) (e : Mark) (depth limit d : ℕ) → IsSearched ms ls e depth limit d → d ≤ limit → mark_at ms (limit - d) ≢ e
-    → IsSearched ms ls e (depth + 1) (limit - d) (link_by_bit (links_at ls (limit - d)) (is_one e depth))
+    → IsSearched ms ls e (depth + 1) (limit - d) (link_by_bit (links_at ls (limit - d)) (mark_bit e depth))
 searched_next ms ls e depth limit d s le other =
     next_of ms ls e s.class s.wanted depth limit d (limit - d) s.tree (omega arith) s.belongs s.is_wanted s.within s.none other
 

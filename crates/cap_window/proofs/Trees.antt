@@ -3,7 +3,7 @@ use Rattle.std.proofs.Common.{◌≡◌, ◌≢◌, ℕ, ◌+◌, ◌-◌, ◌^�
 use Rattle.std.proofs.lemmas.Bool.{cases_order}
 use Rattle.cap_window.specs.Marks.{is_same_mark}
 use Rattle.std.proofs.lemmas.List.{get_or-set_other, get_or-set_same}
-use Rattle.cap_window.specs.inside.Index.{IsOnTop, IsPutOnTop, IsMarkTree, Empty, Topped, HasNoMark, every, marks_with_bit, but, is_one, link_by_bit, links_at, mark_at}
+use Rattle.cap_window.specs.inside.Index.{IsOnTop, IsPutOnTop, IsMarkTree, Empty, Topped, HasNoMark, every, marks_with_bit, but, mark_bit, link_by_bit, links_at, mark_at}
 use Rattle.cap_window.specs.declared.links.Links.{Links}
 use Rattle.cap_window.specs.declared.mark.Mark.{Mark}
 use Rattle.cap_window.proofs.Marks.{is_same-Decides}
@@ -29,21 +29,21 @@ below_or : (a b : ℕ) → (a < b) ⊎ (b ≤ a)
 below_or a b = elim (cases_order a b) [ inl e ↦ inr (omega arith) | inr (inl lt) ↦ inl lt | inr (inr gt) ↦ inr (omega arith) ]
 
 pub half-class : (class : Mark → Bool) (depth : ℕ) (bit : Bool) (m : Mark) → IsTrue (marks_with_bit class depth bit m) → IsTrue (class m)
-half-class class depth true m is = (both (class m) (is_one m depth) is).0
-half-class class depth false m is = (both (class m) (not (is_one m depth)) is).0
+half-class class depth true m is = (both (class m) (mark_bit m depth) is).0
+half-class class depth false m is = (both (class m) (not (mark_bit m depth)) is).0
 
 -- a mark of one half is none of the other
-pub half-bit : (class : Mark → Bool) (depth : ℕ) (bit : Bool) (m : Mark) → IsTrue (marks_with_bit class depth bit m) → is_one m depth ≡ bit
-half-bit class depth true m is = (both (class m) (is_one m depth) is).1
-half-bit class depth false m is = unset (is_one m depth) (both (class m) (not (is_one m depth)) is).1
+pub half-bit : (class : Mark → Bool) (depth : ℕ) (bit : Bool) (m : Mark) → IsTrue (marks_with_bit class depth bit m) → mark_bit m depth ≡ bit
+half-bit class depth true m is = (both (class m) (mark_bit m depth) is).1
+half-bit class depth false m is = unset (mark_bit m depth) (both (class m) (not (mark_bit m depth)) is).1
   where
     unset : (b : Bool) → not b ≡ true → b ≡ false
     unset true e = cc
     unset false e = refl
 
-pub in_half : (class : Mark → Bool) (depth : ℕ) (bit : Bool) (m : Mark) → IsTrue (class m) → is_one m depth ≡ bit → IsTrue (marks_with_bit class depth bit m)
-in_half class depth true m is bit = join (class m) (is_one m depth) is bit
-in_half class depth false m is bit = join (class m) (not (is_one m depth)) is (ap not bit)
+pub in_half : (class : Mark → Bool) (depth : ℕ) (bit : Bool) (m : Mark) → IsTrue (class m) → mark_bit m depth ≡ bit → IsTrue (marks_with_bit class depth bit m)
+in_half class depth true m is bit = join (class m) (mark_bit m depth) is bit
+in_half class depth false m is bit = join (class m) (not (mark_bit m depth)) is (ap not bit)
 
 -- ---- trees
 
@@ -214,7 +214,7 @@ not_both false e = cc
 -- the mark that is taken the place of goes down by one bit
 pub placing_next : (ms : List Mark) (start now : List Links) (first : Mark → Bool) (newest depth place d top : ℕ) (bit : Bool) (l : Links)
     → IsPlacing ms start now first newest depth place d → place ≡ top + d → place < length now → place + 1 < 2 ^ 32
-    → bit ≡ is_one (mark_at ms top) depth → link_by_bit l bit ≡ d
+    → bit ≡ mark_bit (mark_at ms top) depth → link_by_bit l bit ≡ d
     → link_by_bit l (not bit) ≡ min (link_by_bit (links_at now top) (not bit) + d) (2 ^ 32 - 1)
     → IsPlacing ms start (set now place l) first newest (depth + 1) top (link_by_bit (links_at now top) bit)
 placing_next ms start now first newest depth place d top bit l p at within upper_bound is_bit to other =
@@ -241,7 +241,7 @@ placing_next ms start now first newest depth place d top bit l p at within upper
                 (moved ms now done p.class p.wanted depth place top d _ (not bit) t at upper_bound
                 (λ j less is. same j (λ le half_is. not_both bit (sym (half-bit p.class depth bit (mark_at ms j) half_is) ∙ half-bit p.class depth (not bit) (mark_at ms j) is))
                 ∙ set_other now place j l (λ e'. omega arith))
-                (λ m is want equal. not_both bit (is_bit ∙ ap (λ (x : Mark). is_one x depth) (sym equal) ∙ half-bit p.class depth (not bit) m is))
+                (λ m is want equal. not_both bit (is_bit ∙ ap (λ (x : Mark). mark_bit x depth) (sym equal) ∙ half-bit p.class depth (not bit) m is))
                 (rw (here, other) refl))
           ]));
     }

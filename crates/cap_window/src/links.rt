@@ -1,9 +1,10 @@
-//! How the marks of one hash hang together.
+//! The trees of the index: how the marks of one hash hang together, and how the newest comes on
+//! top.
 ghost use Rattle.std.specs.Prelude.{◌≡◌, ◌-◌, ◌<◌, ◌^◌, Bool, length};
-ghost use Rattle.cap_window.specs.inside.Index.{IsHung, IsPutOnTop, is_one};
+ghost use Rattle.cap_window.specs.inside.Index.{IsHung, IsPutOnTop, mark_bit};
 ghost use Rattle.cap_window.specs.declared.mark.Mark.{Mark};
 
-use crate::mark::{Mark, same};
+use crate::mark::{Mark, is_same_mark};
 use circular_buffer::HeapCircularBuffer;
 use std::alloc::Allocator;
 
@@ -27,9 +28,9 @@ impl Links {
         if bit { self.ones } else { self.zeros }
     }
 
-    /// The same links from a mark that is `step` places after.
+    /// The links to the same marks from a mark that is `step` places after; 2^32 - 1 at most.
     #[inline]
-    fn following(&self, step: u32) -> Links
+    fn moved_by(&self, step: u32) -> Links
         ensures zeros { result.zeros ≡ min (self.now.zeros + step) (2 ^ 32 - 1) }
         ensures ones { result.ones ≡ min (self.now.ones + step) (2 ^ 32 - 1) }
     {
@@ -39,9 +40,9 @@ impl Links {
         }
     }
 
-    /// The same links but one.
+    /// These links, but `step` to the marks with this bit.
     #[inline]
-    fn with(self, bit: bool, step: u32) -> Links
+    fn with_link(self, bit: bool, step: u32) -> Links
         ensures bit { link_by_bit result bit ≡ step }
         ensures other { link_by_bit result (not bit) ≡ link_by_bit self (not bit) }
     {
@@ -56,11 +57,12 @@ impl Links {
     }
 }
 
-/// A bit of a mark: of its digest, from the last byte on, and then of its length.
+/// The bit of a mark at a depth: of its digest, from the last byte on and the lowest bit of each
+/// first, and from depth 128 on of its length.
 #[inline]
-#[tactic(auto, unfolding(crate::specs::inside::Index::is_one))]
-pub fn is_one(mark: &Mark, depth: u32) -> bool
-    ensures { result ≡ is_one mark.now depth }
+#[tactic(auto, unfolding(crate::specs::inside::Index::mark_bit))]
+pub fn mark_bit(mark: &Mark, depth: u32) -> bool
+    ensures { result ≡ mark_bit mark.now depth }
 {
     if depth < 128 {
         let byte = mark.digest[15 - depth as usize / 8];
@@ -97,12 +99,12 @@ pub fn place_newest<A: Allocator>(
         let lower = place - step as usize;
         let (above, below) = (marks.get(place).unwrap(), marks.get(lower).unwrap());
         let under = *links.get(lower).unwrap();
-        if same(above, below) {
-            *links.get_mut(place).unwrap() = under.following(step);
+        if is_same_mark(above, below) {
+            *links.get_mut(place).unwrap() = under.moved_by(step);
             return;
         }
-        let bit = is_one(below, depth);
-        *links.get_mut(place).unwrap() = under.following(step).with(bit, step);
+        let bit = mark_bit(below, depth);
+        *links.get_mut(place).unwrap() = under.moved_by(step).with_link(bit, step);
         (place, step, depth) = (lower, under.link(bit), depth + 1);
     }
     *links.get_mut(place).unwrap() = Links {

@@ -1,4 +1,4 @@
-//! What a window keeps of a packet.
+//! Marks: what a window keeps of a packet and compares.
 ghost use Rattle.std.specs.Prelude.{◌≡◌, ◌^◌, ◌<◌, ◌↔◌, length, IsTrue};
 ghost use Rattle.cap_window.specs.Marks.{mark_of};
 
@@ -22,9 +22,9 @@ pub(crate) fn mark_of(bytes: &[u8]) -> Mark
     }
 }
 
-/// Whether two marks are equal.
+/// Whether two marks are equal, in length and digest.
 #[inline]
-pub(crate) fn same(a: &Mark, b: &Mark) -> bool
+pub(crate) fn is_same_mark(a: &Mark, b: &Mark) -> bool
     ensures { IsTrue result ↔ (a.now ≡ b.now) }
 {
     a.length == b.length && a.digest == b.digest

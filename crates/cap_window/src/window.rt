@@ -2,8 +2,8 @@
 ghost use Rattle.std.specs.Prelude.{◌≡◌, ℕ, ◌+◌, ◌-◌, ◌^◌, ◌<◌, ◌≤◌, EachIndex, slice_index};
 ghost use Rattle.cap_window.specs.inside.Index.{hash_of};
 
-use crate::links::{Links, is_one, place_newest};
-use crate::mark::{Mark, mark_of, same};
+use crate::links::{Links, mark_bit, place_newest};
+use crate::mark::{Mark, is_same_mark, mark_of};
 use circular_buffer::HeapCircularBuffer;
 use std::alloc::{AllocError, Allocator};
 use std::marker::Model;
@@ -24,6 +24,7 @@ pub struct Window<A: Allocator> {
     links: HeapCircularBuffer<Links, A>,
     /// For each hash the number of the newest mark that has it, or 0.
     heads: Vec<u32, A>,
+    /// One less than the number of heads: the bits of a hash.
     mask: u32,
     /// The number of the newest mark.
     newest: u32,
@@ -59,7 +60,7 @@ impl<A: Allocator> Window<A> {
     {
         let marks = HeapCircularBuffer::with_capacity(alloc, capacity as usize)?;
         let links = HeapCircularBuffer::with_capacity(alloc, capacity as usize)?;
-        let mask = mask_for(capacity);
+        let mask = head_mask(capacity);
         let heads = Vec::from_elem(alloc, 0u32, mask as usize + 1)?;
         Ok(Window {
             marks,
@@ -95,15 +96,16 @@ impl<A: Allocator> Window<A> {
         let mut step = self.newest + 1 - self.heads[hash];
         while step as usize <= limit {
             limit -= step as usize;
-            if same(self.marks.get(limit).unwrap(), mark) {
+            if is_same_mark(self.marks.get(limit).unwrap(), mark) {
                 return true;
             }
-            step = self.links.get(limit).unwrap().link(is_one(mark, depth));
+            step = self.links.get(limit).unwrap().link(mark_bit(mark, depth));
             depth += 1;
         }
         false
     }
 
+    /// Puts a mark into the window as the newest; the oldest leaves it where it is full.
     fn push(&mut self, mark: Mark)
         ensures { self.new ≡ window (last self.old.capacity (self.old.marks ++ mark ∷ []))
             self.old.capacity }
@@ -118,10 +120,12 @@ impl<A: Allocator> Window<A> {
         });
         place_newest(&self.marks, &mut self.links, step);
         self.heads[hash] = number;
-        self.newest = renumbered(&mut self.heads, number, self.marks.len() as u32);
+        self.newest = renumber(&mut self.heads, number, self.marks.len() as u32);
     }
 }
 
+/// The hash of a mark, which is the index of its head: the low bits of its digest's first four
+/// bytes.
 fn hash_of(mark: &Mark, mask: u32) -> usize
     ensures value { result ≡ hash_of mask mark.now }
     ensures bound { result ≤ mask }
@@ -130,15 +134,15 @@ fn hash_of(mark: &Mark, mask: u32) -> usize
     (u32::from_le_bytes([a, b, c, d]) & mask) as usize
 }
 
-/// One less than the number of heads, which is a power of two.
-fn mask_for(capacity: u32) -> u32
+/// The mask of a hash: one less than the number of heads, which is a power of two.
+fn head_mask(capacity: u32) -> u32
     ensures { result < 2 ^ 31 }
 {
     capacity.min(MOST_HEADS).next_power_of_two() - 1
 }
 
-/// Each becomes smaller by the same, down to 0.
-fn lower(numbers: &mut [u32], less: u32)
+/// Makes each number smaller by `less`, down to 0.
+fn lower_all(numbers: &mut [u32], less: u32)
     ensures { EachIndex numbers.old
         (λ i. slice_index numbers.new i ≡ slice_index numbers.old i - less) }
 {
@@ -147,9 +151,10 @@ fn lower(numbers: &mut [u32], less: u32)
     }
 }
 
-/// The number of the newest mark, of which `kept` are kept. Where the numbers run out all become
-/// smaller by one difference, and what left the window becomes 0.
-fn renumbered(heads: &mut [u32], newest: u32, kept: u32) -> u32
+/// Returns the number of the newest mark, which `newest` stays while numbers last. Where they run
+/// out, all heads become smaller by one difference, so that the `kept` marks of the window are
+/// numbered from 1 again, and what left the window becomes 0.
+fn renumber(heads: &mut [u32], newest: u32, kept: u32) -> u32
     requires { (kept ≤ newest) × (kept + 1 < 2 ^ 32) }
     ensures heads { EachIndex heads.old
         (λ h. slice_index heads.new h ≡ slice_index heads.old h - (newest - result)) }
@@ -159,6 +164,6 @@ fn renumbered(heads: &mut [u32], newest: u32, kept: u32) -> u32
     if newest < u32::MAX {
         return newest;
     }
-    lower(heads, newest - kept);
+    lower_all(heads, newest - kept);
     kept
 }

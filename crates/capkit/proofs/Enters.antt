@@ -14,7 +14,7 @@ use Rattle.clap.specs.declared.parser.matches.ArgMatches.{ArgMatches}
 use Rattle.clap.specs.Words.{subcommand_name_of, subcommand_rows_of}
 use Rattle.clap.specs.declared.parser.matches.SubCommand.{SubCommand}
 use Rattle.capkit_args.specs.Arguments.{TakesWords, line_app, name_of}
-use Rattle.capkit_args.specs.inside.Arguments.{subcommand_named}
+use Rattle.capkit_args.specs.inside.Arguments.{subcommand_of_name}
 use Rattle.capkit.specs.Line.{Asks}
 use Rattle.capkit_args.specs.declared.arguments.Subcommand.{Subcommand}
 use Rattle.capkit_args.specs.declared.arguments.Subcommand.TheVariants as sub
@@ -92,7 +92,7 @@ always_enters words into taken none =
     let bad : None ≡ Some asked.1 = none ∙ ap (option_map (λ p. p.1)) asked.2 in
     cc
 
-named_back : (asked : Subcommand) → subcommand_named (name_of asked) ≡ asked
+named_back : (asked : Subcommand) → subcommand_of_name (name_of asked) ≡ asked
 named_back sub.Edit = refl
 named_back sub.Merge = refl
 named_back sub.Infos = refl
@@ -100,24 +100,24 @@ named_back sub.Print = refl
 named_back sub.Compile = refl
 
 -- the subcommand of the name that a parse met, with its matches
-asks_pair : (words : List Text) (p : Text × List Row) → TakesWords words (Some p) → Asks words (subcommand_named p.0) p.1
+asks_pair : (words : List Text) (p : Text × List Row) → TakesWords words (Some p) → Asks words (subcommand_of_name p.0) p.1
 asks_pair words p taken =
     let asked = asked_of words (Some p) taken in
     let met : Some p ≡ Some (name_of asked.0, asked.1) = asked.2 in
     let same : p ≡ (name_of asked.0, asked.1) = cc in
     let is : p.0 ≡ name_of asked.0 = ap (λ (q : Text × List Row). q.0) same in
-    let name : p.0 ≡ name_of (subcommand_named p.0) =
-    is ∙ ap name_of (sym (ap subcommand_named is ∙ named_back asked.0)) in
+    let name : p.0 ≡ name_of (subcommand_of_name p.0) =
+    is ∙ ap name_of (sym (ap subcommand_of_name is ∙ named_back asked.0)) in
     subst (TakesWords words) (λ i. Some (name i, p.1)) taken
 
 pub asks : (words : List Text) (into : Option (Text × List Row)) (name : Text) (matches : List Row) → TakesWords words into
-    → Some name ≡ option_map (λ p. p.0) into → Some matches ≡ option_map (λ p. p.1) into → Asks words (subcommand_named name) matches
+    → Some name ≡ option_map (λ p. p.0) into → Some matches ≡ option_map (λ p. p.1) into → Asks words (subcommand_of_name name) matches
 asks words None name matches taken named found = cc
 asks words (Some p) name matches taken named found =
     let name_is : p.0 ≡ name = cc in
     let matches_are : p.1 ≡ matches = cc in
     let same : p ≡ (name, matches) = λ i. (name_is i, matches_are i) in
-    subst (λ (q : Text × List Row). Asks words (subcommand_named q.0) q.1) same (asks_pair words p taken)
+    subst (λ (q : Text × List Row). Asks words (subcommand_of_name q.0) q.1) same (asks_pair words p taken)
 
 -- clap tells the name and the matches of a subcommand apart
 pub names_rows : {Z : Type 0} (found : Option (Box SubCommand Z))
@@ -126,7 +126,7 @@ names_rows None = refl
 names_rows (Some b) = refl
 
 pub asks_of : (met : ArgMatches) (words : List Text) (name : Text) (matches : List Row) (asked : Subcommand) → TakesWords words (subcommand_rows_of met)
-    → Some name ≡ subcommand_name_of met → Some matches ≡ option_map (λ p. p.1) (subcommand_rows_of met) → subcommand_named name ≡ asked
+    → Some name ≡ subcommand_name_of met → Some matches ≡ option_map (λ p. p.1) (subcommand_rows_of met) → subcommand_of_name name ≡ asked
     → Asks words asked matches
 asks_of met words name matches asked taken named found is =
     subst (λ a. Asks words a matches) is

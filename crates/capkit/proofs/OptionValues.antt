@@ -6,9 +6,9 @@ use Rattle.std.specs.Option.{option_and_then, option_map_or}
 use Rattle.std.specs.Str.Parse.{ParsesUnsigned, digits_value, without_leading_plus}
 use Rattle.std.proofs.lemmas.Bool.{and_from, and_parts, le-leb}
 use Rattle.cap_octet.specs.Date.{NANOS_PER_SECOND}
-use Rattle.cap_octet.specs.Digits.{number_of}
-use Rattle.cap_octet.specs.Seconds.{fraction_of, span_at, span_value, span_with, time_within}
-use Rattle.cap_octet.specs.Timestamp.{clock_with, date_time_value, day_with, number_at, optional_fraction, is_date_time, time_value, time_with}
+use Rattle.cap_octet.specs.Digits.{decimal_value}
+use Rattle.cap_octet.specs.Seconds.{fraction_nanoseconds, duration_at, duration_value, duration_of_parts, time_below_end}
+use Rattle.cap_octet.specs.Timestamp.{clock_of_parts, date_time_value, day_of_parts, number_at, optional_fraction, is_date_time, time_value, time_of_parts}
 use Rattle.cap_command.specs.Command.{is_at_least_one, is_time, is_window, least_window, most_window}
 use Rattle.clap.specs.Words.{ReadsOne, Text}
 use Rattle.clap.specs.ValueTests.{is_numeral, is_unsigned_in}
@@ -56,7 +56,7 @@ proper_window (Some n) some = and_from _ _ (le-leb least_window n some.0) (le-le
 
 -- ---- times
 
-within : (n : ℕ) → option_map_or is_time (time_within n) true ≡ true
+within : (n : ℕ) → option_map_or is_time (time_below_end n) true ≡ true
 within n = go (nat_lt n (2 ^ 63)) refl
   where
     go : (b : Bool) → nat_lt n (2 ^ 63) ≡ b → option_map_or is_time (if b then Some n else None) true ≡ true
@@ -68,26 +68,26 @@ then_within : {X : Type 0} (f : X → Option ℕ) (o : Option X) → ((x : X) �
 then_within f None each = refl
 then_within f (Some x) each = each x
 
-span_within : (seconds fraction : Option ℕ) → option_map_or is_time (span_with seconds fraction) true ≡ true
+span_within : (seconds fraction : Option ℕ) → option_map_or is_time (duration_of_parts seconds fraction) true ≡ true
 span_within seconds fraction = then_within _ seconds (λ s. then_within _ fraction (λ f. within (s * NANOS_PER_SECOND + f)))
 
-at_within : (text : Text) (point : Option ℕ) → option_map_or is_time (span_at text point) true ≡ true
-at_within text None = span_within (number_of text) (Some 0)
-at_within text (Some point) = span_within (number_of (take point text)) (fraction_of (drop (point + 1) text))
+at_within : (text : Text) (point : Option ℕ) → option_map_or is_time (duration_at text point) true ≡ true
+at_within text None = span_within (decimal_value text) (Some 0)
+at_within text (Some point) = span_within (decimal_value (take point text)) (fraction_nanoseconds (drop (point + 1) text))
 
 -- a number of seconds is less than 2^63 nanoseconds
-pub proper_span : (text : Text) → option_map_or is_time (span_value text) true ≡ true
-unfolding span_value
+pub proper_span : (text : Text) → option_map_or is_time (duration_value text) true ≡ true
+unfolding duration_value
 proper_span text = at_within text (position (λ b. b == 46) text)
 
-moment_within : (day clock fraction : Option ℕ) → option_map_or is_time (time_with day clock fraction) true ≡ true
+moment_within : (day clock fraction : Option ℕ) → option_map_or is_time (time_of_parts day clock fraction) true ≡ true
 moment_within day clock fraction = then_within _ day (λ d. then_within _ clock (λ c. then_within _ fraction (λ f. within ((d * 86400 + c) * NANOS_PER_SECOND + f))))
 
 date_within : (text : Text) → option_map_or is_time (date_time_value text) true ≡ true
 unfolding date_time_value
 date_within text =
-    moment_within (day_with (number_at text 0 4) (number_at text 5 2) (number_at text 8 2))
-    (clock_with (number_at text 11 2) (number_at text 14 2) (number_at text 17 2))
+    moment_within (day_of_parts (number_at text 0 4) (number_at text 5 2) (number_at text 8 2))
+    (clock_of_parts (number_at text 11 2) (number_at text 14 2) (number_at text 17 2))
     (optional_fraction (take (length text - 20) (drop 19 text)))
 
 -- so does a time
@@ -95,6 +95,6 @@ pub proper_time : (text : Text) → option_map_or is_time (time_value text) true
 unfolding time_value
 proper_time text = go (is_date_time text)
   where
-    go : (b : Bool) → option_map_or is_time (if b then date_time_value text else span_value text) true ≡ true
+    go : (b : Bool) → option_map_or is_time (if b then date_time_value text else duration_value text) true ≡ true
     go true = date_within text
     go false = proper_span text

@@ -6,12 +6,12 @@ use Rattle.std.specs.List.{join_by, list_any}
 use Rattle.std.specs.Option.{option_and_then, option_map_or, option_to_list}
 use Rattle.std.specs.Str.{bytes_eq}
 use Rattle.std.specs.Str.Parse.{digits_value, without_leading_plus}
-use Rattle.cap_octet.specs.Seconds.{span_value}
+use Rattle.cap_octet.specs.Seconds.{duration_value}
 use Rattle.cap_octet.specs.Timestamp.{time_value}
 use Rattle.cap_octet.specs.declared.format.Format.{Format}
 use Rattle.cap_octet.specs.declared.format.Format.TheVariants.{Pcapng}
-use Rattle.cap_octet.specs.Format.{format_named}
-use Rattle.cap_octet.specs.Link.{link_named}
+use Rattle.cap_octet.specs.Format.{format_of_name}
+use Rattle.cap_octet.specs.Link.{link_of_name}
 use Rattle.cap_command.specs.Command.{is_proper, least_window, most_inputs, most_ranges, most_window}
 use Rattle.cap_command.specs.declared.command.Command.{Command}
 use Rattle.cap_command.specs.declared.command.Command.TheVariants as command
@@ -48,11 +48,11 @@ flag_in id matches = option_map_or (λ text. bytes_eq text (codes "true")) (one_
 
 -- pcapng where no format is named
 abbrev pub format_in : Text → List Row → Format
-format_in id matches = unwrap_or (option_and_then format_named (first_of id matches)) Pcapng
+format_in id matches = unwrap_or (option_and_then format_of_name (first_of id matches)) Pcapng
 
 -- Ethernet where no link is named
 abbrev pub link_in : Text → List Row → Link
-link_in id matches = unwrap_or (option_and_then link_named (first_of id matches)) Ether
+link_in id matches = unwrap_or (option_and_then link_of_name (first_of id matches)) Ether
 
 -- the number from `least` to `most` that a text writes; a plus sign may be in front of it
 abbrev pub number_between : (least most : ℕ) → Text → Option ℕ
@@ -70,8 +70,8 @@ abbrev pub time_in : Text → List Row → Option ℕ
 time_in id matches = option_and_then time_value (first_of id matches)
 
 -- the nanoseconds of an argument's number of seconds
-abbrev pub span_in : Text → List Row → Option ℕ
-span_in id matches = option_and_then span_value (first_of id matches)
+abbrev pub duration_in : Text → List Row → Option ℕ
+duration_in id matches = option_and_then duration_value (first_of id matches)
 
 abbrev pub shift_by : (later earlier : Option ℕ) → Shift
 shift_by (Some span) earlier = shift.Later span
@@ -80,7 +80,7 @@ shift_by None None = shift.None
 
 -- times are shifted by `--later` or `--earlier`
 abbrev pub shift_in : List Row → Shift
-shift_in matches = shift_by (span_in ids.LATER.now matches) (span_in ids.EARLIER.now matches)
+shift_in matches = shift_by (duration_in ids.LATER.now matches) (duration_in ids.EARLIER.now matches)
 
 -- the packets are written in the named format where `-w` names a capture, and else a line for each
 -- of them
@@ -112,13 +112,13 @@ name_fault inputs output = if uses_name_twice inputs output then Some NameUsedTw
 abbrev pub is_bad_time : Text → List Row → Bool
 is_bad_time id matches = is_some (first_of id matches) && is_none (time_in id matches)
 
-abbrev pub is_bad_span : Text → List Row → Bool
-is_bad_span id matches = is_some (first_of id matches) && is_none (span_in id matches)
+abbrev pub is_bad_duration : Text → List Row → Bool
+is_bad_duration id matches = is_some (first_of id matches) && is_none (duration_in id matches)
 
 abbrev pub has_bad_time : List Row → Bool
 has_bad_time matches =
     is_bad_time ids.START.now matches || (is_bad_time ids.STOP.now matches
-    || (is_bad_span ids.LATER.now matches || is_bad_span ids.EARLIER.now matches))
+    || (is_bad_duration ids.LATER.now matches || is_bad_duration ids.EARLIER.now matches))
 
 abbrev pub time_fault : List Row → Option Usage
 time_fault matches = if has_bad_time matches then Some BadTime else None

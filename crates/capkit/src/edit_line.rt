@@ -1,24 +1,25 @@
-//! The line of an edit.
+//! The line of an edit: its options, its ranges and its names, or the first fault of them.
 ghost use Rattle.std.specs.Prelude.{◌≡◌, ◌⊎◌, IfOk, IfErr, OnOk, Some, None, map, true};
 ghost use Rattle.cap_command.specs.Command.{has_proper_ranges, is_proper_edit, is_proper_shift};
 ghost use Rattle.clap.specs.Words.{found_of, rows_of};
-ghost use Rattle.capkit.specs.Line.{edit_fault, has_bad_time, has_two_shifts, is_bad_span};
+ghost use Rattle.capkit.specs.Line.{edit_fault, has_bad_time, has_two_shifts, is_bad_duration};
 ghost use Rattle.capkit.specs.Line.{is_bad_time, is_ready, option_fault, range_fault, shift_in};
 ghost use Rattle.capkit.specs.Line.{HasOptions, IsEditOf, IsUsageOf};
 ghost use Rattle.capkit.specs.Range.{range_of};
 
-use crate::files::owned_texts;
+use crate::files::copies_of_texts;
 use crate::line::Line;
 use crate::names::uses_name_twice;
 use crate::range::range_in;
 use crate::usage::Usage;
-use crate::values::{flag, format, short_number, span, text, text_if, texts, time};
+use crate::values::{duration, flag, format, optional_text, short_number, text, texts, time};
 use cap_command::{Command, Edit, LEAST_WINDOW, MOST_RANGES, MOST_WINDOW, Shift};
 use capkit_args::ids;
 use clap::ArgMatches;
 use std::alloc::Global;
 
-/// The ranges that the words name.
+/// The ranges that the words name, 512 at most. An error is the first of these: there are more
+/// (`TooManyValues`), a word is no range (`BadRange`), or memory ran out.
 fn ranges_in(alloc: Global, words: &[&str]) -> Result<Vec<(u64, u64)>, Usage>
     ensures ranges { IfOk result (λ ranges. map Some ranges.items
         ≡ map range_of (map (λ word. word.now) words.now)) }
@@ -43,34 +44,36 @@ fn ranges_in(alloc: Global, words: &[&str]) -> Result<Vec<(u64, u64)>, Usage>
 fn is_bad_time(matches: &ArgMatches<'_>, id: &str) -> bool
     ensures { result ≡ is_bad_time id.now (rows_of (found_of matches.now)) }
 {
-    text_if(matches, id).is_some() && time(matches, id).is_none()
+    optional_text(matches, id).is_some() && time(matches, id).is_none()
 }
 
 /// Whether the argument has a text that is no number of seconds.
-fn is_bad_span(matches: &ArgMatches<'_>, id: &str) -> bool
-    ensures { result ≡ is_bad_span id.now (rows_of (found_of matches.now)) }
+fn is_bad_duration(matches: &ArgMatches<'_>, id: &str) -> bool
+    ensures { result ≡ is_bad_duration id.now (rows_of (found_of matches.now)) }
 {
-    text_if(matches, id).is_some() && span(matches, id).is_none()
+    optional_text(matches, id).is_some() && duration(matches, id).is_none()
 }
 
+/// Whether one of the four arguments for times and durations has a text that isn't one.
 fn has_bad_time(matches: &ArgMatches<'_>) -> bool
     ensures { result ≡ has_bad_time (rows_of (found_of matches.now)) }
 {
     is_bad_time(matches, ids::START)
         || is_bad_time(matches, ids::STOP)
-        || is_bad_span(matches, ids::LATER)
-        || is_bad_span(matches, ids::EARLIER)
+        || is_bad_duration(matches, ids::LATER)
+        || is_bad_duration(matches, ids::EARLIER)
 }
 
 /// Whether times are to be shifted both ways.
 fn has_two_shifts(matches: &ArgMatches<'_>) -> bool
     ensures { result ≡ has_two_shifts (rows_of (found_of matches.now)) }
 {
-    text_if(matches, ids::LATER).is_some() && text_if(matches, ids::EARLIER).is_some()
+    optional_text(matches, ids::LATER).is_some() && optional_text(matches, ids::EARLIER).is_some()
 }
 
-/// The first fault of the words of an edit, besides its ranges.
-fn check(matches: &ArgMatches<'_>) -> Result<(), Usage>
+/// Checks the words of an edit besides its ranges, or returns their first fault: a bad time, shifts
+/// both ways, a name used twice.
+fn check_edit(matches: &ArgMatches<'_>) -> Result<(), Usage>
     ensures passes { OnOk result (option_fault (rows_of (found_of matches.now)) ≡ None) }
     ensures refused { IfErr result (λ usage. option_fault (rows_of (found_of matches.now))
         ≡ Some usage) }
@@ -87,12 +90,15 @@ fn check(matches: &ArgMatches<'_>) -> Result<(), Usage>
     Ok(())
 }
 
-/// What is done to times.
-fn shift(matches: &ArgMatches<'_>) -> Shift
+/// How times are shifted: by `--later` or `--earlier`, in nanoseconds, or not.
+fn time_shift(matches: &ArgMatches<'_>) -> Shift
     ensures value { result ≡ shift_in (rows_of (found_of matches.now)) }
     ensures proper { is_proper_shift result ≡ true }
 {
-    match (span(matches, ids::LATER), span(matches, ids::EARLIER)) {
+    match (
+        duration(matches, ids::LATER),
+        duration(matches, ids::EARLIER),
+    ) {
         (Some(span), _) => Shift::Later(span),
         (None, Some(span)) => Shift::Earlier(span),
         (None, None) => Shift::None,
@@ -114,13 +120,13 @@ fn edit_of(matches: &ArgMatches<'_>, ranges: Vec<(u64, u64)>) -> Edit
         chop_start: short_number(matches, ids::CHOP_START, 0, u32::MAX).unwrap_or(0),
         chop_end: short_number(matches, ids::CHOP_END, 0, u32::MAX).unwrap_or(0),
         snap: short_number(matches, ids::SNAP, 1, u32::MAX),
-        shift: shift(matches),
+        shift: time_shift(matches),
         window: short_number(matches, ids::WINDOW, LEAST_WINDOW, MOST_WINDOW),
         format: format(matches, ids::FORMAT),
     }
 }
 
-/// The line of an edit.
+/// The line of an edit, by clap's matches, or the first fault of its words.
 pub fn edit_line(alloc: Global, matches: &ArgMatches<'_>) -> Result<Line, Usage>
     ensures line { IfOk result (IsEditOf (rows_of (found_of matches.now))) }
     ensures faultless { OnOk result (edit_fault (rows_of (found_of matches.now)) ≡ None) }
@@ -128,9 +134,9 @@ pub fn edit_line(alloc: Global, matches: &ArgMatches<'_>) -> Result<Line, Usage>
     ensures fault { IfErr result (IsUsageOf (edit_fault (rows_of (found_of matches.now)))) }
 {
     let ranges = ranges_in(alloc, texts(matches, ids::RANGE))?;
-    check(matches)?;
+    check_edit(matches)?;
     let output = String::from_str(alloc, text(matches, ids::OUT))?;
-    let inputs = owned_texts(alloc, &[text(matches, ids::IN)])?;
+    let inputs = copies_of_texts(alloc, &[text(matches, ids::IN)])?;
     Ok(Line {
         command: Command::Edit(edit_of(matches, ranges)),
         inputs,

@@ -1,4 +1,4 @@
-//! The names of inputs.
+//! The names of the inputs of a command that has several, and copies of names.
 ghost use Rattle.std.specs.Prelude.{◌≡◌, IfOk, IfErr, OnOk, None, map, option_map, string_bytes};
 ghost use Rattle.std.specs.Prelude.{length, true, vec_len};
 ghost use Rattle.clap.specs.Words.{found_of, rows_of};
@@ -13,7 +13,7 @@ use capkit_args::ids;
 use clap::ArgMatches;
 use std::alloc::{AllocError, Global};
 
-/// The names of the inputs.
+/// The names of the inputs, in order: there is one at least.
 fn names_in<'a>(alloc: Global, matches: &ArgMatches<'a>) -> Result<Vec<&'a str>, AllocError>
     ensures { IfOk result (λ names. map (λ name. name.now) names.items
         ≡ files_in (rows_of (found_of matches.entry.now))) }
@@ -24,8 +24,8 @@ fn names_in<'a>(alloc: Global, matches: &ArgMatches<'a>) -> Result<Vec<&'a str>,
     Ok(names)
 }
 
-/// Texts of their own.
-pub fn owned_texts(alloc: Global, names: &[&str]) -> Result<Vec<String>, AllocError>
+/// Copies of texts, which own their bytes. An error means that memory ran out.
+pub fn copies_of_texts(alloc: Global, names: &[&str]) -> Result<Vec<String>, AllocError>
     ensures texts { IfOk result (λ owned.
         map string_bytes owned.items ≡ map (λ name. name.now) names.now) }
     ensures count { IfOk result (λ owned. vec_len owned ≡ length names.now) }
@@ -37,7 +37,8 @@ pub fn owned_texts(alloc: Global, names: &[&str]) -> Result<Vec<String>, AllocEr
     Ok(owned)
 }
 
-/// The inputs, unless there are too many, or a name is used twice.
+/// The names of the inputs, copied. An error is the first of these: there are more than 256
+/// (`TooManyValues`), a name is used twice (`NameUsedTwice`), or memory ran out.
 pub fn input_names(
     alloc: Global,
     matches: &ArgMatches<'_>,
@@ -58,6 +59,6 @@ pub fn input_names(
     if uses_name_twice(&names, output) {
         return Err(Usage::NameUsedTwice);
     }
-    let inputs = owned_texts(alloc, &names)?;
+    let inputs = copies_of_texts(alloc, &names)?;
     Ok(inputs)
 }

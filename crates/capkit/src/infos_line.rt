@@ -10,7 +10,7 @@ use cap_command::Command;
 use clap::ArgMatches;
 use std::alloc::Global;
 
-/// The line of reports.
+/// The line of reports, by clap's matches, or the first fault of its words.
 pub fn infos_line(alloc: Global, matches: &ArgMatches<'_>) -> Result<Line, Usage>
     ensures line { IfOk result (IsInfosOf (rows_of (found_of matches.now))) }
     ensures faultless { OnOk result (infos_fault (rows_of (found_of matches.now)) ≡ None) }

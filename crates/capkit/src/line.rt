@@ -11,7 +11,7 @@ use crate::merge_line::merge_line;
 use crate::print_line::print_line;
 use crate::usage::Usage;
 use cap_command::{Command, Print};
-use capkit_args::arguments::{Subcommand, matches_of, subcommand_named};
+use capkit_args::arguments::{Subcommand, matches_of, subcommand_of_name};
 use clap::ArgMatches;
 use std::alloc::Global;
 
@@ -29,8 +29,12 @@ pub struct Line {
     pub code: Option<String>,
 }
 
-/// The line that the matches of a subcommand ask for.
-fn line_of(alloc: Global, asked: Subcommand, matches: &ArgMatches<'_>) -> Result<Line, Usage>
+/// The line that clap's matches of a subcommand ask for, or their first fault.
+fn line_of_matches(
+    alloc: Global,
+    asked: Subcommand,
+    matches: &ArgMatches<'_>,
+) -> Result<Line, Usage>
     ensures line { IfOk result (IsLineOf asked (rows_of (found_of matches.now))) }
     ensures faultless { OnOk result (fault_in asked (rows_of (found_of matches.now)) ≡ None) }
     ensures ready { IfOk result (λ line. is_ready line ≡ true) }
@@ -66,7 +70,7 @@ pub fn command_of(alloc: Global, words: Vec<String>) -> Result<Line, Usage>
     let Some((name, matches)) = matches.subcommand() else {
         unreachable!()
     };
-    line_of(alloc, subcommand_named(name), matches)
+    line_of_matches(alloc, subcommand_of_name(name), matches)
 }
 
 /// The command with these bytes as its listing. A command that takes no listing stays as it is.

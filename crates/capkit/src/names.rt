@@ -1,4 +1,4 @@
-//! Names of inputs and outputs.
+//! Names of inputs and outputs: which are standard streams, and which are used twice.
 ghost use Rattle.std.specs.Prelude.{◌≡◌, option_map, map, count_by};
 ghost use Rattle.std.specs.List.{list_any};
 ghost use Rattle.std.specs.Str.{bytes_eq};
@@ -7,6 +7,7 @@ ghost use Rattle.capkit.specs.Names.{is_standard, uses_name_twice};
 /// The name of a standard stream: input where it is read, output where it is written.
 pub const STANDARD: &str = "-";
 
+/// Whether one of the names is this one.
 fn is_among(names: &[&str], wanted: &str) -> bool
     ensures { result ≡ list_any (λ name. bytes_eq name wanted.now)
         (map (λ name. name.now) names.now) }
@@ -15,7 +16,7 @@ fn is_among(names: &[&str], wanted: &str) -> bool
 }
 
 /// How many of the names are those of a standard stream.
-fn standard_streams(names: &[&str]) -> usize
+fn standard_stream_count(names: &[&str]) -> usize
     ensures { result ≡ count_by is_standard (map (λ name. name.now) names.now) }
 {
     names.iter().filter(|name| **name == STANDARD).count()
@@ -29,6 +30,6 @@ pub fn uses_name_twice(inputs: &[&str], output: Option<&str>) -> bool
 {
     match output {
         Some(name) if name != STANDARD && is_among(inputs, name) => true,
-        _ => standard_streams(inputs) > 1,
+        _ => standard_stream_count(inputs) > 1,
     }
 }

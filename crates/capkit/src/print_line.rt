@@ -1,4 +1,5 @@
-//! The line of a print.
+//! The line of a print: its expression or its listing, its options and its names, or the first
+//! fault of them.
 ghost use Rattle.std.specs.Prelude.{◌≡◌, ◌∷◌, ◌≤◌, IfOk, IfErr, IfSome, OnOk, Some, None};
 ghost use Rattle.std.specs.Prelude.{option_map, string_bytes, true};
 ghost use Rattle.std.specs.Option.{option_map_or, option_to_list};
@@ -11,19 +12,19 @@ ghost use Rattle.capkit_args.specs.declared.ids.TheConstants.{BYTES, COUNT, LINK
 ghost use Rattle.capkit.specs.Line.{argument_number, print_fault, write_in, IsUsageOf, IsPrintOf};
 ghost use Rattle.capkit.specs.Names.{uses_name_twice};
 
-use crate::files::owned_texts;
+use crate::files::copies_of_texts;
 use crate::line::Line;
 use crate::names::uses_name_twice;
 use crate::usage::Usage;
-use crate::values::{flag, format, number, text, text_if, texts};
+use crate::values::{flag, format, number, optional_text, text, texts};
 use cap_command::{Command, Print};
 use cap_octet::Format;
 use capkit_args::ids;
 use clap::ArgMatches;
 use std::alloc::{AllocError, Global};
 
-/// The expression that the words are.
-pub fn expression(alloc: Global, matches: &ArgMatches<'_>) -> Result<String, AllocError>
+/// The text of an expression: its words, with a blank between each two.
+pub fn expression_text(alloc: Global, matches: &ArgMatches<'_>) -> Result<String, AllocError>
     ensures { IfOk result (λ expr. string_bytes expr
         ≡ expression_in (rows_of (found_of matches.now))) }
 {
@@ -31,8 +32,8 @@ pub fn expression(alloc: Global, matches: &ArgMatches<'_>) -> Result<String, All
     Ok(joined)
 }
 
-/// A text of its own, where there is one.
-fn owned(alloc: Global, text: Option<&str>) -> Result<Option<String>, AllocError>
+/// A copy of a text, which owns its bytes, where there is one. An error means that memory ran out.
+fn copy_of_text(alloc: Global, text: Option<&str>) -> Result<Option<String>, AllocError>
     ensures { IfOk result (λ owned. option_map string_bytes owned
         ≡ option_map (λ text. text.now) text.entry) }
 {
@@ -58,14 +59,14 @@ fn names_clash(input: &str, listing: Option<&str>, output: Option<&str>) -> bool
 fn has_two_filters(matches: &ArgMatches<'_>) -> bool
     ensures { result ≡ has_two_filters (rows_of (found_of matches.now)) }
 {
-    text_if(matches, ids::LISTING).is_some() && !texts(matches, ids::WORD).is_empty()
+    optional_text(matches, ids::LISTING).is_some() && !texts(matches, ids::WORD).is_empty()
 }
 
 /// Whether lines are to have link headers or bytes, where packets are written in place of lines.
 fn has_two_outputs(matches: &ArgMatches<'_>) -> bool
     ensures { result ≡ has_two_outputs (rows_of (found_of matches.now)) }
 {
-    text_if(matches, ids::OUT).is_some()
+    optional_text(matches, ids::OUT).is_some()
         && (flag(matches, ids::LINK_HEADER) || flag(matches, ids::BYTES))
 }
 
@@ -73,17 +74,19 @@ fn has_two_outputs(matches: &ArgMatches<'_>) -> bool
 fn has_idle_format(matches: &ArgMatches<'_>) -> bool
     ensures { result ≡ has_idle_format (rows_of (found_of matches.now)) }
 {
-    text_if(matches, ids::FORMAT).is_some() && text_if(matches, ids::OUT).is_none()
+    optional_text(matches, ids::FORMAT).is_some() && optional_text(matches, ids::OUT).is_none()
 }
 
+/// Whether options are given that exclude each other.
 fn has_exclusion(matches: &ArgMatches<'_>) -> bool
     ensures { result ≡ has_exclusion (rows_of (found_of matches.now)) }
 {
     has_two_filters(matches) || has_two_outputs(matches) || has_idle_format(matches)
 }
 
-/// The first fault of the words of a print.
-fn check(matches: &ArgMatches<'_>) -> Result<(), Usage>
+/// Checks the words of a print, or returns their first fault: options that exclude each other, a
+/// name used twice.
+fn check_print(matches: &ArgMatches<'_>) -> Result<(), Usage>
     ensures passes { OnOk result (print_fault (rows_of (found_of matches.now)) ≡ None) }
     ensures refused { IfErr result (λ usage. print_fault (rows_of (found_of matches.now))
         ≡ Some usage) }
@@ -91,29 +94,29 @@ fn check(matches: &ArgMatches<'_>) -> Result<(), Usage>
     if has_exclusion(matches) {
         return Err(Usage::OptionsExclude);
     }
-    let listing = text_if(matches, ids::LISTING);
+    let listing = optional_text(matches, ids::LISTING);
     if names_clash(
         text(matches, ids::FILE),
         listing,
-        text_if(matches, ids::OUT),
+        optional_text(matches, ids::OUT),
     ) {
         return Err(Usage::NameUsedTwice);
     }
     Ok(())
 }
 
-/// The format in which packets are written, where they are.
-fn write(matches: &ArgMatches<'_>) -> Option<Format>
+/// The format in which packets are written; `None` where lines are printed.
+fn output_format(matches: &ArgMatches<'_>) -> Option<Format>
     ensures { result ≡ write_in (rows_of (found_of matches.now)) }
 {
-    match text_if(matches, ids::OUT) {
+    match optional_text(matches, ids::OUT) {
         Some(_) => Some(format(matches, ids::FORMAT)),
         None => None,
     }
 }
 
-/// After how many packets the print ends.
-fn count(matches: &ArgMatches<'_>) -> Option<u64>
+/// After how many packets that match the print ends; `None` where it goes to the end.
+fn packet_limit(matches: &ArgMatches<'_>) -> Option<u64>
     ensures value { result ≡ argument_number 1 most_64 COUNT.now
         (rows_of (found_of matches.now)) }
     ensures bounds { IfSome result (λ n. (1 ≤ n) × (n ≤ most_64)) }
@@ -135,25 +138,25 @@ fn print_of(matches: &ArgMatches<'_>, expr: String) -> Print
     Print {
         expr,
         code: None,
-        count: count(matches),
+        count: packet_limit(matches),
         link: flag(matches, ids::LINK_HEADER),
         bytes: flag(matches, ids::BYTES),
-        write: write(matches),
+        write: output_format(matches),
     }
 }
 
-/// The line of a print.
+/// The line of a print, by clap's matches, or the first fault of its words.
 pub fn print_line(alloc: Global, matches: &ArgMatches<'_>) -> Result<Line, Usage>
     ensures line { IfOk result (IsPrintOf (rows_of (found_of matches.now))) }
     ensures faultless { OnOk result (print_fault (rows_of (found_of matches.now)) ≡ None) }
     ensures ready { IfOk result (λ line. is_ready line ≡ true) }
     ensures fault { IfErr result (IsUsageOf (print_fault (rows_of (found_of matches.now)))) }
 {
-    check(matches)?;
-    let expr = expression(alloc, matches)?;
-    let output = owned(alloc, text_if(matches, ids::OUT))?;
-    let code = owned(alloc, text_if(matches, ids::LISTING))?;
-    let inputs = owned_texts(alloc, &[text(matches, ids::FILE)])?;
+    check_print(matches)?;
+    let expr = expression_text(alloc, matches)?;
+    let output = copy_of_text(alloc, optional_text(matches, ids::OUT))?;
+    let code = copy_of_text(alloc, optional_text(matches, ids::LISTING))?;
+    let inputs = copies_of_texts(alloc, &[text(matches, ids::FILE)])?;
     Ok(Line {
         command: Command::Print(print_of(matches, expr)),
         inputs,

@@ -7,13 +7,14 @@ ghost use Rattle.capkit.specs.inside.Range.{WritesRange};
 
 use cap_command::is_range;
 
+/// Whether a text has nothing but decimal digits; true of the empty one.
 fn has_digits_alone(text: &str) -> bool
     ensures { result ≡ list_all is_ascii_digit text.now }
 {
     text.bytes().all(|byte| byte.is_ascii_digit())
 }
 
-/// The number that a text of decimal digits alone writes, where `u64` holds it.
+/// The number that a text of decimal digits alone, one or more, writes, if it is below 2^64.
 fn number_in(text: &str) -> Option<u64>
     ensures number { IfSome result (λ n. range_number text.now ≡ Some n) }
     ensures none { IfNone result (IfSome (range_number text.now) (λ n. 2 ^ 64 ≤ n)) }
@@ -27,8 +28,9 @@ fn number_in(text: &str) -> Option<u64>
     }
 }
 
-/// The texts of the first and of the last number, which are one without a hyphen.
-fn sides<'a>(word: &'a str) -> (&'a str, &'a str)
+/// The texts of a range's first and last number, around its first hyphen; without one both are the
+/// word.
+fn range_sides<'a>(word: &'a str) -> (&'a str, &'a str)
     ensures first { result.0.now ≡ (sides_of word.entry.now).0 }
     ensures last { result.1.now ≡ (sides_of word.entry.now).1 }
 {
@@ -45,7 +47,7 @@ pub fn range_in(word: &str) -> Option<(u64, u64)>
     ensures written { IfSome result (WritesRange word.now) }
     ensures none { IfNone result ((range : ℕ × ℕ) → ¬ WritesRange word.now range) }
 {
-    let (first, last) = sides(word);
+    let (first, last) = range_sides(word);
     let first = number_in(first)?;
     let last = number_in(last)?;
     if is_range(first, last) {

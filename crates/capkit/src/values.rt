@@ -1,16 +1,17 @@
-//! What clap's matches hold, by the names of the arguments.
+//! The values that clap's matches have of an argument, by its id (`ids.rt` of `capkit_args`): its
+//! flag, its texts, or what its text names.
 ghost use Rattle.std.specs.Prelude.{◌≡◌, ◌≤◌, ◌&&◌, IfSome, Some, None, map, nat_le, option_map};
 ghost use Rattle.std.specs.Prelude.{true, if◌then◌else◌};
 ghost use Rattle.std.specs.Option.{option_and_then, option_map_or};
 ghost use Rattle.cap_command.specs.Command.{is_time};
 ghost use Rattle.clap.specs.Words.{found_of, rows_of, first_of};
-ghost use Rattle.capkit.specs.Line.{flag_in, format_in, link_in, argument_number, span_in, text_in};
+ghost use Rattle.capkit.specs.Line.{flag_in, format_in, link_in, argument_number, duration_in, text_in};
 ghost use Rattle.capkit.specs.Line.{texts_in, time_in};
 
-use cap_octet::{Format, Link, span_of, time_of};
+use cap_octet::{Format, Link, read_duration, read_timestamp};
 use clap::ArgMatches;
 
-/// Whether the flag is set.
+/// Whether the flag of this id is set.
 pub fn flag(matches: &ArgMatches<'_>, id: &str) -> bool
     ensures { result ≡ flag_in id.now (rows_of (found_of matches.now)) }
 {
@@ -19,7 +20,7 @@ pub fn flag(matches: &ArgMatches<'_>, id: &str) -> bool
 
 /// The first value of the argument, if it has one.
 #[tactic(auto, using(crate::proofs::Getters::reads))]
-pub fn text_if<'a>(matches: &ArgMatches<'a>, id: &str) -> Option<&'a str>
+pub fn optional_text<'a>(matches: &ArgMatches<'a>, id: &str) -> Option<&'a str>
     ensures { option_map (λ text. text.now) result
         ≡ first_of id.entry.now (rows_of (found_of matches.entry.now)) }
 {
@@ -30,10 +31,10 @@ pub fn text_if<'a>(matches: &ArgMatches<'a>, id: &str) -> Option<&'a str>
 pub fn text<'a>(matches: &ArgMatches<'a>, id: &str) -> &'a str
     ensures { result.now ≡ text_in id.entry.now (rows_of (found_of matches.entry.now)) }
 {
-    text_if(matches, id).unwrap_or_default()
+    optional_text(matches, id).unwrap_or_default()
 }
 
-/// The values of the argument.
+/// All values of the argument, in order; none where it isn't given.
 #[tactic(auto, using(crate::proofs::Getters::reads))]
 pub fn texts<'m, 'a>(matches: &'m ArgMatches<'a>, id: &str) -> &'m [&'a str]
     ensures { map (λ text. text.now) result.now
@@ -46,8 +47,8 @@ pub fn texts<'m, 'a>(matches: &'m ArgMatches<'a>, id: &str) -> &'m [&'a str]
 pub fn format(matches: &ArgMatches<'_>, id: &str) -> Format
     ensures { result ≡ format_in id.entry.now (rows_of (found_of matches.entry.now)) }
 {
-    match text_if(matches, id) {
-        Some(name) => Format::named(name).unwrap_or(Format::Pcapng),
+    match optional_text(matches, id) {
+        Some(name) => Format::of_name(name).unwrap_or(Format::Pcapng),
         None => Format::Pcapng,
     }
 }
@@ -56,14 +57,14 @@ pub fn format(matches: &ArgMatches<'_>, id: &str) -> Format
 pub fn link(matches: &ArgMatches<'_>, id: &str) -> Link
     ensures { result ≡ link_in id.entry.now (rows_of (found_of matches.entry.now)) }
 {
-    match text_if(matches, id) {
-        Some(name) => Link::named(name).unwrap_or(Link::Ether),
+    match optional_text(matches, id) {
+        Some(name) => Link::of_name(name).unwrap_or(Link::Ether),
         None => Link::Ether,
     }
 }
 
 /// The number, if it is one from `least` to `most`.
-fn within(number: Option<u64>, least: u64, most: u64) -> Option<u64>
+fn number_within(number: Option<u64>, least: u64, most: u64) -> Option<u64>
     ensures value { result ≡ option_and_then
         (λ n. if nat_le least n && nat_le n most then Some n else None) number }
     ensures bounds { IfSome result (λ n. (least ≤ n) × (n ≤ most)) }
@@ -79,10 +80,10 @@ pub fn number(matches: &ArgMatches<'_>, id: &str, least: u64, most: u64) -> Opti
     ensures value { result ≡ argument_number least most id.now (rows_of (found_of matches.now)) }
     ensures bounds { IfSome result (λ n. (least ≤ n) × (n ≤ most)) }
 {
-    within(matches.get_one::<u64>(id), least, most)
+    number_within(matches.get_one::<u64>(id), least, most)
 }
 
-/// The same of a number of 32 bits.
+/// The number of 32 bits from `least` to `most` that the argument has. clap takes no other.
 pub fn short_number(matches: &ArgMatches<'_>, id: &str, least: u32, most: u32) -> Option<u32>
     ensures value { result ≡ argument_number least most id.now (rows_of (found_of matches.now)) }
     ensures bounds { IfSome result (λ n. (least ≤ n) × (n ≤ most)) }
@@ -93,24 +94,24 @@ pub fn short_number(matches: &ArgMatches<'_>, id: &str, least: u32, most: u32) -
     }
 }
 
-/// The time that the argument names, in nanoseconds since 1970-01-01 00:00:00 UTC.
+/// The time that the argument names, in nanoseconds since 1970-01-01 00:00:00 UTC, if it names one.
 pub fn time(matches: &ArgMatches<'_>, id: &str) -> Option<u64>
     ensures value { result ≡ time_in id.now (rows_of (found_of matches.now)) }
     ensures proper { option_map_or is_time result true ≡ true }
 {
-    match text_if(matches, id) {
-        Some(text) => time_of(text),
+    match optional_text(matches, id) {
+        Some(text) => read_timestamp(text),
         None => None,
     }
 }
 
-/// The nanoseconds of the argument's number of seconds.
-pub fn span(matches: &ArgMatches<'_>, id: &str) -> Option<u64>
-    ensures value { result ≡ span_in id.now (rows_of (found_of matches.now)) }
+/// The duration that the argument names as a number of seconds, in nanoseconds, if it names one.
+pub fn duration(matches: &ArgMatches<'_>, id: &str) -> Option<u64>
+    ensures value { result ≡ duration_in id.now (rows_of (found_of matches.now)) }
     ensures proper { option_map_or is_time result true ≡ true }
 {
-    match text_if(matches, id) {
-        Some(text) => span_of(text),
+    match optional_text(matches, id) {
+        Some(text) => read_duration(text),
         None => None,
     }
 }

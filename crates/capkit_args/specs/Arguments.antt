@@ -124,8 +124,9 @@ shape_of name rules = (with_rules (new_app name) rules).top
 abbrev pub with_shapes : App → List Shape → App
 with_shapes = fold with_subcommand
 
-abbrev pub bare_line : App
-bare_line =
+-- the command of the line before its subcommands are added
+abbrev pub line_without_commands : App
+line_without_commands =
     let app = new_app (codes "capkit") in
     record app {
       top = record app.top {
@@ -147,7 +148,7 @@ line_shapes formats links =
 
 -- the whole line after the program's name, with `--version` and no subcommand `help`
 abbrev pub line_app : (formats links : ValueParser) → App
-line_app formats links = with_shapes bare_line (line_shapes formats links)
+line_app formats links = with_shapes line_without_commands (line_shapes formats links)
 
 -- what clap states of a parse, it states of simple commands, and why one fails, of simple and free
 -- ones: the line is both

@@ -1,14 +1,15 @@
-//! The command line as clap parses it.
+//! The command line as clap parses it: clap's commands and arguments, made of the tables in
+//! `options.rt`.
 ghost use Rattle.std.specs.Prelude.{◌≡◌, IfOk, IfErr, map, false, string_bytes};
 ghost use Rattle.clap.specs.Words.{app_of, new_rule, rule_of, subcommand_rows_of};
 ghost use Rattle.clap.specs.declared.builder.command.Command.TheViews.{out-Command as fields_of};
 ghost use Rattle.capkit_args.specs.Arguments.{AreChoices, TakesWords, RefusesWords, format_names};
 ghost use Rattle.capkit_args.specs.Arguments.{link_names};
-ghost use Rattle.capkit_args.specs.Arguments.{bare_line, line_app};
+ghost use Rattle.capkit_args.specs.Arguments.{line_without_commands, line_app};
 ghost use Rattle.capkit_args.specs.inside.Arguments.{app_by, with_name, rule_by};
 ghost use Rattle.capkit_args.specs.inside.Arguments.{shape_by};
 ghost use Rattle.capkit_args.specs.Arguments.{with_rules, with_shapes};
-ghost use Rattle.capkit_args.specs.inside.Arguments.{subcommand_named};
+ghost use Rattle.capkit_args.specs.inside.Arguments.{subcommand_of_name};
 
 use crate::examples::{LINE_HELP, VERSION};
 use crate::options::{Argument, COMMANDS, CommandRow, Name, Value};
@@ -35,9 +36,9 @@ pub enum Subcommand {
     Compile,
 }
 
-/// The subcommand of this name.
-pub fn subcommand_named(name: &str) -> Subcommand
-    ensures { result ≡ subcommand_named name.now }
+/// The subcommand of this name, which clap knows to be one of the five.
+pub fn subcommand_of_name(name: &str) -> Subcommand
+    ensures { result ≡ subcommand_of_name name.now }
 {
     match name {
         "edit" => Subcommand::Edit,
@@ -55,8 +56,8 @@ pub struct Choices<'a> {
     links: &'a [&'a str],
 }
 
-/// An argument of clap's with the id and the name of a row.
-fn named<'a>(alloc: Global, argument: Argument) -> Arg<'a>
+/// An argument of clap's with the id, the name and the help of a row, and nothing of its value yet.
+fn arg_with_name<'a>(alloc: Global, argument: Argument) -> Arg<'a>
     ensures rule { rule_of result ≡ with_name argument.name (new_rule argument.id.now) }
     ensures local { result.global ≡ false }
 {
@@ -68,12 +69,12 @@ fn named<'a>(alloc: Global, argument: Argument) -> Arg<'a>
     }
 }
 
-/// The argument of clap's that a row of a table describes.
-fn arg_of<'a>(alloc: Global, argument: Argument, choices: Choices<'a>) -> Arg<'a>
+/// The argument of clap's that a row of a table describes, with what it takes.
+fn arg_of_row<'a>(alloc: Global, argument: Argument, choices: Choices<'a>) -> Arg<'a>
     ensures rule { rule_of result ≡ rule_by choices.entry argument }
     ensures local { result.global ≡ false }
 {
-    let arg = named(alloc, argument);
+    let arg = arg_with_name(alloc, argument);
     match argument.value {
         Value::Flag => arg.action(ArgAction::SetTrue),
         Value::Text(name) => arg.value_name(name),
@@ -91,7 +92,7 @@ fn arg_of<'a>(alloc: Global, argument: Argument, choices: Choices<'a>) -> Arg<'a
     }
 }
 
-/// The command with these arguments after its own.
+/// A command of clap's with the arguments of these rows after its own.
 fn with_arguments<'a>(
     alloc: Global,
     mut command: Command<'a>,
@@ -104,13 +105,13 @@ fn with_arguments<'a>(
         ≡ (fields_of command.entry).has_globals) }
 {
     for argument in arguments {
-        command = command.arg(arg_of(alloc, *argument, choices))?;
+        command = command.arg(arg_of_row(alloc, *argument, choices))?;
     }
     Ok(command)
 }
 
-/// The subcommand that a row of the table describes.
-fn command_by<'a>(
+/// The subcommand of clap's that a row of the table describes, with its arguments.
+fn command_of_row<'a>(
     alloc: Global,
     row: &CommandRow,
     choices: Choices<'a>,
@@ -124,9 +125,9 @@ fn command_by<'a>(
     with_arguments(alloc, bare, row.arguments, choices)
 }
 
-/// The command of the line, before its subcommands.
-fn bare_line<'a>(alloc: Global) -> Result<Command<'a>, AllocError>
-    ensures { IfOk result (λ command. app_of command ≡ bare_line) }
+/// The command of clap's that is the whole line, before its subcommands are added.
+fn line_without_commands<'a>(alloc: Global) -> Result<Command<'a>, AllocError>
+    ensures { IfOk result (λ command. app_of command ≡ line_without_commands) }
 {
     Command::new(alloc, NAME)
         .about("A workbench for saved packet captures")
@@ -139,23 +140,24 @@ fn bare_line<'a>(alloc: Global) -> Result<Command<'a>, AllocError>
         .bin_name(NAME)
 }
 
-/// The command of the line, with the subcommands of these rows.
-fn with_commands<'a>(
+/// The command of clap's that is the whole line, with the subcommands of these rows.
+fn line_with_commands<'a>(
     alloc: Global,
     rows: &[CommandRow],
     choices: Choices<'a>,
 ) -> Result<Command<'a>, AllocError>
-    ensures { IfOk result (λ command. app_of command ≡ with_shapes bare_line
+    ensures { IfOk result (λ command. app_of command ≡ with_shapes line_without_commands
         (map (shape_by choices.entry) rows.now)) }
 {
-    let mut command = bare_line(alloc)?;
+    let mut command = line_without_commands(alloc)?;
     for row in rows {
-        command = command.subcommand(command_by(alloc, row, choices)?)?;
+        command = command.subcommand(command_of_row(alloc, row, choices)?)?;
     }
     Ok(command)
 }
 
-fn line_command<'a>(alloc: Global) -> Result<Command<'a>, AllocError>
+/// The command of clap's that is the whole line: all subcommands, formats and links.
+fn whole_line<'a>(alloc: Global) -> Result<Command<'a>, AllocError>
     ensures { IfOk result (λ command. (formats links : _) × AreChoices format_names formats
         × AreChoices link_names links
         × (app_of command ≡ line_app formats links)) }
@@ -164,16 +166,17 @@ fn line_command<'a>(alloc: Global) -> Result<Command<'a>, AllocError>
         formats: FORMATS.as_slice(),
         links: LINKS.as_slice(),
     };
-    with_commands(alloc, &COMMANDS, choices)
+    line_with_commands(alloc, &COMMANDS, choices)
 }
 
-/// What clap makes of the words.
+/// Parses the words after the program's name: clap's matches, or its refusal of them, which a
+/// request for help is too, and out of memory.
 pub fn matches_of<'a>(alloc: Global, words: &'a [String]) -> Result<ArgMatches<'a>, Error>
     ensures taken { IfOk result (λ matches. TakesWords (map string_bytes words.entry.now)
         (subcommand_rows_of matches)) }
     ensures refused { IfErr result (RefusesWords (map string_bytes words.entry.now)) }
 {
-    match line_command(alloc) {
+    match whole_line(alloc) {
         Ok(command) => command.try_get_matches_from(words),
         Err(error) => Err(Error::from(error)),
     }

@@ -21,9 +21,11 @@ pub const IN: &str = "IN";
 pub const KEEP: &str = "keep";
 
 pub const LATER: &str = "later";
-/// Of an expression.
+
+/// The link that an expression is compiled for.
 pub const LINK: &str = "LINK";
-/// Of lines.
+
+/// Whether lines have the link header.
 pub const LINK_HEADER: &str = "link";
 
 pub const LISTING: &str = "LISTING";

@@ -60,8 +60,8 @@ pub struct CommandRow {
     pub arguments: &'static [Argument],
 }
 
-/// The greatest number of 32 bits.
-const MOST: i64 = 4_294_967_295;
+/// The greatest number of 32 bits, to which counts of bytes go.
+const MOST_32: i64 = 4_294_967_295;
 
 const FORMAT_HELP: &str = "Format to write, pcapng if none is given{n}";
 
@@ -112,19 +112,19 @@ const EDIT: CommandRow = CommandRow {
         Argument {
             id: ids::CHOP_START,
             name: Name::Long("chop-start"),
-            value: Value::Number("N", 0, MOST),
+            value: Value::Number("N", 0, MOST_32),
             help: "Remove the first N captured bytes of each packet",
         },
         Argument {
             id: ids::CHOP_END,
             name: Name::Long("chop-end"),
-            value: Value::Number("N", 0, MOST),
+            value: Value::Number("N", 0, MOST_32),
             help: "Remove the last N captured bytes, after --chop-start",
         },
         Argument {
             id: ids::SNAP,
             name: Name::Letter('s'),
-            value: Value::Number("N", 1, MOST),
+            value: Value::Number("N", 1, MOST_32),
             help: "Keep at most N captured bytes, after the chops",
         },
         Argument {

@@ -17,7 +17,7 @@ use Rattle.capkit_c.specs.declared.memory.layout.Interface.{Interface}
 use Rattle.capkit_c.specs.declared.memory.layout.Packet.{Packet}
 use Rattle.capkit_c.specs.declared.memory.layout.Reader.{Reader}
 use Rattle.capkit_c.specs.declared.memory.reader.Found.TheVariants as found
-use Rattle.capkit_c.specs.declared.memory.reader.Step.{Step}
+use Rattle.capkit_c.specs.declared.memory.reader.ReadUnit.{ReadUnit}
 
 -- ---- what is declared
 
@@ -40,13 +40,13 @@ declared_after f r table count is counts fits upper_bound =
 -- ---- a unit
 
 -- what was read, in terms of the reader
-record Read (capture : List ℕ) (r r' : Reader) (t t' : List Interface) (s : Step) : Type 0 where
+record Read (capture : List ℕ) (r r' : Reader) (t t' : List Interface) (s : ReadUnit) : Type 0 where
   packets : List Captured
   front : front_of (declared_in r t) (drop r.offset capture) ≡ Whole s.size packets (declared_in r' t')
   placed : ArePlaced (declared_in r' t') (drop r.offset capture) s.size s.packet packets
   there : s.size ≤ length (drop r.offset capture)
 
-read : (capture text : List ℕ) (r r' : Reader) (t t' : List Interface) (f : FileState) (count : ℕ) (s : Step) → f ≡ reader_form r → Counts f r (length t) count → text ≡ drop r.offset capture
+read : (capture text : List ℕ) (r r' : Reader) (t t' : List Interface) (f : FileState) (count : ℕ) (s : ReadUnit) → f ≡ reader_form r → Counts f r (length t) count → text ≡ drop r.offset capture
     → BeginsWithUnit f (first_interfaces count t) text t' s → reader_form r' ≡ s.form → r'.interfaces ≡ s.interfaces → Read capture r r' t t' s
 read capture text r r' t t' f count s is counts same steps form' interfaces' =
     let before = declared_as f r t count is counts in
@@ -61,7 +61,7 @@ read capture text r r' t t' f count s is counts same steps form' interfaces' =
       there = subst S same steps.there;
     }
 
-pub passed : (capture text : List ℕ) (r r' : Reader) (t t' : List Interface) (p : Packet) (f : FileState) (count : ℕ) (s : Step) → f ≡ reader_form r → Counts f r (length t) count → text ≡ drop r.offset capture
+pub passed : (capture text : List ℕ) (r r' : Reader) (t t' : List Interface) (p : Packet) (f : FileState) (count : ℕ) (s : ReadUnit) → f ≡ reader_form r → Counts f r (length t) count → text ≡ drop r.offset capture
     → BeginsWithUnit f (first_interfaces count t) text t' s → reader_form r' ≡ s.form → r'.interfaces ≡ s.interfaces → r'.offset ≡ r.offset + s.size → s.packet ≡ None
     → NextLeaves capture r r' t t' p p found.Unit
 passed capture text r r' t t' p f count s is counts same steps form' interfaces' offset none =
@@ -90,7 +90,7 @@ found_at capture declared at size p q inside there is =
       options = omega (arith, is.options, there, left, inside);
     }
 
-pub found_packet : (capture text : List ℕ) (r r' : Reader) (t t' : List Interface) (p p' : Packet) (f : FileState) (count : ℕ) (s : Step) (placed : UnitPacket) → f ≡ reader_form r → Counts f r (length t) count
+pub found_packet : (capture text : List ℕ) (r r' : Reader) (t t' : List Interface) (p p' : Packet) (f : FileState) (count : ℕ) (s : ReadUnit) (placed : UnitPacket) → f ≡ reader_form r → Counts f r (length t) count
     → text ≡ drop r.offset capture → BeginsWithUnit f (first_interfaces count t) text t' s → reader_form r' ≡ s.form → r'.interfaces ≡ s.interfaces → r'.offset ≡ r.offset + s.size → s.packet ≡ Some placed
     → p' ≡ placed_packet r.offset placed → NextLeaves capture r r' t t' p p' found.Packet
 found_packet capture text r r' t t' p p' f count s placed is counts same steps form' interfaces' offset some packet =

@@ -13,8 +13,8 @@ use Rattle.capkit_c.specs.declared.memory.layout.Interface.{Interface}
 use Rattle.capkit_c.specs.declared.memory.layout.Reader.{Reader}
 
 -- flags: 0 is no, and every other number yes
-abbrev pub order_by : ℕ → Order
-order_by flag = if flag == 0 then Little else Big
+abbrev pub order_of_flag : ℕ → Order
+order_of_flag flag = if flag == 0 then Little else Big
 
 abbrev pub resolution_by : ℕ → Resolution
 resolution_by flag = if flag == 0 then Microseconds else Nanoseconds
@@ -27,12 +27,12 @@ abbrev pub reader_form : Reader → FileState
 reader_form r =
     if r.form == 1 then form.Pcap
     (record {
-      order = order_by r.big_endian;
+      order = order_of_flag r.big_endian;
       resolution = resolution_by r.nanoseconds;
       snap = r.snap;
       link = r.link_type;
     })
-    else (if r.form == 2 then form.Pcapng (order_by r.big_endian)
+    else (if r.form == 2 then form.Pcapng (order_of_flag r.big_endian)
     (link_by r.has_link_type r.link_type)
     else form.Unknown)
 

@@ -2,17 +2,17 @@
 ghost use Rattle.std.specs.Prelude.{IfOk, IfErr};
 ghost use Rattle.capkit_c.specs.Bounding.{BoundLeaves, IsBound, IsTextFailure};
 
-use crate::compiling::{Failure, utf8};
+use crate::compiling::{Failure, utf8_text};
 use cap_filter::expression::read_expression;
 use flt_lang::bound;
 use std::alloc::Global;
 
-/// The bound of the expression that a text is.
+/// The bound of the expression that a text is, in instructions; or why the text is none.
 fn bound_in(alloc: Global, text: &[u8]) -> Result<usize, Failure>
     ensures bounded { IfOk result (IsBound text.now) }
     ensures failed { IfErr result (IsTextFailure text.now) }
 {
-    let text = match utf8(text) {
+    let text = match utf8_text(text) {
         Ok(text) => text,
         Err(at) => return Err(Failure::NotUtf8(at)),
     };

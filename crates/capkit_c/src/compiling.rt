@@ -38,8 +38,8 @@ pub(crate) fn file_link_type(number: u16) -> u16
     }
 }
 
-/// The bytes as text, or the first byte, from 1, from which on they aren't UTF-8.
-pub(crate) fn utf8(bytes: &[u8]) -> Result<&str, usize>
+/// The bytes as text, or the place of the byte, counted from 1, from which on they aren't UTF-8.
+pub(crate) fn utf8_text(bytes: &[u8]) -> Result<&str, usize>
     ensures text { IfOk result (λ text. text.now ≡ bytes.now) }
     ensures failed { IfErr result (IsNotUtf8 bytes.now) }
 {
@@ -49,7 +49,8 @@ pub(crate) fn utf8(bytes: &[u8]) -> Result<&str, usize>
     }
 }
 
-/// Compiles a text, and writes the program.
+/// Compiles a text for a link type, writes the program at the start of `insns` and returns how many
+/// instructions it has; or why not, and then `insns` is unchanged.
 fn compile_into(
     alloc: Global,
     text: &[u8],
@@ -64,7 +65,7 @@ fn compile_into(
     let Some(link) = Link::of_link_type(file_link_type(link_type)) else {
         return Err(Failure::LinkType);
     };
-    let text = match utf8(text) {
+    let text = match utf8_text(text) {
         Ok(text) => text,
         Err(at) => return Err(Failure::NotUtf8(at)),
     };
@@ -82,7 +83,7 @@ fn compile_into(
 }
 
 impl Failure {
-    /// The status that C sees.
+    /// The status that C sees, as `library/include/capkit.h` has it.
     pub(crate) fn status(self) -> u32
         ensures { result ≡ failure_status self }
     {
@@ -106,7 +107,8 @@ impl Failure {
         }
     }
 
-    /// The place, or the room that is needed, that C sees beside it; else 0.
+    /// The number that C sees beside the status: where the text is wrong, in bytes from 1, or how
+    /// many instructions there are; else 0.
     pub(crate) fn number(self) -> usize
         ensures { result ≡ failure_number self }
     {

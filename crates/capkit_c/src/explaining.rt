@@ -1,21 +1,21 @@
-//! What an expression means.
+//! What an expression means, written out as an expression again.
 ghost use Rattle.std.specs.Prelude.{IfOk, IfErr, string_bytes};
 ghost use Rattle.capkit_c.specs.Bounding.{IsTextFailure};
 ghost use Rattle.capkit_c.specs.Explaining.{ExplainLeaves, Explains};
 
-use crate::compiling::{Failure, utf8};
-use crate::texts::put;
+use crate::compiling::{Failure, utf8_text};
+use crate::texts::put_text;
 use cap_filter::expression::read_expression;
 use flt_lang::explain;
 use flt_words::ExprFault;
 use std::alloc::Global;
 
-/// What the expression that a text is means, written out.
+/// What the expression that a text is means, written out; or why the text is none.
 fn meaning_of(alloc: Global, text: &[u8]) -> Result<String, Failure>
     ensures meaning { IfOk result (λ meaning. Explains text.now (string_bytes meaning)) }
     ensures failed { IfErr result (IsTextFailure text.now) }
 {
-    let text = match utf8(text) {
+    let text = match utf8_text(text) {
         Ok(text) => text,
         Err(at) => return Err(Failure::NotUtf8(at)),
     };
@@ -43,7 +43,7 @@ pub extern "C" fn capkit_explain(
 {
     match meaning_of(alloc, text) {
         Ok(meaning) => {
-            *number = put(meaning.as_bytes(), buffer);
+            *number = put_text(meaning.as_bytes(), buffer);
             0
         }
         Err(failure) => {

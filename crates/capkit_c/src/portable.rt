@@ -15,7 +15,7 @@ const WORDS: u32 = 16;
 
 /// From this offset on loads mean something else on Linux, and an index of up to as much less one
 /// can't wrap below it.
-const HALF: u32 = 0x8000_0000;
+const HALF_OF_PLACES: u32 = 0x8000_0000;
 
 /// Whether X holds less than 2^31 after an instruction if it does before it: it isn't loaded from
 /// memory, from the length or from A, and with no constant from 2^31 on.
@@ -23,19 +23,19 @@ fn keeps_x_small(insn: &Insn) -> bool
     ensures { result ≡ keeps_x_small insn.now }
 {
     match decode(insn.code) {
-        Some(Operation::Load(Register::Index, Source::Immediate)) => insn.k < HALF,
+        Some(Operation::Load(Register::Index, Source::Immediate)) => insn.k < HALF_OF_PLACES,
         Some(Operation::Load(Register::Index, _) | Operation::CopyToIndex) => false,
         _ => true,
     }
 }
 
-/// Whether an instruction does the same elsewhere, where X is small or not.
+/// Whether an instruction does the same on Linux as on libpcap's machine, where X is small or not.
 fn runs_alike(insn: &Insn, small: bool) -> bool
     ensures { result ≡ runs_alike small insn.now }
 {
     match decode(insn.code) {
-        Some(Operation::LoadAbsolute(_) | Operation::LoadHeaderLength) => insn.k < HALF,
-        Some(Operation::LoadIndirect(_)) => small && insn.k < HALF,
+        Some(Operation::LoadAbsolute(_) | Operation::LoadHeaderLength) => insn.k < HALF_OF_PLACES,
+        Some(Operation::LoadIndirect(_)) => small && insn.k < HALF_OF_PLACES,
         Some(Operation::Load(_, Source::Length)) => false,
         Some(Operation::Compute(AluOperation::ShiftLeft, Operand::IndexRegister)) => false,
         Some(Operation::Compute(AluOperation::ShiftRight, Operand::IndexRegister)) => false,
@@ -43,19 +43,22 @@ fn runs_alike(insn: &Insn, small: bool) -> bool
     }
 }
 
+/// Whether X holds less than 2^31 throughout each run: it is 0 first, and every instruction keeps
+/// it so.
 fn all_keep_x_small(insns: &[Insn]) -> bool
     ensures { result ≡ list_all keeps_x_small insns.now }
 {
     insns.iter().all(|insn| keeps_x_small(insn))
 }
 
+/// Whether every instruction does the same elsewhere, where X is small or not.
 fn all_run_alike(insns: &[Insn], small: bool) -> bool
     ensures { result ≡ list_all (runs_alike small) insns.now }
 {
     insns.iter().all(|insn| runs_alike(insn, small))
 }
 
-/// What is noted of the place after this number of others; `false` past the last one.
+/// What is noted of the place that comes after `place` others; `false` past the last one.
 fn is_live_at(following: &[bool], place: usize) -> bool
     ensures { result ≡ is_live_at following.now place }
 {
@@ -82,7 +85,8 @@ fn is_live_before(insn: &Insn, word: u32, following: &[bool]) -> bool
     }
 }
 
-/// Notes of each place whether a run from there on may read a word of memory before it writes it.
+/// Notes of each place whether a run from there on may read a word of memory before it writes it,
+/// from the last instruction to the first: jumps go forward.
 fn mark_live(insns: &[Insn], word: u32, marks: &mut [bool])
     requires { length marks.old ≡ length insns.now }
     ensures { marks.new ≡ live_places word insns.now }
@@ -107,6 +111,7 @@ fn may_read_unwritten(insns: &[Insn], word: u32) -> bool
     is_live_at(marks, 0)
 }
 
+/// Whether no run reads a word of memory before it writes it.
 fn no_word_read_unwritten(insns: &[Insn]) -> bool
     requires { length insns.now ≤ MOST_ATTACHED }
     ensures { result ≡ none_read_unwritten WORDS insns.now }

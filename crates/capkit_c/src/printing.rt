@@ -5,7 +5,7 @@ ghost use Rattle.capkit_c.specs.Printing.{packet_line};
 ghost use Rattle.capkit_c.specs.Texts.{put_text};
 
 use crate::compiling::file_link_type;
-use crate::texts::put;
+use crate::texts::put_text;
 use cap_octet::Packet;
 use cap_octet::date::TIME_END;
 use cap_print::{Text, write_line};
@@ -20,7 +20,7 @@ pub extern "C" fn capkit_insn_text(insn: &Insn, index: u32, buffer: &mut [u8]) -
     ensures bound { result ≤ 80 }
     ensures put { buffer.new ≡ put_text (insn_text insn.now index) buffer.old }
 {
-    put(insn_text(insn, index).as_slice(), buffer)
+    put_text(insn_text(insn, index).as_slice(), buffer)
 }
 
 /// Puts the line of a packet into a buffer, as `capkit print` prints it, or where the flag isn't 0
@@ -41,7 +41,7 @@ pub extern "C" fn capkit_line(
         ≡ put_text (packet_line with_link link_type time original packet.now) buffer.old }
 {
     if time >= TIME_END {
-        return put(&[], buffer);
+        return put_text(&[], buffer);
     }
     let packet = Packet {
         link: file_link_type(link_type),
@@ -54,5 +54,5 @@ pub extern "C" fn capkit_line(
     };
     let mut text = Text::new();
     write_line(&mut text, with_link != 0, &packet);
-    put(text.as_slice(), buffer)
+    put_text(text.as_slice(), buffer)
 }

@@ -7,10 +7,10 @@ ghost use Rattle.capkit_c.specs.Reading.{UnitLeaves, fault_number, found_number}
 ghost use Rattle.capkit_c.specs.Texts.{put_text};
 
 use crate::memory::{Found, Interface, Packet, Reader, comment_of, next_unit};
-use crate::texts::put;
+use crate::texts::put_text;
 use cap_octet::Fault;
 
-/// The number of a fault.
+/// The number of a fault as C sees it, 201 to 221 (`library/include/capkit.h`).
 pub(crate) fn fault_number(fault: Fault) -> u32
     ensures { result ≡ fault_number fault }
 {
@@ -39,7 +39,7 @@ pub(crate) fn fault_number(fault: Fault) -> u32
     }
 }
 
-/// The number of what a call found.
+/// The number of what a call found, as C sees it: 0 is a packet.
 fn found_number(found: Found) -> u32
     ensures { result ≡ found_number found }
 {
@@ -68,9 +68,9 @@ pub extern "C" fn capkit_next(
     found_number(next_unit(reader, interfaces, capture, packet))
 }
 
-/// Puts the comment of the packet that this reader found last into a buffer, and gives its length; 0
-/// if it has none. It needs the byte order alone, so the clauses hold whatever the table of interfaces
-/// is.
+/// Puts the comment of the packet that this reader found last into a buffer, and gives its length;
+/// 0 if it has none. It needs the byte order alone, so the clauses hold whatever the table of
+/// interfaces is.
 #[unsafe(no_mangle)]
 pub extern "C" fn capkit_comment(
     reader: &Reader,
@@ -85,5 +85,5 @@ pub extern "C" fn capkit_comment(
         (declared_in reader.now table) (take packet.now.options_length
         (drop packet.now.options_at capture.now))) buffer.old }
 {
-    put(comment_of(reader, capture, packet), buffer)
+    put_text(comment_of(reader, capture, packet), buffer)
 }

@@ -8,7 +8,7 @@ ghost use Rattle.capkit_c.specs.Running.{CheckLeaves, RunLeaves, rule_number};
 use flt_bpf::{CheckFault, Insn, check_insns, run_any, run_insns};
 use flt_trace::{Step, trace};
 
-/// The number of a rule.
+/// The number of a rule of valid programs as C sees it, 101 to 108 (`library/include/capkit.h`).
 fn rule_number(fault: CheckFault) -> u32
     ensures { result ≡ rule_number fault }
 {
@@ -54,7 +54,8 @@ pub extern "C" fn capkit_run(insns: &[Insn], packet: &[u8], len: u32, steps: &mu
     answer
 }
 
-/// The same where the steps aren't asked for.
+/// What a valid program returns on a packet of original length `len`, where its steps aren't asked
+/// for: 0 where it doesn't match.
 #[unsafe(no_mangle)]
 pub extern "C" fn capkit_matches(insns: &[Insn], packet: &[u8], len: u32) -> u32
     requires { IsValid insns.now }
@@ -74,8 +75,8 @@ pub extern "C" fn capkit_trace(insns: &[Insn], packet: &[u8], len: u32, steps: &
     trace(insns, packet, len, steps).1
 }
 
-/// The same for any instructions. Where a run meets one that breaks a rule, or goes past the end,
-/// it returns 0 after 0 steps.
+/// What any instructions return on a packet of original length `len`, valid or not. Where a run
+/// meets one that breaks a rule, or goes past the end, it returns 0 after 0 steps.
 #[unsafe(no_mangle)]
 pub extern "C" fn capkit_run_any(insns: &[Insn], packet: &[u8], len: u32, steps: &mut usize) -> u32
     ensures { RunLeaves insns.now packet.now len result steps.new }

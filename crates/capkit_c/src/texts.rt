@@ -58,9 +58,9 @@ fn rule_text(rule: u32) -> &'static str
     }
 }
 
-/// Puts as many bytes into a buffer as there is room for in front of a NUL, and the NUL; gives how
-/// many bytes there are.
-pub(crate) fn put(bytes: &[u8], buffer: &mut [u8]) -> usize
+/// Puts as many bytes into a buffer as there is room for in front of a NUL, and the NUL; returns
+/// how many bytes there are, whether they had room or not.
+pub(crate) fn put_text(bytes: &[u8], buffer: &mut [u8]) -> usize
     ensures count { result ≡ length bytes.now }
     ensures put { buffer.new ≡ put_text bytes.now buffer.old }
 {
@@ -126,7 +126,7 @@ pub extern "C" fn capkit_text(number: u32, buffer: &mut [u8]) -> usize
     ensures count { result ≡ length (number_text number) }
     ensures put { buffer.new ≡ put_text (number_text number) buffer.old }
 {
-    put(number_text(number).as_bytes(), buffer)
+    put_text(number_text(number).as_bytes(), buffer)
 }
 
 /// The version of the library: a byte each for its three numbers, the first one in front.

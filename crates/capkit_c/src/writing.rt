@@ -14,8 +14,9 @@ use crate::memory::{
 };
 use crate::reading::fault_number;
 
-/// Tells what became of bytes: its number is returned, and the length is set.
-fn tell(written: Written, length: &mut usize) -> u32
+/// Tells C what became of bytes: returns its number, and sets the length to how many they are, 0
+/// where they are refused.
+fn tell_written(written: Written, length: &mut usize) -> u32
     ensures number { result ≡ written_number written }
     ensures length { length.new ≡ written_length written }
 {
@@ -48,7 +49,7 @@ pub extern "C" fn capkit_write_file_header(
         buffer.new
         length.new result }
 {
-    tell(write_file_header(nanoseconds, link_type, buffer), length)
+    tell_written(write_file_header(nanoseconds, link_type, buffer), length)
 }
 
 /// Puts a record of a pcap file. By 204 and 210 its packet isn't held, and the length is 0.
@@ -67,7 +68,7 @@ pub extern "C" fn capkit_write_record(
         buffer.old buffer.new length.new result }
 {
     let written = write_record(nanoseconds, time, original, packet, buffer);
-    tell(written, length)
+    tell_written(written, length)
 }
 
 /// Puts the section header block that a pcapng file begins with.
@@ -75,7 +76,7 @@ pub extern "C" fn capkit_write_record(
 pub extern "C" fn capkit_write_section(buffer: &mut [u8], length: &mut usize) -> u32
     ensures { WriteTells None section_text buffer.old buffer.new length.new result }
 {
-    tell(write_section(buffer), length)
+    tell_written(write_section(buffer), length)
 }
 
 /// Puts an interface description block. By 208 its name is too long, and the length is 0.
@@ -90,7 +91,7 @@ pub extern "C" fn capkit_write_interface(
     ensures { WriteTells (first_failing (interface_checks name.now))
         (interface_text link_type snap name.now) buffer.old buffer.new length.new result }
 {
-    tell(write_interface(link_type, snap, name, buffer), length)
+    tell_written(write_interface(link_type, snap, name, buffer), length)
 }
 
 /// Puts an enhanced packet block. By 204, 208, 210 and 221 its packet isn't held, and the length is
@@ -111,5 +112,5 @@ pub extern "C" fn capkit_write_packet(
         buffer.new length.new result }
 {
     let written = write_packet(interface, time, original, packet, comment, buffer);
-    tell(written, length)
+    tell_written(written, length)
 }

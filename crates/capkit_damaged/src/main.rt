@@ -2,9 +2,9 @@
 #![tactic(auto)]
 
 use capkit_engine::Jobs;
-use capkit_host::program::status;
+use capkit_host::program::run_program;
 use std::process::ExitCode;
 
 fn main(rt: HostRuntime) -> ExitCode {
-    ExitCode::from(status::<Jobs>(&rt))
+    ExitCode::from(run_program::<Jobs>(&rt))
 }

@@ -14,7 +14,7 @@ has_failed cause flushed = is_some cause || is_some flushed
 
 -- The status of a run that the job ended with `status`. A failed write of the job is told by it; of
 -- the last write it isn't, and None says that this is still to be told, but where nobody reads.
-abbrev pub status_by : (status : ℕ) → (cause flushed : Option ErrorKind) → Option ℕ
-status_by status None None = Some status
-status_by status (Some cause) flushed = Some (max status 1)
-status_by status None (Some flushed) = if is_unread (Some flushed) then Some 1 else None
+abbrev pub status_after_writes : (status : ℕ) → (cause flushed : Option ErrorKind) → Option ℕ
+status_after_writes status None None = Some status
+status_after_writes status (Some cause) flushed = Some (max status 1)
+status_after_writes status None (Some flushed) = if is_unread (Some flushed) then Some 1 else None

@@ -2,7 +2,7 @@
 ghost use Rattle.std.specs.Prelude.{◌≡◌, ◌≢◌, ◌<◌, ◌≤◌, IfOk, IfSome, IsOkAnd, IsSome, IsUtf8};
 ghost use Rattle.std.specs.Prelude.{List, [], ◌∷◌, ◌++◌, ℕ, OnOk, is_some, true, false};
 ghost use Rattle.std.specs.Result.{result_ok};
-ghost use Rattle.capkit_host.specs.Ending.{has_failed, is_unread, status_by};
+ghost use Rattle.capkit_host.specs.Ending.{has_failed, is_unread, status_after_writes};
 ghost use Rattle.capkit_host.specs.Streams.{holds_old_bytes};
 
 use crate::FAULT;
@@ -14,7 +14,8 @@ use cap_octet::StdOutput;
 use std::alloc::Global;
 use std::io::{self, BufWriter, ErrorKind, Write};
 
-/// Writes what is buffered, and tells the run's message and how its output ended.
+/// Ends a run that the job ended with `status`: writes what is buffered, tells the run's message
+/// and how its output ended, and returns the status. An error is a write that is still to be told.
 pub fn finish<'a, W: Write + Drop>(
     alloc: Global,
     status: u8,
@@ -29,27 +30,31 @@ pub fn finish<'a, W: Write + Drop>(
     ensures exact { is_some target.cause ≡ true → IsOkAnd result (λ ended. 0 < ended) }
 {
     let (mut target, cause) = target.into_inner();
-    let flushed = settle(status, &mut target).err().map(|error| error.kind());
+    let flushed = flush_output(status, &mut target)
+        .err()
+        .map(|error| error.kind());
     let (messages, _) = messages.into_inner();
     let (mut errors, message) = messages.into_parts();
     let causes = (cause, flushed);
-    end(alloc, &mut errors, status, causes, &message, output)
+    tell_end(alloc, &mut errors, status, causes, &message, output)
 }
 
-/// Whether it failed since the reader of a pipe went away.
+/// Whether a write failed since the reader of a pipe went away.
 fn is_unread(cause: Option<ErrorKind>) -> bool
     ensures { result ≡ is_unread cause }
 {
     matches!(cause, Some(ErrorKind::BrokenPipe))
 }
 
-/// Writes what is buffered, and decides over what the output held before.
-pub fn settle(status: u8, target: &mut BufWriter<Created>) -> io::Result<()> {
-    target.get_mut().leave(status)?;
+/// Removes what the output held before, unless the run was refused, and writes what is buffered.
+/// The error is the system's.
+pub fn flush_output(status: u8, target: &mut BufWriter<Created>) -> io::Result<()> {
+    target.get_mut().empty_unless_refused(status)?;
     target.flush()
 }
 
-/// The text of a run's message, which a line break ends.
+/// The text of a run's message without the line break that ends it; `None` where it is no such
+/// text.
 fn message_line(message: &[u8]) -> Option<&str>
     ensures text { IfSome result (λ text. message.now ≡ text.now ++ 10 ∷ []) }
     ensures whole { IsUtf8 message.now → (text : List ℕ) → message.now ≡ text ++ 10 ∷ []
@@ -73,8 +78,12 @@ fn tell_message<W: Write>(alloc: Global, errors: &mut W, message: &[u8]) {
 
 /// The status of a run that the job ended with `status`, whose writes failed for `cause`, if they
 /// did, and whose last write for `flushed`. None where that one is still to be told.
-fn status_by(status: u8, cause: Option<ErrorKind>, flushed: Option<ErrorKind>) -> Option<u8>
-    ensures value { result ≡ status_by status cause flushed }
+fn status_after_writes(
+    status: u8,
+    cause: Option<ErrorKind>,
+    flushed: Option<ErrorKind>,
+) -> Option<u8>
+    ensures value { result ≡ status_after_writes status cause flushed }
     ensures failed { has_failed cause flushed ≡ true → IfSome result (λ status. 0 < status) }
     ensures within { status ≤ 2 → IfSome result (λ status. status ≤ 2) }
 {
@@ -91,7 +100,7 @@ fn status_by(status: u8, cause: Option<ErrorKind>, flushed: Option<ErrorKind>) -
 ///
 /// Where the reader of a pipe went away, as of `| head`, nobody hears that the rest can't be
 /// written.
-pub fn end<'a, W: Write>(
+pub fn tell_end<'a, W: Write>(
     alloc: Global,
     errors: &mut W,
     status: u8,
@@ -99,7 +108,7 @@ pub fn end<'a, W: Write>(
     message: &[u8],
     output: &'a str,
 ) -> Result<u8, Stop<'a>>
-    ensures status { result_ok result ≡ status_by status causes.0 causes.1 }
+    ensures status { result_ok result ≡ status_after_writes status causes.0 causes.1 }
     ensures failed { has_failed causes.0 causes.1 ≡ true → IfOk result (λ ended. 0 < ended) }
     ensures within { status ≤ 2 → IfOk result (λ ended. ended ≤ 2) }
 {
@@ -107,5 +116,5 @@ pub fn end<'a, W: Write>(
     if !(is_unread(cause) || cause.is_some() && is_unread(flushed)) {
         tell_message(alloc, errors, message);
     }
-    status_by(status, cause, flushed).ok_or(Stop::WriteFailed(output))
+    status_after_writes(status, cause, flushed).ok_or(Stop::WriteFailed(output))
 }

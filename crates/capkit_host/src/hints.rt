@@ -33,31 +33,32 @@ const HINTS: [(&str, &str, &str); 9] = [
     ("print", "-X", "see -x"),
 ];
 
-/// Whether clap tells the option of that name.
-fn is_named(option: &str, name: &str) -> bool {
+/// Whether an option that clap tells is the one of a hint; `-5` is one of `NEGATIVE`.
+fn matches_name(option: &str, name: &str) -> bool {
     let is_negative = matches!(option.as_bytes(), [b'-', b'0'..=b'9']);
     option == name || is_negative && name == NEGATIVE
 }
 
-/// What is to be told of an option that a command doesn't know.
-fn hint_of(command: &str, option: &str) -> Option<&'static str> {
+/// The hint for an option that a command doesn't know, if there is one.
+fn hint_for_option(command: &str, option: &str) -> Option<&'static str> {
     for (place, name, hint) in HINTS {
-        if place == command && is_named(option, name) {
+        if place == command && matches_name(option, name) {
             return Some(hint);
         }
     }
     None
 }
 
-/// What is to be told beside a refusal with this text.
-pub(crate) fn hint_on(refusal: &str) -> Option<&'static str> {
+/// The hint for a refusal of clap's with this text, if it is of an option with a hint: the text
+/// tells the option and, in its usage, the command.
+pub(crate) fn hint_for_refusal(refusal: &str) -> Option<&'static str> {
     let (option, following) = refusal.strip_prefix(UNKNOWN)?.split_once("'")?;
     let (_, usage) = following.split_once(USAGE_OF)?;
     let (command, _) = usage.split_once(" ")?;
-    hint_of(command, option)
+    hint_for_option(command, option)
 }
 
-/// The help of the program.
+/// The help of the program, as `--help` prints it.
 fn help_text(alloc: Global) -> Result<String, AllocError> {
     let mut words = Vec::new(alloc);
     words.push(String::from_str(alloc, "--help")?)?;
@@ -67,7 +68,7 @@ fn help_text(alloc: Global) -> Result<String, AllocError> {
     }
 }
 
-/// Adds the list of the commands with what they do, as the help of the program has it.
+/// Adds to a text the list of the commands with what they do, as the help of the program has it.
 pub(crate) fn add_commands(alloc: Global, text: &mut String) -> Result<(), AllocError> {
     let help = help_text(alloc)?;
     if let Some((_, list)) = help.split_once(COMMANDS)

@@ -1,7 +1,7 @@
 //! Messages: no control character of a name reaches the terminal, and each is written by one call,
 //! so that those of runs side by side don't mix.
 
-use crate::hints::{add_commands, hint_on};
+use crate::hints::{add_commands, hint_for_refusal};
 use std::alloc::{AllocError, Allocator, Global};
 use std::{fmt, io};
 
@@ -63,7 +63,8 @@ impl fmt::Display for ShownBytes<'_> {
     }
 }
 
-/// Adds a line of why clap refuses the words, with the hint before the usage.
+/// Adds a line of clap's refusal to a text: the hint before the usage, and what each command does
+/// in place of their names.
 fn add_line(
     alloc: Global,
     text: &mut String,
@@ -85,7 +86,7 @@ fn add_line(
 /// tools asks for, and where there is no command with what each is for.
 pub fn refusal_text(alloc: Global, error: &clap::Error) -> Result<String, AllocError> {
     let told = format!(in alloc; "{error}")?;
-    let hint = hint_on(&told);
+    let hint = hint_for_refusal(&told);
     let mut text = String::new(alloc);
     let mut is_after_blank = false;
     for line in told.lines() {

@@ -18,8 +18,9 @@ use std::io::{self, BufReader, BufWriter, ErrorKind, Read};
 /// The bytes of the buffer before each input and the output.
 const BUFFER: usize = 65_536;
 
-/// The bytes of the buffer before an output that is written out before each read. What a full buffer
-/// of an input becomes is a few times as long at most, so that no packet is written in two parts.
+/// The bytes of the buffer before an output that is written out before each read. What a full
+/// buffer of an input becomes is a few times as long at most, so that no packet is written in two
+/// parts.
 const AWAITED_BUFFER: usize = 1_048_576;
 
 /// How many bytes of a listing are read at most: one more than it may have, by which a longer one
@@ -32,7 +33,8 @@ pub type Source<'a> = StdInput<Counted<'a, Opened>>;
 /// The output as the job writes it, after its buffer.
 pub type Target = StdOutput<Created>;
 
-/// The first bytes of the listing of this name. One that can't be read to its end can't be opened.
+/// The first 1,048,577 bytes of the listing of this name. One that can't be read to its end is
+/// reported like one that can't be opened.
 pub fn read_listing<'a>(rt: &HostRuntime, name: &'a str) -> Result<Vec<u8>, Stop<'a>> {
     let Ok(opened) = Opened::open(rt, name) else {
         return Err(Stop::CannotOpen(name));
@@ -65,16 +67,16 @@ pub fn with_listing<'a>(
     Ok(with_code(command, bytes))
 }
 
-/// A buffer that was made. An error here can only mean out of memory.
-pub fn buffered<'a, T: Drop>(made: io::Result<T>) -> Result<T, Stop<'a>>
+/// A buffer that was made, or out of memory, which alone can be why it wasn't.
+pub fn buffer_or_stop<'a, T: Drop>(made: io::Result<T>) -> Result<T, Stop<'a>>
     requires { IfErr made (λ error. error_kind error ≡ ErrorKind.OutOfMemory) }
     ensures { IfOk result (λ buffer. made ≡ Ok buffer) }
 {
     made.map_err(|_| Stop::NoMemory)
 }
 
-/// Opens the inputs in order.
-pub fn open<'a, 'p>(
+/// Opens the inputs in order, each with its buffer, whose reads count as progress.
+pub fn open_inputs<'a, 'p>(
     rt: &HostRuntime,
     names: &'a [String],
     progress: &'p Progress<'p>,
@@ -88,31 +90,38 @@ pub fn open<'a, 'p>(
             return Err(Stop::CannotOpen(name));
         };
         let counted = Counted::new(opened, progress);
-        let reader = buffered(BufReader::with_capacity(rt.alloc(), BUFFER, counted))?;
+        let reader = buffer_or_stop(BufReader::with_capacity(rt.alloc(), BUFFER, counted))?;
         inputs.push(StdInput::new(reader))?;
     }
     Ok(inputs)
 }
 
-/// Creates the output.
-pub fn create<'a>(rt: &HostRuntime, name: &'a str) -> Result<Created, Stop<'a>> {
+/// Creates the output of this name, with what it holds.
+pub fn create_output<'a>(rt: &HostRuntime, name: &'a str) -> Result<Created, Stop<'a>> {
     match Created::create(rt, name) {
         Ok(created) => Ok(created),
         Err(_) => Err(Stop::CannotCreate(name)),
     }
 }
 
-/// The output with its buffer. Where a read may wait, it is one that is waited for.
-pub fn target<'a>(rt: &HostRuntime, created: Created, may_wait: bool) -> Result<Target, Stop<'a>> {
+/// The output with its buffer: none on a terminal; one that is written out before each read where a
+/// read may wait; else one that is written out when it is full.
+pub fn buffer_output<'a>(
+    rt: &HostRuntime,
+    created: Created,
+    may_wait: bool,
+) -> Result<Target, Stop<'a>> {
     let alloc = rt.alloc();
     Ok(match buffering_of(created.is_terminal(), may_wait) {
-        Buffering::AtOnce => StdOutput::new(buffered(BufWriter::with_capacity(alloc, 0, created))?),
+        Buffering::AtOnce => StdOutput::new(buffer_or_stop(BufWriter::with_capacity(
+            alloc, 0, created,
+        ))?),
         Buffering::BeforeReads => {
             let writer = BufWriter::with_capacity(alloc, AWAITED_BUFFER, created);
-            StdOutput::awaited(buffered(writer)?)
+            StdOutput::new_awaited(buffer_or_stop(writer)?)
         }
         Buffering::WhenFull => {
-            StdOutput::new(buffered(BufWriter::with_capacity(alloc, BUFFER, created))?)
+            StdOutput::new(buffer_or_stop(BufWriter::with_capacity(alloc, BUFFER, created))?)
         }
     })
 }

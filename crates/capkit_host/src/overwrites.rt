@@ -32,13 +32,13 @@ pub(crate) fn output_path(name: Option<&str>) -> &str
     }
 }
 
-/// Whether the file that is read under this name is the one of that identity.
+/// Whether the input of this name is the file of that identity.
 fn is_read_as(files: &impl Identify, name: &str, file: Identity) -> bool {
     files.identity_of(input_path(name)) == Some(file)
 }
 
-/// Whether the line reads the file of that identity, as an input or a listing.
-fn reads(files: &impl Identify, line: &Line, file: Identity) -> bool {
+/// Whether one of the line's inputs, or its listing, is the file of that identity.
+fn reads_file(files: &impl Identify, line: &Line, file: Identity) -> bool {
     for name in &line.inputs {
         if is_read_as(files, name, file) {
             return true;
@@ -60,7 +60,7 @@ fn reads_file_at(files: &impl Identify, line: &Line, path: &str) -> bool
         return false;
     }
     match files.identity_of(path) {
-        Some(file) => reads(files, line, file),
+        Some(file) => reads_file(files, line, file),
         None => false,
     }
 }

@@ -9,7 +9,7 @@ use crate::engine::Engine;
 use crate::message::{ShownBytes, tell};
 use crate::refusal::refuse;
 use crate::runner::run;
-use crate::words::line_of;
+use crate::words::line_of_words;
 use capkit::{Line, Usage};
 use std::alloc::AllocError;
 use std::env::{self, Env, FillError};
@@ -18,9 +18,9 @@ use std::io::ErrorKind;
 /// The bytes of a word that isn't UTF-8 which a message has at most, as of a name.
 const SHOWN_BYTES: usize = 4096;
 
-/// Copies the first word that isn't UTF-8, and returns its length. None where the buffer holds none
-/// of them.
-pub fn foreign_word(rt: &impl Env, buf: &mut [u8]) -> Option<usize>
+/// Copies the first word that isn't UTF-8 into the buffer, and returns its length in bytes. None
+/// where there is none, and where the buffer has no room for any of them.
+pub fn first_word_not_utf8(rt: &impl Env, buf: &mut [u8]) -> Option<usize>
     ensures { IfSome result (λ count. count ≤ length buf.new) }
 {
     for place in 0..usize::MAX {
@@ -33,12 +33,12 @@ pub fn foreign_word(rt: &impl Env, buf: &mut [u8]) -> Option<usize>
     None
 }
 
-/// Reports which word isn't UTF-8, and returns the status.
-fn refuse_foreign(rt: &HostRuntime) -> u8
+/// Reports which word isn't UTF-8, and returns the status of words that are no command line.
+fn refuse_not_utf8(rt: &HostRuntime) -> u8
     ensures { result ≡ 2 }
 {
     let mut buf = [0u8; SHOWN_BYTES];
-    match foreign_word(rt, &mut buf) {
+    match first_word_not_utf8(rt, &mut buf) {
         Some(count) => {
             let bytes = &buf[..count];
             tell(
@@ -52,18 +52,18 @@ fn refuse_foreign(rt: &HostRuntime) -> u8
 }
 
 /// Does what the words after the program's name ask for, by this engine, and returns the status.
-pub fn status<J: Engine>(rt: &HostRuntime) -> u8
+pub fn run_program<J: Engine>(rt: &HostRuntime) -> u8
     ensures { result ≤ 2 }
 {
     let words = match env::args(rt) {
         Ok(words) => words.skip(1).collect(rt.alloc()),
-        Err(error) if error.kind() == ErrorKind::InvalidData => return refuse_foreign(rt),
+        Err(error) if error.kind() == ErrorKind::InvalidData => return refuse_not_utf8(rt),
         Err(_) => Err(AllocError),
     };
     let Ok(words) = words else {
         return refuse(rt, Usage::Memory);
     };
-    let parsed = line_of(rt, words);
+    let parsed = line_of_words(rt, words);
     carry_out(
         rt,
         parsed,
@@ -74,7 +74,7 @@ pub fn status<J: Engine>(rt: &HostRuntime) -> u8
     )
 }
 
-/// The status of the line's run, which is `run`, or of why there is no line.
+/// Runs the line by `run`, or reports why there is none; returns the status of either.
 fn carry_out<R: FnOnce(Line) -> u8 + Drop>(
     rt: &HostRuntime,
     parsed: Result<Line, Usage>,

@@ -7,14 +7,14 @@ use std::io::{self, IsTerminal, Read};
 use std::time::Instant;
 use std::{env, fs};
 
-/// The second since the start at which progress is shown first.
-const FIRST: u64 = 2;
+/// The second since the start of a job at which progress is shown first.
+const FIRST_SHOWN: u64 = 2;
 
 /// The bytes of a MiB.
 const MIB: u64 = 1_048_576;
 
-/// The size of all files of these names. 0 where one is no plain file, so that its size isn't
-/// known.
+/// The size of all files of these names, in bytes. 0 where one is no plain file, so that its size
+/// isn't known.
 pub fn total_size(rt: &HostRuntime, names: &[String]) -> u64 {
     let mut total: u64 = 0;
     for name in names {
@@ -98,7 +98,7 @@ pub struct Progress<'a> {
 
 /// When a job begins that shows its progress. None where that could meet lines, or another
 /// program's progress, on the terminal, or where none can be drawn on.
-pub fn start_of(rt: &HostRuntime, output: &str, is_drawable: bool) -> Option<Instant> {
+pub fn progress_start(rt: &HostRuntime, output: &str, is_drawable: bool) -> Option<Instant> {
     if !is_drawable || !is_file(rt, output) {
         return None;
     }
@@ -106,31 +106,33 @@ pub fn start_of(rt: &HostRuntime, output: &str, is_drawable: bool) -> Option<Ins
 }
 
 impl<'a> Progress<'a> {
-    /// Nothing is read yet of the inputs of these names.
+    /// Progress of a job that begins now with the inputs of these names, of which nothing is read
+    /// yet.
     pub fn new(rt: &'a HostRuntime, names: &[String], output: &str) -> Progress<'a> {
-        let start = start_of(rt, output, is_drawable(rt));
+        let start = progress_start(rt, output, is_drawable(rt));
         Progress::since(rt, start, total_size(rt, names))
     }
 
-    /// Nothing is read yet of inputs of that size, by a job that began then.
+    /// Progress of a job that began at `start`, or that shows none, with inputs of `total` bytes,
+    /// of which nothing is read yet.
     pub fn since(rt: &'a HostRuntime, start: Option<Instant>, total: u64) -> Progress<'a> {
         Progress {
             rt,
             start,
             total,
             read: Cell::new(0),
-            next: Cell::new(FIRST),
+            next: Cell::new(FIRST_SHOWN),
             is_shown: Cell::new(false),
         }
     }
 
-    /// Whether it counts, so that it may be shown.
-    pub fn counts(&self) -> bool {
+    /// Whether bytes are counted, so that progress may be shown.
+    pub fn is_counting(&self) -> bool {
         self.start.is_some()
     }
 
-    /// Counts bytes that were read, and shows progress on standard error, but from the background,
-    /// where the line could meet what is typed.
+    /// Counts bytes that were read just now, and shows progress on standard error if it is due; but
+    /// not from the background, where the line could meet what is typed.
     fn count(&self, bytes: usize) {
         if let Some(start) = self.start {
             let elapsed = start.elapsed(self.rt);
@@ -142,15 +144,16 @@ impl<'a> Progress<'a> {
         }
     }
 
-    /// Counts bytes that were read by that second, and shows progress once a second.
+    /// Counts bytes that were read by that second of the job, and shows progress on this terminal,
+    /// once a second at most.
     pub fn count_at(&self, terminal: &impl Eprint, bytes: usize, seconds: u64) {
         if self.is_due(bytes, seconds) {
             self.show(terminal, seconds);
         }
     }
 
-    /// Counts bytes that were read by that second, and says once a second that progress is to be
-    /// shown.
+    /// Counts bytes that were read by that second of the job, and returns whether progress is to be
+    /// shown: once a second at most.
     fn is_due(&self, bytes: usize, seconds: u64) -> bool {
         self.read.set(self.read.get().saturating_add(bytes as u64));
         let is_due = seconds >= self.next.get();
@@ -160,7 +163,7 @@ impl<'a> Progress<'a> {
         is_due
     }
 
-    /// Writes the line, over the one that stands there.
+    /// Writes the line of progress, over the one that is there.
     fn show(&self, terminal: &impl Eprint, seconds: u64) {
         self.is_shown.set(true);
         let read = self.read.get();
@@ -172,7 +175,8 @@ impl<'a> Progress<'a> {
         };
     }
 
-    /// How much of the inputs is read, in hundredths. None where their size isn't known.
+    /// The share of the inputs that `read` bytes are, in percent, 100 at most. None where their
+    /// size isn't known.
     fn share(&self, read: u64) -> Option<u128> {
         if self.total == 0 {
             return None;
@@ -181,8 +185,8 @@ impl<'a> Progress<'a> {
         Some(share.min(100))
     }
 
-    /// Erases the line at the end of a job, if one stands there; but not from the background, where
-    /// that would erase what is typed.
+    /// Ends progress: erases its line, if there is one; but not from the background, where that
+    /// would erase what is typed.
     pub fn end(&self) {
         if self.is_shown.get() && !has_terminal(self.rt) {
             self.is_shown.set(false);
@@ -190,7 +194,7 @@ impl<'a> Progress<'a> {
         self.erase(self.rt);
     }
 
-    /// Erases the line, if one stands there.
+    /// Erases the line of progress from this terminal, if there is one.
     pub fn erase(&self, terminal: &impl Eprint) {
         if self.is_shown.replace(false) {
             let _ = terminal.eprint(format_args!("\r\x1b[K"));
@@ -206,13 +210,14 @@ pub struct Counted<'a, R> {
 }
 
 impl<'a, R: Read> Counted<'a, R> {
-    /// Nothing is read yet.
+    /// A reader of which nothing is read yet, whose bytes count as this progress.
     pub fn new(reader: R, progress: &'a Progress<'a>) -> Self {
         Counted { reader, progress }
     }
 }
 
 impl<R: Read> Read for Counted<'_, R> {
+    /// One read of the reader, whose bytes are counted.
     fn read(&mut self, buf: &mut [u8]) -> io::Result<usize> {
         let count = self.reader.read(buf)?;
         self.progress.count(count);

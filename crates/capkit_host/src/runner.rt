@@ -1,4 +1,4 @@
-//! A command over files and standard streams.
+//! A run: a command over the files and standard streams that its names mean.
 ghost use Rattle.std.specs.Prelude.{◌≡◌, ◌+◌, ◌≤◌, [], ◌∷◌, ◌++◌, IfOk, codes, length, map};
 ghost use Rattle.std.specs.Prelude.{option_map, string_bytes, true, unwrap_or, vec_len};
 ghost use Rattle.cap_command.specs.Command.{is_proper};
@@ -6,9 +6,11 @@ ghost use Rattle.capkit.specs.Line.{is_ready};
 
 use crate::ending::finish;
 use crate::engine::Engine;
-use crate::opening::{Source, Target, buffered, create, open, target, with_listing};
+use crate::opening::{
+    Source, Target, buffer_or_stop, buffer_output, create_output, open_inputs, with_listing,
+};
 use crate::progress::Progress;
-use crate::stop::{Stop, stopped};
+use crate::stop::{Stop, report_stop};
 use crate::waiting::may_wait;
 use cap_command::Command;
 use cap_octet::StdOutput;
@@ -23,7 +25,7 @@ struct Devices<'p> {
     messages: StdOutput<Stderr>,
 }
 
-/// Opens the inputs in order, and creates the output.
+/// Opens the inputs in order, and creates the output; or why not.
 fn open_devices<'a, 'p>(
     rt: &HostRuntime,
     names: &'a [String],
@@ -32,11 +34,11 @@ fn open_devices<'a, 'p>(
 ) -> Result<Devices<'p>, Stop<'a>>
     ensures { IfOk result (λ devices. vec_len devices.inputs ≡ length names.entry.now) }
 {
-    let inputs = open(rt, names, progress)?;
-    let created = create(rt, output)?;
+    let inputs = open_inputs(rt, names, progress)?;
+    let created = create_output(rt, output)?;
     let may_wait = may_wait(rt, names);
-    let output = target(rt, created, may_wait)?;
-    let messages = buffered(BufWriter::new(rt.alloc(), rt.stderr()))?;
+    let output = buffer_output(rt, created, may_wait)?;
+    let messages = buffer_or_stop(BufWriter::new(rt.alloc(), rt.stderr()))?;
     Ok(Devices {
         inputs,
         output,
@@ -66,12 +68,12 @@ fn run_over<J: Engine>(
     progress.end();
     match finish(rt.alloc(), status, target, messages, output) {
         Ok(status) => status,
-        Err(stop) => stopped(rt, stop),
+        Err(stop) => report_stop(rt, stop),
     }
 }
 
-/// The names of the inputs, then that of the output.
-fn with_output(
+/// The names of the inputs, and that of the output after them. An error means that memory ran out.
+fn with_output_name(
     rt: &HostRuntime,
     mut names: Vec<String>,
     output: &str,
@@ -95,13 +97,13 @@ pub fn run_command<J: Engine>(
     requires { is_proper command (vec_len names) ≡ true }
     ensures { result ≤ 2 }
 {
-    let Ok(names) = with_output(rt, names, output) else {
-        return stopped(rt, Stop::NoMemory);
+    let Ok(names) = with_output_name(rt, names, output) else {
+        return report_stop(rt, Stop::NoMemory);
     };
     let inputs = &names[..names.len() - 1];
     match open_devices(rt, inputs, output, progress) {
         Ok(devices) => run_over::<J>(rt, command, names, devices, output, progress),
-        Err(stop) => stopped(rt, stop),
+        Err(stop) => report_stop(rt, stop),
     }
 }
 
@@ -134,7 +136,7 @@ pub fn run<J: Engine>(rt: &HostRuntime, line: Line) -> u8
     let listing = code.as_ref().map(|name| name.as_str());
     let command = match with_listing(rt, command, listing) {
         Ok(command) => command,
-        Err(stop) => return stopped(rt, stop),
+        Err(stop) => return report_stop(rt, stop),
     };
     let progress = Progress::new(rt, names.as_slice(), output);
     run_command::<J>(rt, command, names, output, &progress)

@@ -42,8 +42,8 @@ impl<T: Drop> From<AllocFailed<T>> for Stop<'_> {
     }
 }
 
-/// Reports the stop, and returns its status.
-pub fn stopped(rt: &(impl AllocGlobal + Errors), stop: Stop<'_>) -> u8
+/// Reports why a command was not run to its end on standard error, and returns the status of that.
+pub fn report_stop(rt: &(impl AllocGlobal + Errors), stop: Stop<'_>) -> u8
     ensures { result ≡ 1 }
 {
     tell(rt, stop);

@@ -31,6 +31,7 @@ impl Opened {
 }
 
 impl Read for Opened {
+    /// One read of the file or of standard input.
     fn read(&mut self, buf: &mut [u8]) -> io::Result<usize> {
         match self {
             Opened::File(file) => file.read(buf),
@@ -74,7 +75,7 @@ impl Created {
 }
 
 impl<S> Created<S> {
-    /// Removes what a plain file held before it was opened. Later calls do nothing.
+    /// Removes what a plain file held before it was opened, once: later calls do nothing.
     ///
     /// A device and a pipe hold nothing that could be removed.
     pub(crate) fn empty(&mut self) -> io::Result<()>
@@ -94,9 +95,9 @@ impl<S> Created<S> {
         }
     }
 
-    /// Keeps what it held before if the run's status says that the expression or the listing was
-    /// refused, and else removes it.
-    pub(crate) fn leave(&mut self, status: u8) -> io::Result<()>
+    /// Removes what a plain file held before it was opened, unless the run's status is 2: the
+    /// expression or the listing was refused.
+    pub(crate) fn empty_unless_refused(&mut self, status: u8) -> io::Result<()>
         ensures refused { status ≡ 2 → self.new ≡ self.old }
         ensures ran { status ≢ 2 → OnOk result (holds_old_bytes self.new ≡ false) }
     {
@@ -108,7 +109,7 @@ impl<S> Created<S> {
 }
 
 impl<S: Write> Write for Created<S> {
-    /// One write. What a file held before goes before its first one.
+    /// One write. Before the first one what a file held is removed.
     fn write(&mut self, buf: &[u8]) -> io::Result<usize>
         ensures bound { WritesAtMost result buf.now }
         ensures bytes { WriteAppends None None result buf.now }
@@ -121,6 +122,7 @@ impl<S: Write> Write for Created<S> {
         }
     }
 
+    /// Writes out what the stream holds back; a file holds nothing back.
     fn flush(&mut self) -> io::Result<()> {
         match self {
             Created::File(output) => output.file.flush(),
@@ -130,7 +132,7 @@ impl<S: Write> Write for Created<S> {
 }
 
 impl<S: IsTerminal> Created<S> {
-    /// Whether somebody looks at what is written as it comes.
+    /// Whether the output is a terminal, so that somebody looks at what is written as it comes.
     pub fn is_terminal(&self) -> bool {
         match self {
             Created::File(output) => output.file.is_terminal(),

@@ -5,7 +5,7 @@ ghost use Rattle.std.specs.Prelude.{◌≡◌, false, true};
 use crate::files::{Identify, is_plain};
 use crate::overwrites::input_path;
 
-/// Whether a read of some input may wait: it is no plain file.
+/// Whether a read of some input of these names may wait: one is no plain file.
 pub fn may_wait(files: &impl Identify, names: &[String]) -> bool {
     for name in names {
         if !is_plain(files, input_path(name)) {
@@ -20,11 +20,14 @@ pub fn may_wait(files: &impl Identify, names: &[String]) -> bool {
 pub(crate) enum Buffering {
     /// At once: a terminal shows each line, report or listing as it is written.
     AtOnce,
+    /// Before each read that may wait.
     BeforeReads,
+    /// When it is full.
     WhenFull,
 }
 
-/// When an output's buffer is written out.
+/// When the buffer of an output is written out: at once on a terminal, before reads where one may
+/// wait.
 pub(crate) fn buffering_of(is_terminal: bool, may_wait: bool) -> Buffering
     ensures terminal { is_terminal ≡ true → result ≡ Buffering.AtOnce }
     ensures read { is_terminal ≡ false → may_wait ≡ true → result ≡ Buffering.BeforeReads }

@@ -25,8 +25,9 @@ pub fn with_help_option(alloc: Global, words: Vec<String>) -> Result<Vec<String>
     Ok(asked)
 }
 
-/// What the words ask for, of which `help` is an option, unless its output is a file that it reads.
-pub fn line_of(rt: &HostRuntime, words: Vec<String>) -> Result<Line, Usage>
+/// The line that the words ask for, where `help` may be the first one; `NameUsedTwice` too where
+/// its output is a file that it reads.
+pub fn line_of_words(rt: &HostRuntime, words: Vec<String>) -> Result<Line, Usage>
     ensures ready { IfOk result (λ line. is_ready line ≡ true) }
     ensures line { IfOk result (SaysLine (with_help_option (map string_bytes words.items))) }
 {

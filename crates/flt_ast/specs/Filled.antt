@@ -29,8 +29,8 @@ with_inherited q a = a
 abbrev pub type_or_host : Qualifiers → ValueType
 type_or_host q = unwrap_or q.value_type Host
 
-abbrev pub full : Qualifiers → CompleteQualifiers
-full q =
+abbrev pub completed_qualifiers : Qualifiers → CompleteQualifiers
+completed_qualifiers q =
     record {
       protocol = q.protocol;
       direction = unwrap_or q.direction (direction.Both join.Or);
@@ -38,7 +38,7 @@ full q =
     }
 
 abbrev pub complete : TruthTree → TruthTree
-complete (valued q v) = qualified (full q) v
+complete (valued q v) = qualified (completed_qualifiers q) v
 complete (denied a) = denied (complete a)
 complete (joined j a b) = joined j (complete a) (complete b)
 complete a = a
@@ -56,5 +56,5 @@ fill_expression empty = empty
 fill_expression (truth a) = truth (complete (with_inherited only_host a))
 
 abbrev pub completed_node : Node → Node
-completed_node (node.Valued q v) = node.Qualified (full q) v
+completed_node (node.Valued q v) = node.Qualified (completed_qualifiers q) v
 completed_node n = n

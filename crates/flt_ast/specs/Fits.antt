@@ -19,33 +19,33 @@ use Rattle.flt_ast.specs.declared.fits.Fit.TheVariants as fit
 
 -- the protocols that an IPv4 address, an IPv6 address, a port and a protocol number may have, or
 -- none
-abbrev pub is_of_ip4 : Option Protocol → Bool
-is_of_ip4 None = true
-is_of_ip4 (Some protocol.Ip) = true
-is_of_ip4 (Some protocol.Arp) = true
-is_of_ip4 (Some protocol.Rarp) = true
-is_of_ip4 _ = false
+abbrev pub has_ip4_addresses : Option Protocol → Bool
+has_ip4_addresses None = true
+has_ip4_addresses (Some protocol.Ip) = true
+has_ip4_addresses (Some protocol.Arp) = true
+has_ip4_addresses (Some protocol.Rarp) = true
+has_ip4_addresses _ = false
 
-abbrev pub is_of_ip6 : Option Protocol → Bool
-is_of_ip6 None = true
-is_of_ip6 (Some protocol.Ip6) = true
-is_of_ip6 _ = false
+abbrev pub has_ip6_addresses : Option Protocol → Bool
+has_ip6_addresses None = true
+has_ip6_addresses (Some protocol.Ip6) = true
+has_ip6_addresses _ = false
 
-abbrev pub is_of_ports : Option Protocol → Bool
-is_of_ports None = true
-is_of_ports (Some protocol.Tcp) = true
-is_of_ports (Some protocol.Udp) = true
-is_of_ports _ = false
+abbrev pub has_port_numbers : Option Protocol → Bool
+has_port_numbers None = true
+has_port_numbers (Some protocol.Tcp) = true
+has_port_numbers (Some protocol.Udp) = true
+has_port_numbers _ = false
 
-abbrev pub is_of_ips : Option Protocol → Bool
-is_of_ips None = true
-is_of_ips (Some protocol.Ip) = true
-is_of_ips (Some protocol.Ip6) = true
-is_of_ips _ = false
+abbrev pub has_protocol_numbers : Option Protocol → Bool
+has_protocol_numbers None = true
+has_protocol_numbers (Some protocol.Ip) = true
+has_protocol_numbers (Some protocol.Ip6) = true
+has_protocol_numbers _ = false
 
-abbrev pub is_of_ether : Option Protocol → Bool
-is_of_ether (Some protocol.Ether) = true
-is_of_ether _ = false
+abbrev pub has_mac_addresses : Option Protocol → Bool
+has_mac_addresses (Some protocol.Ether) = true
+has_mac_addresses _ = false
 
 abbrev pub is_whole : Dotted → Bool
 is_whole d = d.parts == 4
@@ -55,13 +55,13 @@ abbrev pub is_net_mask : NetMask → Bool
 is_net_mask (mask.Mask d) = is_whole d
 is_net_mask _ = true
 
-abbrev pub is_ip4_len : NetMask → Bool
-is_ip4_len (mask.Prefix n) = nat_le n 32
-is_ip4_len _ = true
+abbrev pub is_ip4_prefix_len : NetMask → Bool
+is_ip4_prefix_len (mask.Prefix n) = nat_le n 32
+is_ip4_prefix_len _ = true
 
-abbrev pub is_ip6_len : Option ℕ → Bool
-is_ip6_len None = true
-is_ip6_len (Some n) = nat_le n 128
+abbrev pub is_ip6_prefix_len : Option ℕ → Bool
+is_ip6_prefix_len None = true
+is_ip6_prefix_len (Some n) = nat_le n 128
 
 -- whether it fits, and then whether it is in range
 abbrev pub fit_if : Bool → Bool → Fit
@@ -71,18 +71,18 @@ fit_if false _ = fit.Misfit
 
 -- the table
 abbrev pub fit_of : ValueType → Value → Option Protocol → Fit
-fit_of Host (value.Dotted d mask.Unwritten) p = fit_if (is_whole d && is_of_ip4 p) true
-fit_of Host (value.Ip6 a None) p = fit_if (is_of_ip6 p) true
-fit_of Host (value.Mac a) p = fit_if (is_of_ether p) true
+fit_of Host (value.Dotted d mask.Unwritten) p = fit_if (is_whole d && has_ip4_addresses p) true
+fit_of Host (value.Ip6 a None) p = fit_if (has_ip6_addresses p) true
+fit_of Host (value.Mac a) p = fit_if (has_mac_addresses p) true
 fit_of Net (value.Number n m) p =
-    fit_if (is_net_mask m && is_of_ip4 p) (nat_le n 255 && is_ip4_len m)
-fit_of Net (value.Dotted d m) p = fit_if (is_net_mask m && is_of_ip4 p) (is_ip4_len m)
-fit_of Net (value.Ip6 a n) p = fit_if (is_of_ip6 p) (is_ip6_len n)
-fit_of Port (value.Number n mask.Unwritten) p = fit_if (is_of_ports p) (nat_le n 65535)
-fit_of PortRange (value.Range a b) p = fit_if (is_of_ports p) (nat_le a 65535 && nat_le b 65535)
+    fit_if (is_net_mask m && has_ip4_addresses p) (nat_le n 255 && is_ip4_prefix_len m)
+fit_of Net (value.Dotted d m) p = fit_if (is_net_mask m && has_ip4_addresses p) (is_ip4_prefix_len m)
+fit_of Net (value.Ip6 a n) p = fit_if (has_ip6_addresses p) (is_ip6_prefix_len n)
+fit_of Port (value.Number n mask.Unwritten) p = fit_if (has_port_numbers p) (nat_le n 65535)
+fit_of PortRange (value.Range a b) p = fit_if (has_port_numbers p) (nat_le a 65535 && nat_le b 65535)
 fit_of Proto (value.Number n mask.Unwritten) (Some protocol.Ether) =
     fit_if true (nat_le 1536 n && nat_le n 65535)
-fit_of Proto (value.Number n mask.Unwritten) p = fit_if (is_of_ips p) (nat_le n 255)
+fit_of Proto (value.Number n mask.Unwritten) p = fit_if (has_protocol_numbers p) (nat_le n 255)
 fit_of _ _ _ = fit.Misfit
 
 abbrev pub is_misfit_fit : Fit → Bool

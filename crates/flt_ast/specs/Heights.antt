@@ -13,6 +13,6 @@ height_after h (node.Compare c) = h - 2
 height_after h _ = h
 
 -- the most that there are at once; `less` and `greater` have two numbers of their own
-abbrev pub peak : ℕ → Node → ℕ
-peak h (node.Sized s n) = h + 2
-peak h n = height_after h n
+abbrev pub peak_height : ℕ → Node → ℕ
+peak_height h (node.Sized s n) = h + 2
+peak_height h n = height_after h n

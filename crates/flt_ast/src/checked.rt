@@ -1,4 +1,4 @@
-//! Expressions of which code can be made.
+//! Expressions of which code can be made: what `flt_lang::check` returns and the compiler takes.
 
 ghost use Rattle.std.specs.Prelude.{◌≡◌, ◌≤◌, false};
 ghost use Rattle.flt_ast.specs.Resolved.{IsResolved, some_primitive};

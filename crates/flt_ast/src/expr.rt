@@ -1,4 +1,4 @@
-//! Expressions.
+//! Expressions: a tree as the list of its nodes.
 
 ghost use Rattle.std.specs.Prelude.{◌≡◌};
 ghost use Rattle.flt_ast.specs.Nodes.{expr_nodes};
@@ -7,10 +7,10 @@ use crate::node::Node;
 use std::alloc::Allocator;
 use std::marker::Model;
 
-/// The tree of an expression. No tokens are the empty expression, which has no nodes.
+/// The tree of an expression. An expression without tokens has no nodes, and matches every packet.
 #[derive(Drop)]
 pub struct Expr<A: Allocator> {
-    /// Operands first.
+    /// Operands first, then what takes them (postfix order).
     pub nodes: Vec<Node, A>,
 }
 

@@ -1,9 +1,10 @@
 //! What fits: which values, protocols and directions go with a type, and which numbers are in
-//! range.
+//! range. `node` asks it of each node with a value (faults E7 and E8).
 
 ghost use Rattle.std.specs.Prelude.{◌≡◌};
-ghost use Rattle.flt_ast.specs.Fits.{is_of_ip4, is_of_ip6, is_of_ports, is_of_ips, is_of_ether};
-ghost use Rattle.flt_ast.specs.Fits.{is_net_mask, is_ip4_len, is_ip6_len, fit_if, fit_of};
+ghost use Rattle.flt_ast.specs.Fits.{has_ip4_addresses, has_ip6_addresses, has_port_numbers};
+ghost use Rattle.flt_ast.specs.Fits.{has_protocol_numbers, has_mac_addresses};
+ghost use Rattle.flt_ast.specs.Fits.{is_net_mask, is_ip4_prefix_len, is_ip6_prefix_len, fit_if, fit_of};
 ghost use Rattle.flt_ast.specs.Fits.{is_cast_misfit};
 
 use crate::value::{NetMask, Value};
@@ -17,6 +18,7 @@ pub enum Fit {
     InRange,
 }
 
+/// A value that does not go with its type and protocol is a misfit, whatever its numbers are.
 fn fit_if(fits: bool, in_range: bool) -> Fit
     ensures { result ≡ fit_if fits in_range }
 {
@@ -27,7 +29,7 @@ fn fit_if(fits: bool, in_range: bool) -> Fit
     }
 }
 
-/// The table.
+/// Whether a value goes with a type and a protocol, and its numbers are in range: the table of all.
 pub(crate) fn fit_of(value_type: ValueType, value: Value, protocol: Option<Protocol>) -> Fit
     ensures { result ≡ fit_of value_type value protocol }
 {
@@ -36,14 +38,14 @@ pub(crate) fn fit_of(value_type: ValueType, value: Value, protocol: Option<Proto
         ValueType::Net => net_fit(value, protocol),
         ValueType::Port => match value {
             Value::Number(number, NetMask::Unwritten) => fit_if(
-                is_of_ports(protocol),
+                has_port_numbers(protocol),
                 number <= 65535,
             ),
             _ => Fit::Misfit,
         },
         ValueType::PortRange => match value {
             Value::Range { first, last } => {
-                fit_if(is_of_ports(protocol), first <= 65535 && last <= 65535)
+                fit_if(has_port_numbers(protocol), first <= 65535 && last <= 65535)
             }
             _ => Fit::Misfit,
         },
@@ -54,47 +56,53 @@ pub(crate) fn fit_of(value_type: ValueType, value: Value, protocol: Option<Proto
     }
 }
 
+/// The same for the type `host`: an IPv4, IPv6 or MAC address in full.
 fn host_fit(value: Value, protocol: Option<Protocol>) -> Fit
     ensures { result ≡ fit_of ValueType.Host value protocol }
 {
     match value {
         Value::Dotted(dotted, NetMask::Unwritten) => {
-            fit_if(dotted.parts == 4 && is_of_ip4(protocol), true)
+            fit_if(dotted.parts == 4 && has_ip4_addresses(protocol), true)
         }
-        Value::Ip6(_, None) => fit_if(is_of_ip6(protocol), true),
-        Value::Mac(_) => fit_if(is_of_ether(protocol), true),
+        Value::Ip6(_, None) => fit_if(has_ip6_addresses(protocol), true),
+        Value::Mac(_) => fit_if(has_mac_addresses(protocol), true),
         _ => Fit::Misfit,
     }
 }
 
+/// The same for the type `net`: an address or its first parts, with a mask or the length of a
+/// prefix.
 fn net_fit(value: Value, protocol: Option<Protocol>) -> Fit
     ensures { result ≡ fit_of ValueType.Net value protocol }
 {
     match value {
         Value::Number(number, mask) => fit_if(
-            is_net_mask(mask) && is_of_ip4(protocol),
-            number <= 255 && is_ip4_len(mask),
+            is_net_mask(mask) && has_ip4_addresses(protocol),
+            number <= 255 && is_ip4_prefix_len(mask),
         ),
         Value::Dotted(_, mask) => fit_if(
-            is_net_mask(mask) && is_of_ip4(protocol),
-            is_ip4_len(mask),
+            is_net_mask(mask) && has_ip4_addresses(protocol),
+            is_ip4_prefix_len(mask),
         ),
-        Value::Ip6(_, len) => fit_if(is_of_ip6(protocol), is_ip6_len(len)),
+        Value::Ip6(_, len) => fit_if(has_ip6_addresses(protocol), is_ip6_prefix_len(len)),
         _ => Fit::Misfit,
     }
 }
 
+/// The same for the type `proto`: an EtherType from 1536 (0x600) on, below which the field is a
+/// length, or a protocol number of one byte.
 fn proto_fit(number: u32, protocol: Option<Protocol>) -> Fit
     ensures { result ≡ fit_of ValueType.Proto (Value.Number number NetMask.Unwritten) protocol }
 {
     match protocol {
         Some(Protocol::Ether) => fit_if(true, number >= 1536 && number <= 65535),
-        _ => fit_if(is_of_ips(protocol), number <= 255),
+        _ => fit_if(has_protocol_numbers(protocol), number <= 255),
     }
 }
 
-fn is_of_ip4(protocol: Option<Protocol>) -> bool
-    ensures { result ≡ is_of_ip4 protocol }
+/// Whether IPv4 addresses go with a protocol, or with none written.
+fn has_ip4_addresses(protocol: Option<Protocol>) -> bool
+    ensures { result ≡ has_ip4_addresses protocol }
 {
     matches!(
         protocol,
@@ -102,30 +110,35 @@ fn is_of_ip4(protocol: Option<Protocol>) -> bool
     )
 }
 
-fn is_of_ip6(protocol: Option<Protocol>) -> bool
-    ensures { result ≡ is_of_ip6 protocol }
+/// Whether IPv6 addresses go with a protocol, or with none written.
+fn has_ip6_addresses(protocol: Option<Protocol>) -> bool
+    ensures { result ≡ has_ip6_addresses protocol }
 {
     matches!(protocol, None | Some(Protocol::Ip6))
 }
 
-fn is_of_ports(protocol: Option<Protocol>) -> bool
-    ensures { result ≡ is_of_ports protocol }
+/// Whether ports go with a protocol, or with none written.
+fn has_port_numbers(protocol: Option<Protocol>) -> bool
+    ensures { result ≡ has_port_numbers protocol }
 {
     matches!(protocol, None | Some(Protocol::Tcp | Protocol::Udp))
 }
 
-fn is_of_ips(protocol: Option<Protocol>) -> bool
-    ensures { result ≡ is_of_ips protocol }
+/// Whether IP protocol numbers go with a protocol, or with none written.
+fn has_protocol_numbers(protocol: Option<Protocol>) -> bool
+    ensures { result ≡ has_protocol_numbers protocol }
 {
     matches!(protocol, None | Some(Protocol::Ip | Protocol::Ip6))
 }
 
-fn is_of_ether(protocol: Option<Protocol>) -> bool
-    ensures { result ≡ is_of_ether protocol }
+/// Whether MAC addresses go with a protocol, which has to be written.
+fn has_mac_addresses(protocol: Option<Protocol>) -> bool
+    ensures { result ≡ has_mac_addresses protocol }
 {
     matches!(protocol, Some(Protocol::Ether))
 }
 
+/// Whether a mask may stand after a network: a written one has all four parts.
 fn is_net_mask(mask: NetMask) -> bool
     ensures { result ≡ is_net_mask mask }
 {
@@ -135,8 +148,9 @@ fn is_net_mask(mask: NetMask) -> bool
     }
 }
 
-fn is_ip4_len(mask: NetMask) -> bool
-    ensures { result ≡ is_ip4_len mask }
+/// Whether the length of a prefix, if one is written, is at most the 32 bits of an IPv4 address.
+fn is_ip4_prefix_len(mask: NetMask) -> bool
+    ensures { result ≡ is_ip4_prefix_len mask }
 {
     match mask {
         NetMask::Prefix(len) => len <= 32,
@@ -144,8 +158,9 @@ fn is_ip4_len(mask: NetMask) -> bool
     }
 }
 
-fn is_ip6_len(len: Option<u32>) -> bool
-    ensures { result ≡ is_ip6_len len }
+/// Whether the length of a prefix, if one is written, is at most the 128 bits of an IPv6 address.
+fn is_ip6_prefix_len(len: Option<u32>) -> bool
+    ensures { result ≡ is_ip6_prefix_len len }
 {
     match len {
         Some(len) => len <= 128,
@@ -153,6 +168,7 @@ fn is_ip6_len(len: Option<u32>) -> bool
     }
 }
 
+/// Whether `broadcast` or `multicast` does not go with the protocol before it.
 pub(crate) fn is_cast_misfit(protocol: Option<Protocol>, cast: Cast) -> bool
     ensures { result ≡ is_cast_misfit protocol cast }
 {

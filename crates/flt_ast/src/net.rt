@@ -46,13 +46,13 @@ impl Value {
         match self {
             Value::Ip6(address, len) => Some(Ip6Net {
                 address,
-                mask: ip6_first_bits(len.unwrap_or(128)),
+                mask: ip6_prefix_mask(len.unwrap_or(128)),
             }),
             _ => None,
         }
     }
 
-    /// Whether the address has bits that the mask leaves out.
+    /// Whether the address has bits set that the mask leaves out (E9).
     pub(crate) fn is_past_mask(self) -> bool
         ensures { result ≡ is_past_mask self }
     {
@@ -64,17 +64,19 @@ impl Value {
     }
 }
 
+/// The mask of an IPv4 network of which `parts` bytes of the address are written.
 fn ip4_mask(parts: u8, mask: NetMask) -> u32
     ensures { result ≡ ip4_mask parts mask }
 {
     match mask {
-        NetMask::Unwritten => ip4_first_bits(8 * u32::from(parts)),
-        NetMask::Prefix(len) => ip4_first_bits(len),
+        NetMask::Unwritten => ip4_prefix_mask(8 * u32::from(parts)),
+        NetMask::Prefix(len) => ip4_prefix_mask(len),
         NetMask::Mask(dotted) => dotted.address,
     }
 }
 
-fn ip4_first_bits(len: u32) -> u32
+/// The mask of the first `len` of 32 bits; all of them from 32 on.
+fn ip4_prefix_mask(len: u32) -> u32
     ensures { result ≡ first_bits 32 len }
 {
     match 32u32.saturating_sub(len) {
@@ -83,7 +85,8 @@ fn ip4_first_bits(len: u32) -> u32
     }
 }
 
-fn ip6_first_bits(len: u32) -> u128
+/// The mask of the first `len` of 128 bits; all of them from 128 on.
+fn ip6_prefix_mask(len: u32) -> u128
     ensures { result ≡ first_bits 128 len }
 {
     match 128u32.saturating_sub(len) {

@@ -1,4 +1,4 @@
-//! The nodes of a tree.
+//! The nodes of a tree, what each is found to be wrong with, and what each counts as.
 
 use crate::fits::{Fit, fit_of, is_cast_misfit};
 use crate::node_counts::{accessor_tests, cast_tests, check_tests, value_tests};
@@ -48,9 +48,9 @@ impl Node {
     ghost use Rattle.flt_ast.specs.Resolved.{is_misfit_node, is_out_of_range_node};
     ghost use Rattle.flt_ast.specs.Resolved.{has_past_bits_node};
     ghost use Rattle.flt_ast.specs.Counts.{node_tests, node_size};
-    ghost use Rattle.flt_ast.specs.Heights.{height_after, peak};
+    ghost use Rattle.flt_ast.specs.Heights.{height_after, peak_height};
 
-    /// Whether what is written before a value, or before `broadcast`, does not go with it.
+    /// Whether what is written before a value, or before `broadcast`, does not go with it (E7).
     pub fn is_misfit(self) -> bool
         ensures { result ≡ is_misfit_node self }
     {
@@ -70,7 +70,7 @@ impl Node {
         }
     }
 
-    /// Whether a number of a value, or the size of an accessor, is out of range.
+    /// Whether a number of a value, or the size of an accessor, is out of range (E8).
     pub fn is_out_of_range(self) -> bool
         ensures { result ≡ is_out_of_range_node self }
     {
@@ -86,7 +86,7 @@ impl Node {
         }
     }
 
-    /// Whether the address of a network has bits that its mask leaves out.
+    /// Whether the address of a network has bits set that its mask leaves out (E9).
     pub fn has_past_bits(self) -> bool
         ensures { result ≡ has_past_bits_node self }
     {
@@ -106,12 +106,12 @@ impl Node {
         ensures { result ≡ completed_node self }
     {
         match self {
-            Node::Valued(qualifiers, value) => Node::Qualified(qualifiers.full(), value),
+            Node::Valued(qualifiers, value) => Node::Qualified(qualifiers.completed(), value),
             _ => self,
         }
     }
 
-    /// How many tests it counts as.
+    /// How many elementary tests its formula has: comparisons of one field of a packet.
     pub fn tests(self) -> u8
         ensures count { result ≡ node_tests self }
         ensures upper_bound { result ≤ 27 }
@@ -126,8 +126,8 @@ impl Node {
         }
     }
 
-    /// How many nodes of arithmetic it counts as.
-    pub fn size(self) -> u8
+    /// How many nodes of arithmetic it counts as: `less N` is `len <= N`, of two.
+    pub fn arithmetic_nodes(self) -> u8
         ensures count { result ≡ node_size self }
         ensures upper_bound { result ≤ 2 }
     {
@@ -143,7 +143,7 @@ impl Node {
         }
     }
 
-    /// How many numbers wait after it, where `height` wait in front of it.
+    /// How many numbers wait to be operands after this node, where `height` wait in front of it.
     pub fn height_after(self, height: usize) -> usize
         requires { height < 2 ^ 63 }
         ensures { result ≡ height_after height self }
@@ -156,10 +156,10 @@ impl Node {
         }
     }
 
-    /// The most that wait at once.
-    pub fn peak(self, height: usize) -> usize
+    /// The most numbers that wait at once while it is worked on; `less N` has two of its own.
+    pub fn peak_height(self, height: usize) -> usize
         requires { height < 2 ^ 63 }
-        ensures { result ≡ peak height self }
+        ensures { result ≡ peak_height height self }
     {
         match self {
             Node::Sized(_, _) => height + 2,

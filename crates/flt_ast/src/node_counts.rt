@@ -1,4 +1,5 @@
-//! What a node adds to the counts of an expression.
+//! How many elementary tests a primitive counts as: those of the formula that it means. A number of
+//! tests fits a byte, since no primitive has more than 27.
 
 ghost use Rattle.std.specs.Prelude.{◌≡◌, ◌≤◌};
 ghost use Rattle.flt_ast.specs.Counts.{side_tests, proto_tests, check_tests, ether_tests};
@@ -10,6 +11,7 @@ use crate::qualifiers::{CompleteQualifiers, Direction};
 use crate::value::Value;
 use flt_words::{Cast, Protocol, Side, ValueType};
 
+/// `tests` for the source or the destination, and as many for the other one if both are meant.
 fn side_tests(direction: Direction, tests: u8) -> u8
     requires { tests ≤ 4 }
     ensures count { result ≡ side_tests direction tests }
@@ -21,6 +23,7 @@ fn side_tests(direction: Direction, tests: u8) -> u8
     }
 }
 
+/// An IP protocol number: the EtherType and the number, for IPv4 and for IPv6 if none is named.
 fn proto_tests(protocol: Option<Protocol>) -> u8
     ensures count { result ≡ proto_tests protocol }
     ensures upper_bound { result ≤ 4 }
@@ -31,6 +34,7 @@ fn proto_tests(protocol: Option<Protocol>) -> u8
     }
 }
 
+/// A protocol alone: one above IP is tested as its number is (`tcp` is `proto 6`).
 pub(crate) fn check_tests(protocol: Protocol) -> u8
     ensures count { result ≡ check_tests protocol }
     ensures upper_bound { result ≤ 4 }
@@ -43,6 +47,7 @@ pub(crate) fn check_tests(protocol: Protocol) -> u8
     }
 }
 
+/// A MAC address, each side of which is tested as four bytes and two.
 fn ether_tests(direction: Direction) -> u8
     ensures count { result ≡ ether_tests direction }
     ensures upper_bound { result ≤ 9 }
@@ -50,6 +55,7 @@ fn ether_tests(direction: Direction) -> u8
     1 + side_tests(direction, 2)
 }
 
+/// `broadcast` is a destination; of `multicast` one bit or byte is tested.
 pub(crate) fn cast_tests(cast: Cast) -> u8
     ensures count { result ≡ cast_tests cast }
     ensures upper_bound { result ≤ 9 }
@@ -60,6 +66,7 @@ pub(crate) fn cast_tests(cast: Cast) -> u8
     }
 }
 
+/// An IPv4 address, which without a protocol may be one of IPv4, ARP or RARP.
 fn ip4_tests(protocol: Option<Protocol>, direction: Direction) -> u8
     ensures count { result ≡ ip4_tests protocol direction }
     ensures upper_bound { result ≤ 27 }
@@ -71,6 +78,7 @@ fn ip4_tests(protocol: Option<Protocol>, direction: Direction) -> u8
     }
 }
 
+/// Whether a packet is TCP, UDP, or either if no protocol is named.
 fn transport_tests(protocol: Option<Protocol>) -> u8
     ensures count { result ≡ transport_tests protocol }
     ensures upper_bound { result ≤ 2 }
@@ -81,6 +89,7 @@ fn transport_tests(protocol: Option<Protocol>) -> u8
     }
 }
 
+/// Ports, `tests` a side: over IPv4, where a later fragment has none, or over IPv6.
 fn port_tests(protocol: Option<Protocol>, direction: Direction, tests: u8) -> u8
     requires { tests ≤ 2 }
     ensures count { result ≡ port_tests protocol direction tests }
@@ -91,6 +100,7 @@ fn port_tests(protocol: Option<Protocol>, direction: Direction, tests: u8) -> u8
     (1 + transport + 1 + sides) + (1 + transport + sides)
 }
 
+/// An address or a network, by its kind; an IPv6 address is tested as four words.
 fn address_tests(protocol: Option<Protocol>, direction: Direction, value: Value) -> u8
     ensures count { result ≡ address_tests protocol direction value }
     ensures upper_bound { result ≤ 27 }
@@ -102,6 +112,7 @@ fn address_tests(protocol: Option<Protocol>, direction: Direction, value: Value)
     }
 }
 
+/// A value with all its qualifiers.
 pub(crate) fn value_tests(qualifiers: CompleteQualifiers, value: Value) -> u8
     ensures count { result ≡ value_tests qualifiers value }
     ensures upper_bound { result ≤ 27 }
@@ -118,6 +129,8 @@ pub(crate) fn value_tests(qualifiers: CompleteQualifiers, value: Value) -> u8
     }
 }
 
+/// An accessor, as `tcp[13]`: its protocol, and above IPv4 its number and that there is no later
+/// fragment.
 pub(crate) fn accessor_tests(protocol: Protocol) -> u8
     ensures count { result ≡ accessor_test_count protocol }
     ensures upper_bound { result ≤ 3 }

@@ -1,4 +1,4 @@
-//! What stands before a value.
+//! What stands before a value: its qualifiers, as in `tcp dst port 80`.
 
 use flt_words::{Join, Protocol, Side, ValueType};
 
@@ -21,18 +21,18 @@ pub struct Qualifiers {
 
 impl Qualifiers {
     ghost use Rattle.std.specs.Prelude.{◌≡◌};
-    ghost use Rattle.flt_ast.specs.Filled.{full, type_or_host};
+    ghost use Rattle.flt_ast.specs.Filled.{completed_qualifiers, type_or_host};
 
-    /// The type `host` where none is written.
+    /// The type that is written, or `host` where none is.
     pub(crate) fn type_or_host(self) -> ValueType
         ensures { result ≡ type_or_host self }
     {
         self.value_type.unwrap_or(ValueType::Host)
     }
 
-    /// What is left out is filled in: the type `host`, the direction `src or dst`.
-    pub(crate) fn full(self) -> CompleteQualifiers
-        ensures { result ≡ full self }
+    /// The qualifiers with what is left out filled in: the type `host`, the direction `src or dst`.
+    pub(crate) fn completed(self) -> CompleteQualifiers
+        ensures { result ≡ completed_qualifiers self }
     {
         CompleteQualifiers {
             protocol: self.protocol,

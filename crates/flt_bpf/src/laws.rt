@@ -1,4 +1,5 @@
-//! Laws over the definitions of codes and of listings.
+//! Laws over the definitions of codes, listings and runs: each is a theorem, and its function does
+//! nothing.
 
 ghost use Rattle.std.specs.Prelude.{◌≡◌, ℕ, ◌≤◌, List, length, All, Some, None};
 ghost use Rattle.flt_bpf.specs.declared.insn.Insn.{Insn};
@@ -42,9 +43,9 @@ pub fn one_reading()
 {}
 
 /// What `run_any` returns, in terms of the machine's run. Where that meets no instruction that
-/// breaks a rule, as with every valid program, it is the machine's answer and count, or `None` where
-/// the run goes past the end. Where the run meets a broken rule it is `None`. An answer and count
-/// are always the machine's.
+/// breaks a rule, as with every valid program, it is the machine's answer and count, or `None`
+/// where the run goes past the end. Where the run meets a broken rule it is `None`. An answer and
+/// count are always the machine's.
 pub fn any_run()
     ensures unbroken { (insns : List Insn) (packet : List ℕ) (len : ℕ)
         → MeetsNoBrokenRule insns packet len

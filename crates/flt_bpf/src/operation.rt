@@ -1,4 +1,5 @@
-//! What the codes of instructions mean.
+//! What the codes of instructions mean. The codes are those of BPF: `BPF_LD | BPF_W | BPF_ABS` is
+//! 32. docs/inside/MACHINE.md has them in a table.
 
 ghost use Rattle.std.specs.Prelude.{◌≡◌, Some, true};
 ghost use Rattle.std.specs.Option.{is_some};
@@ -23,7 +24,7 @@ pub enum Width {
 }
 
 impl Width {
-    /// How many bytes a load takes.
+    /// How many bytes of the packet a load takes.
     #[inline(always)]
     pub(crate) fn size(self) -> usize
         ensures { result ≡ load_size self }

@@ -1,4 +1,5 @@
-//! Listings, read.
+//! Listings, read: the count of instructions on a line, and then an instruction a line, as four
+//! numbers (code, jt, jf, k), as `tcpdump -ddd` writes them.
 
 ghost use Rattle.std.specs.Prelude.{◌≡◌, ℕ, ◌+◌, ◌<◌, ◌≤◌, ◌==◌, List, ◌∷◌, length, Option, Some};
 ghost use Rattle.std.specs.Prelude.{Ok, IfOk, IfErr, IfSome, IfNone as OnNone, MatchResult};
@@ -12,7 +13,7 @@ ghost use Rattle.flt_bpf.specs.inside.Reading.{read, IsFaultOf};
 use crate::fault::ListingFault;
 use crate::insn::Insn;
 use crate::program::MOST_INSTRUCTIONS;
-use cap_octet::digits::number_of;
+use cap_octet::digits::decimal_value;
 use std::alloc::Allocator;
 
 /// How many bytes a listing may have.
@@ -31,7 +32,7 @@ struct Cut<'a> {
     rest: Option<&'a [u8]>,
 }
 
-/// A text, cut at the first such byte.
+/// A text, cut at the first byte that is `stop`.
 fn cut_at(text: &[u8], stop: u8) -> Cut<'_>
     ensures pieces { slice_split (λ b. b == stop) text.now
         ≡ result.piece.now ∷ pieces_after stop result.rest }
@@ -51,14 +52,14 @@ fn cut_at(text: &[u8], stop: u8) -> Cut<'_>
     }
 }
 
-/// The number that 1 to 10 digits write.
-fn number(digits: &[u8]) -> Option<u64>
+/// The number that 1 to 10 decimal digits write.
+fn parse_number(digits: &[u8]) -> Option<u64>
     ensures { result ≡ numeral digits.now }
 {
     if digits.len() > 10 {
         return None;
     }
-    number_of(digits)
+    decimal_value(digits)
 }
 
 /// A number, and what follows it and the blanks after it.
@@ -87,24 +88,24 @@ fn first_number(line: &[u8]) -> Option<Numbered<'_>>
     ensures last { OnNone result (HasAtMostOne (line_numbers line.now)) }
 {
     let cut = cut_at(line, BLANK);
-    let number = number(cut.piece)?;
+    let number = parse_number(cut.piece)?;
     let rest = after_blanks(cut.rest?);
     Some(Numbered { number, rest })
 }
 
-/// The number that a line is.
+/// The number of a line that has nothing but one.
 fn only_number(line: &[u8]) -> Option<u64>
     ensures { result ≡ only_of (line_numbers line.now) }
 {
     let cut = cut_at(line, BLANK);
     match cut.rest {
-        None => number(cut.piece),
+        None => parse_number(cut.piece),
         Some(_) => None,
     }
 }
 
-/// The instruction with these fields, where each is in its range.
-fn insn_with(code: u64, jt: u64, jf: u64, k: u64) -> Option<Insn>
+/// The instruction with these fields, where each is in the range of its type.
+fn insn_with_fields(code: u64, jt: u64, jf: u64, k: u64) -> Option<Insn>
     ensures { result ≡ insn_from code jt jf k }
 {
     if code < 1 << 16 && jt < 1 << 8 && jf < 1 << 8 && k < 1 << 32 {
@@ -119,15 +120,15 @@ fn insn_with(code: u64, jt: u64, jf: u64, k: u64) -> Option<Insn>
     }
 }
 
-/// The instruction on a line.
-fn insn_on(line: &[u8]) -> Option<Insn>
+/// The instruction on a line of four numbers.
+fn insn_on_line(line: &[u8]) -> Option<Insn>
     ensures { result ≡ insn_of (line_numbers line.now) }
 {
     let code = first_number(line)?;
     let jt = first_number(code.rest)?;
     let jf = first_number(jt.rest)?;
     match only_number(jf.rest) {
-        Some(k) => insn_with(code.number, jt.number, jf.number, k),
+        Some(k) => insn_with_fields(code.number, jt.number, jf.number, k),
         None => None,
     }
 }
@@ -157,8 +158,13 @@ fn first_line(text: &[u8]) -> FirstLine<'_>
     }
 }
 
-/// `count` instructions, one on each line of a text, after the first line of a listing.
-fn insns_on<A: Allocator>(alloc: A, count: usize, text: &[u8]) -> Result<Vec<Insn, A>, ListingFault>
+/// `count` instructions, one on each line of a text: what follows the first line of a listing. An
+/// error has the number of the first wrong line; the first of these is line 2.
+fn insns_on_lines<A: Allocator>(
+    alloc: A,
+    count: usize,
+    text: &[u8],
+) -> Result<Vec<Insn, A>, ListingFault>
     requires { count ≤ 32768 }
     ensures { MatchResult result
         (λ insns. read_insns count (lines_of text.now) 2 ≡ Ok insns.items)
@@ -171,7 +177,7 @@ fn insns_on<A: Allocator>(alloc: A, count: usize, text: &[u8]) -> Result<Vec<Ins
             return Err(ListingFault::NotListing(at + 2));
         }
         let first = first_line(rest);
-        match insn_on(first.line) {
+        match insn_on_line(first.line) {
             None => return Err(ListingFault::NotListing(at + 2)),
             Some(insn) => match insns.push(insn) {
                 Ok(()) => rest = first.rest,
@@ -186,8 +192,8 @@ fn insns_on<A: Allocator>(alloc: A, count: usize, text: &[u8]) -> Result<Vec<Ins
     }
 }
 
-/// The instructions of a listing, or the number of the line at which a text is refused.
-fn insns_of<A: Allocator>(alloc: A, text: &[u8]) -> Result<Vec<Insn, A>, ListingFault>
+/// The instructions of a listing, or the number of the first wrong line, from 1.
+fn insns_of_listing<A: Allocator>(alloc: A, text: &[u8]) -> Result<Vec<Insn, A>, ListingFault>
     ensures { MatchResult result (λ insns. read text.now ≡ Ok insns.items)
         (λ fault. IsFaultOf fault (read text.now)) }
 {
@@ -197,7 +203,7 @@ fn insns_of<A: Allocator>(alloc: A, text: &[u8]) -> Result<Vec<Insn, A>, Listing
     let first = first_line(text);
     match only_number(first.line) {
         Some(count) if count <= MOST_INSTRUCTIONS as u64 => {
-            insns_on(alloc, count as usize, first.rest)
+            insns_on_lines(alloc, count as usize, first.rest)
         }
         _ => Err(ListingFault::NotListing(1)),
     }
@@ -211,5 +217,5 @@ pub fn read_listing<A: Allocator>(alloc: A, text: &[u8]) -> Result<Vec<Insn, A>,
     ensures listing { IfOk result (λ insns. IsListing text.now insns.items) }
     ensures refused { IfErr result (IsReasonFor text.now) }
 {
-    insns_of(alloc, text)
+    insns_of_listing(alloc, text)
 }

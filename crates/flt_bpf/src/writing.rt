@@ -1,4 +1,4 @@
-//! Listings, written.
+//! Listings, written, in the form that `reading` reads. Each line is put together from its end.
 
 ghost use Rattle.std.specs.Prelude.{◌≡◌, ℕ, ◌+◌, ◌<◌, ◌≤◌, List, [], ◌∷◌, ◌++◌};
 ghost use Rattle.std.specs.Prelude.{length, drop, decimal, IsTrue, IfErr};
@@ -12,7 +12,7 @@ use cap_octet::{Output, Stopped, write_all};
 use std::alloc::Allocator;
 
 /// How many bytes a line has at most: numbers of 5, 3, 3 and 10 digits, and a byte after each.
-const MOST_LINE: usize = 25;
+const MOST_LINE_BYTES: usize = 25;
 
 /// Writes the listing of a program, and takes no memory. An error is a failure of the output in
 /// this call, and reports how many bytes, fewer than all, were written before it.
@@ -29,7 +29,7 @@ pub fn write_listing<A: Allocator, O: Output>(
     write_insns(program.insns(), output)
 }
 
-/// The same of instructions that are few enough.
+/// Writes the listing of instructions that are few enough for a program.
 fn write_insns<O: Output>(insns: &[Insn], output: &mut O) -> Result<(), Stopped>
     requires { length insns.now ≤ 32768 }
     ensures front { IfErr result (λ stopped. stopped.written < length (listing insns.now)) }
@@ -38,35 +38,37 @@ fn write_insns<O: Output>(insns: &[Insn], output: &mut O) -> Result<(), Stopped>
     ensures exact { IsTrue O.tells → WritesAll (O.written output.old)
         (listing insns.now) result (O.written output.new) }
 {
-    let mut line = [0; MOST_LINE];
-    let start = put_number(&mut line, MOST_LINE, insns.len() as u64, LINE_FEED);
+    let mut line = [0; MOST_LINE_BYTES];
+    let start = put_number(&mut line, MOST_LINE_BYTES, insns.len() as u64, LINE_FEED);
     write_all(output, &line[start..])?;
-    let mut written = MOST_LINE - start;
+    let mut written = MOST_LINE_BYTES - start;
     for insn in insns {
-        let start = put_insn(&mut line, insn);
+        let start = put_insn_line(&mut line, insn);
         if let Err(stopped) = write_all(output, &line[start..]) {
             return Err(Stopped {
                 written: written + stopped.written,
             });
         }
-        written += MOST_LINE - start;
+        written += MOST_LINE_BYTES - start;
     }
     Ok(())
 }
 
-/// Puts the line of an instruction at the end of the bytes, and returns where it starts.
-fn put_insn(line: &mut [u8; MOST_LINE], insn: &Insn) -> usize
+/// Puts the line of an instruction, with its line feed, at the end of the bytes, and returns where
+/// it starts.
+fn put_insn_line(line: &mut [u8; MOST_LINE_BYTES], insn: &Insn) -> usize
     ensures inside { result ≤ 25 }
     ensures written { drop result line.new ≡ insn_line insn.now ++ LINE_FEED ∷ [] }
 {
-    let k = put_number(line, MOST_LINE, u64::from(insn.k), LINE_FEED);
+    let k = put_number(line, MOST_LINE_BYTES, u64::from(insn.k), LINE_FEED);
     let jf = put_number(line, k, u64::from(insn.jf), BLANK);
     let jt = put_number(line, jf, u64::from(insn.jt), BLANK);
     put_number(line, jt, u64::from(insn.code), BLANK)
 }
 
-/// Puts a number and a byte in front of what is at `end`, and returns where the number starts.
-fn put_number(line: &mut [u8; MOST_LINE], end: usize, number: u64, following: u8) -> usize
+/// Puts a number and the byte `following` in front of what is at `end`, and returns where the
+/// number starts.
+fn put_number(line: &mut [u8; MOST_LINE_BYTES], end: usize, number: u64, following: u8) -> usize
     requires room { length (decimal number) + 1 ≤ end }
     requires inside { end ≤ 25 }
     ensures start { result + length (decimal number) + 1 ≡ end }

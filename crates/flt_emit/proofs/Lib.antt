@@ -1,4 +1,2 @@
 pub mod Backwards
-pub mod Following
-pub mod Joined
 pub mod Search

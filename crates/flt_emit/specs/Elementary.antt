@@ -17,14 +17,14 @@ use Rattle.flt_emit.specs.declared.elementary.FieldTest.{FieldTest}
 use Rattle.flt_emit.specs.declared.elementary.Elementary.{Elementary}
 use Rattle.flt_emit.specs.declared.elementary.Elementary.TheVariants.{Outcome, Field}
 
--- what is read of a packet: a rejection is neither yes nor no
-pub data Reading : Type 0 where
-  Yes : Reading
-  No : Reading
-  Rejected : Reading
+-- the result of a match on a packet: a rejection is neither yes nor no
+pub data MatchResult : Type 0 where
+  Yes : MatchResult
+  No : MatchResult
+  Rejected : MatchResult
 
 -- a truth, or where there is none, a rejection
-abbrev pub reading_of : Option Bool → Reading
+abbrev pub reading_of : Option Bool → MatchResult
 reading_of None = Rejected
 reading_of (Some true) = Yes
 reading_of (Some false) = No
@@ -58,13 +58,13 @@ abbrev pub under_mask : Option ℕ → ℕ → ℕ
 under_mask None v = v
 under_mask (Some mask) v = bit_and v mask
 
-abbrev pub field_reads : FieldTest → List ℕ → Reading
+abbrev pub field_reads : FieldTest → List ℕ → MatchResult
 field_reads t p =
     reading_of
     (with (field_at t.offset t.width p)
     (λ v. Some (compares t.comparison (under_mask t.mask v) t.value)))
 
-abbrev pub elementary_reads : Elementary → List ℕ → Reading
+abbrev pub elementary_reads : Elementary → List ℕ → MatchResult
 elementary_reads (Outcome b) p = reading_of (Some b)
 elementary_reads (Field t) p = field_reads t p
 

@@ -15,7 +15,7 @@ use Rattle.flt_emit.specs.declared.elementary.MaskedField.{MaskedField}
 use Rattle.flt_emit.specs.declared.elementary.Offset.{Offset}
 use Rattle.flt_emit.specs.declared.elementary.Sides.{Sides}
 use Rattle.flt_emit.specs.declared.elementary.Elementary.TheVariants.{Outcome}
-use Rattle.flt_emit.specs.Elementary.{Reading, Yes, No, Rejected, reading_of, with, compares, field_at, under_mask, elementary_reads, compares_at}
+use Rattle.flt_emit.specs.Elementary.{MatchResult, Yes, No, Rejected, reading_of, with, compares, field_at, under_mask, elementary_reads, compares_at}
 use Rattle.flt_emit.specs.Numbers.{number, accessor_tests}
 
 pub data Formula : Type 0 where
@@ -24,34 +24,27 @@ pub data Formula : Type 0 where
   Both : Formula → Formula → Formula
   Either : Formula → Formula → Formula
   Except : Formula → Formula
-  -- a test and then a formula: where the test was yes is known to the formula's code
-  Guard : Elementary → Formula → Formula
-  -- one of two tests and then a formula
-  Fork : Elementary → Elementary → Formula → Formula
-  -- (test and formula) or another formula, which the test excludes: so where the test was yes its
-  -- code skips the other formula
-  Choose : Elementary → Formula → Formula → Formula
   -- a field is one of some numbers
   Among : MaskedField → List ℕ → Formula
 
 -- the second is read only where the first is yes; only where it is no
-abbrev pub both : Reading → Reading → Reading
+abbrev pub both : MatchResult → MatchResult → MatchResult
 both Yes b = b
 both No b = No
 both Rejected b = Rejected
 
-abbrev pub either : Reading → Reading → Reading
+abbrev pub either : MatchResult → MatchResult → MatchResult
 either Yes b = Yes
 either No b = b
 either Rejected b = Rejected
 
 -- yes and no are exchanged
-abbrev pub negation : Reading → Reading
+abbrev pub negation : MatchResult → MatchResult
 negation Yes = No
 negation No = Yes
 negation Rejected = Rejected
 
-abbrev pub relation_reads : Link → Comparison → NumberTree → NumberTree → List ℕ → ℕ → Reading
+abbrev pub relation_reads : Link → Comparison → NumberTree → NumberTree → List ℕ → ℕ → MatchResult
 relation_reads link c l r p n =
     reading_of (with (number link l p n)
     (λ x. with (number link r p n) (λ y. Some (compares c x y))))
@@ -62,22 +55,17 @@ is_one_of x (v ∷ vs) = x == v || is_one_of x vs
 
 -- a field that is one of some numbers is a yes, another one a no, and one that isn't all captured
 -- is rejected
-abbrev pub among_reads : MaskedField → List ℕ → List ℕ → Reading
+abbrev pub among_reads : MaskedField → List ℕ → List ℕ → MatchResult
 among_reads f vs p =
     reading_of (with (field_at f.offset f.width p) (λ x. Some (is_one_of (under_mask f.mask x) vs)))
 
 -- the reading of a formula on a packet of original length n
-abbrev pub reads : Link → Formula → List ℕ → ℕ → Reading
+abbrev pub reads : Link → Formula → List ℕ → ℕ → MatchResult
 reads link (Single t) p n = elementary_reads t p
 reads link (Compare c l r) p n = relation_reads link c l r p n
 reads link (Both a b) p n = both (reads link a p n) (reads link b p n)
 reads link (Either a b) p n = either (reads link a p n) (reads link b p n)
 reads link (Except a) p n = negation (reads link a p n)
-reads link (Guard t a) p n = both (elementary_reads t p) (reads link a p n)
-reads link (Fork t u a) p n =
-    both (either (elementary_reads t p) (elementary_reads u p)) (reads link a p n)
-reads link (Choose t a b) p n =
-    either (both (elementary_reads t p) (reads link a p n)) (reads link b p n)
 reads link (Among f vs) p n = among_reads f vs p
 
 -- all of some tests

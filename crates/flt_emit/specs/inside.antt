@@ -1,4 +1,3 @@
 -- What no promise rests on: it helps the crate's own functions and proofs, and those of crates beside it.
 pub mod Code
 pub mod Emits
-pub mod Follow

@@ -56,17 +56,3 @@ pub struct Sides {
     pub source: Offset,
     pub destination: Offset,
 }
-
-/// A test with its outcome, where that is known of a packet.
-#[derive(Clone, Copy)]
-pub struct Fact {
-    pub test: Elementary,
-    pub truth: bool,
-}
-
-/// Two tests of which one is yes.
-#[derive(Clone, Copy)]
-pub struct Alternatives {
-    pub first: Elementary,
-    pub second: Elementary,
-}

@@ -1,15 +1,19 @@
 -- Numbers that ascend.
 use Rattle.std.proofs.Common.{◌≡◌, ℕ, zero, suc, ◌+◌, ◌<◌, ◌≤◌, List, [], ◌∷◌, length, take, drop, get_or, Bool, true, false, refl, ap, ◌∙◌, sym, arith}
-use Rattle.std.specs.Prelude.{nat_lt, ◌==◌, ◌||◌, if◌then◌else◌}
+use Rattle.std.specs.Prelude.{nat_lt, ◌==◌, ◌&&◌, ◌||◌, if◌then◌else◌}
 use Rattle.std.specs.List.{insert}
 use Rattle.std.proofs.lemmas.Bool.Decides.{nat_tests}
-use Rattle.flt_emit.specs.Formula.{is_one_of, without, remaining}
+use Rattle.flt_emit.specs.Formula.{Formula, Single, Compare, Both, Either, Except, Among, is_one_of, without, remaining}
 use Rattle.flt_gen.specs.inside.Group.{insert_ascending}
 
 -- by a test
 pub if_case : {A : Type 0} (P : A → Type 0) (b : Bool) (x y : A) → (b ≡ true → P x) → (b ≡ false → P y) → P (if b then x else y)
 if_case P true x y t f = t refl
 if_case P false x y t f = f refl
+
+pub both_true : (a b : Bool) → (a && b) ≡ true → (a ≡ true) × (b ≡ true)
+both_true true b e = (refl, e)
+both_true false b e = cc
 
 -- after smaller numbers a number is put before the first that isn't smaller
 pub inserted_at : (a : ℕ) (vs : List ℕ) (at : ℕ) → at ≤ length vs → ((i : ℕ) → i < at → get_or vs i 0 < a) → (at < length vs → a ≤ get_or vs at 0) → insert vs at a ≡ insert_ascending a vs
@@ -24,7 +28,7 @@ inserted_at a (v ∷ vs) (suc at) l low high =
     if_case (λ r. v ∷ insert vs at a ≡ r) (nat_lt v a) (v ∷ insert_ascending a vs) (a ∷ v ∷ vs) (λ e. ap (λ r. v ∷ r) h) (λ e. absurd (let no : (v < a) → ⊥ = grind (arith, nat_tests) in no k))
 
 -- none of the numbers is smaller
-abbrev pub AllFrom : ℕ → List ℕ → Type 0
+abbrev AllFrom : ℕ → List ℕ → Type 0
 AllFrom a [] = Unit {0}
 AllFrom a (v ∷ vs) = (a ≤ v) × AllFrom a vs
 
@@ -36,6 +40,15 @@ Ascending (v ∷ vs) = AllFrom v vs × Ascending vs
 abbrev pub Searchable : List ℕ → Type 0
 Searchable [] = ⊥
 Searchable (v ∷ vs) = Ascending (v ∷ vs)
+
+-- all numbers that a formula searches
+abbrev pub Searches : Formula → Type 0
+Searches (Single t) = Unit {0}
+Searches (Compare c l r) = Unit {0}
+Searches (Both a b) = Searches a × Searches b
+Searches (Either a b) = Searches a × Searches b
+Searches (Except a) = Searches a
+Searches (Among f vs) = Searchable vs
 
 pub searchable_ascends : (vs : List ℕ) → Searchable vs → Ascending vs
 searchable_ascends [] h = absurd h

@@ -1,49 +1,129 @@
--- The code of a formula has no fault, and no more instructions than its bound.
-use Rattle.std.proofs.Common.{◌≡◌, ℕ, zero, suc, ◌+◌, ◌-◌, ◌*◌, ◌/◌, ◌<◌, ◌≤◌, List, [], ◌∷◌, length, take, drop, get_or, Bool, true, false, Option, Some, None, refl, ap, ◌∙◌, arith, length-drop, length-take}
-use Rattle.std.specs.Prelude.{nat_lt, ◌==◌, not, ◌&&◌, if◌then◌else◌}
+-- The code of a formula has no fault and no jump, and no more instructions and branches than are counted.
+use Rattle.std.proofs.Common.{◌≡◌, ℕ, zero, suc, ◌+◌, ◌-◌, ◌*◌, ◌/◌, ◌<◌, ◌≤◌, List, [], ◌∷◌, length, take, drop, get_or, Bool, true, false, cond, Option, Some, None, refl, sym, ap, ◌∙◌, arith, length-drop, length-take}
+use Rattle.std.specs.Prelude.{◌≢◌, nat_lt, ◌==◌, not, ◌&&◌, if◌then◌else◌, count_by}
 use Rattle.std.proofs.lemmas.Bool.Decides.{nat_tests}
+use Rattle.std.proofs.lemmas.List.Sums.{sum_by-cons}
+use Rattle.std.proofs.lemmas.List.Elements.{All-cons}
+use Rattle.flt_bpf.specs.declared.fault.CheckFault.{CheckFault}
+use Rattle.flt_bpf.specs.declared.fault.CheckFault.TheVariants.{JumpOut, NoSuchWord, DivisionByZero, ShiftTooFar}
 use Rattle.flt_bpf.specs.declared.insn.Insn.{Insn}
-use Rattle.flt_bpf.specs.declared.operation.Width.{Width}
-use Rattle.flt_bpf.specs.declared.operation.Width.TheVariants.{Word, HalfWord, Byte}
-use Rattle.flt_bpf.specs.declared.operation.Test.{Test}
-use Rattle.flt_bpf.specs.declared.operation.Test.TheVariants as test
 use Rattle.flt_bpf.specs.declared.operation.Operand.{Operand}
 use Rattle.flt_bpf.specs.declared.operation.Operand.TheVariants.{Constant, IndexRegister}
+use Rattle.flt_bpf.specs.declared.operation.Operation.{Operation}
+use Rattle.flt_bpf.specs.declared.operation.Operation.TheVariants.{LoadAbsolute, LoadIndirect, Load, LoadHeaderLength, Store, Compute, Negate, Jump, JumpIf, CopyToIndex}
+use Rattle.flt_bpf.specs.declared.operation.AluOperation.TheVariants as arithmetic
+use Rattle.flt_bpf.specs.declared.operation.Register.TheVariants.{Accumulator}
+use Rattle.flt_bpf.specs.declared.operation.Source.TheVariants.{Immediate, Memory, Length}
+use Rattle.flt_bpf.specs.declared.operation.Test.{Test}
+use Rattle.flt_bpf.specs.declared.operation.Test.TheVariants as test
+use Rattle.flt_bpf.specs.declared.operation.Width.{Width}
+use Rattle.flt_bpf.specs.Check.{fault_of, fault_if_known, operation_fault, unless, ends_in_return, IsValidUnlessLong}
+use Rattle.flt_bpf.specs.Instructions.{code_of, operation_of}
+use Rattle.flt_bpf.specs.Layout.{is_branch, JUMP, HasNoJump}
 use Rattle.flt_words.specs.declared.token.Comparison.{Comparison}
 use Rattle.flt_words.specs.declared.token.Comparison.TheVariants.{Equal, NotEqual, Less, AtMost, Greater, AtLeast}
 use Rattle.flt_words.specs.declared.token.Operator.{Operator}
-use Rattle.flt_words.specs.declared.token.Operator.TheVariants.{Or, And, ShiftLeft, ShiftRight, Add, Subtract, Multiply, Divide, Remainder, ExclusiveOr}
+use Rattle.flt_words.specs.declared.token.Operator.TheVariants.{ShiftLeft, ShiftRight, Divide, Remainder}
 use Rattle.flt_words.specs.declared.token.Protocol.{Protocol}
-use Rattle.flt_words.specs.declared.token.Protocol.TheVariants.{Ether, Tcp, Udp, Icmp}
+use Rattle.flt_words.specs.declared.token.Protocol.TheVariants.{Tcp, Udp, Icmp}
+use Rattle.flt_ast.specs.Counts.{number_words, number_size}
 use Rattle.flt_ast.specs.Tree.{NumberTree, literal, len, named, load, negated, applied}
 use Rattle.cap_octet.specs.declared.link.Link.{Link}
+use Rattle.cap_octet.specs.Link.{network_offset}
+use Rattle.flt_emit.specs.declared.elementary.Elementary.{Elementary}
+use Rattle.flt_emit.specs.declared.elementary.Elementary.TheVariants.{Outcome, Field}
 use Rattle.flt_emit.specs.declared.elementary.Offset.{Offset}
 use Rattle.flt_emit.specs.declared.elementary.Offset.TheVariants.{Fixed, AfterHeader}
-use Rattle.flt_emit.specs.declared.elementary.Elementary.TheVariants.{Outcome, Field}
-use Rattle.flt_bpf.specs.declared.fault.CheckFault.{CheckFault}
-use Rattle.flt_bpf.specs.declared.fault.CheckFault.TheVariants.{JumpOut, NoSuchWord, DivisionByZero, ShiftTooFar}
-use Rattle.flt_bpf.specs.Instructions.{operation_of}
-use Rattle.flt_bpf.specs.Check.{fault_of, unless, ends_in_return, IsFaultless}
-use Rattle.cap_octet.specs.Link.{network_offset}
 use Rattle.flt_emit.specs.Numbers.{width_of}
-use Rattle.flt_emit.specs.Formula.{Formula, Single, Compare, Both, Either, Except, Guard, Fork, Choose, Among}
-use Rattle.flt_ast.specs.Counts.{number_words, number_size}
+use Rattle.flt_emit.specs.Formula.{Formula, Single, Compare, Both, Either, Except, Among}
+use Rattle.flt_emit.specs.inside.Code.{plain, computation, takes, constant, constant_operand, branch_insn, emit_branch, emit_comparison, emit_field, emit_mask, emit_accessor, emit_number, Block, at_top, emit_chain, emit_search, LEVELS, emit_elementary, emit_formula}
 use Rattle.flt_gen.specs.inside.Counts.{words, nodes, tests}
-use Rattle.flt_emit.specs.inside.Code.{plain, computation, takes, constant, constant_operand, branch_insn, emit_jump, emit_branch, reach, emit_comparison, emit_field, emit_mask, emit_base, emit_transport, emit_accessor, emit_number, Block, at_top, emit_chain, emit_search, LEVELS, emit_elementary, emit_fork, emit_formula}
-use Rattle.flt_emit.specs.declared.follow.Knowledge.{Knowledge}
-use Rattle.flt_emit.specs.inside.Follow.{and_fork, fact, always, and_fact, target}
-use Rattle.flt_emit.specs.declared.elementary.Elementary.{Elementary}
-use Rattle.flt_gen.proofs.Onward.{target_inside}
-use Rattle.flt_gen.proofs.Tails.{by_reach, by_right}
-use Rattle.flt_short.proofs.Basics.{by_test}
+use Rattle.flt_gen.proofs.Ascending.{if_case}
+use Rattle.flt_gen.proofs.Codes.{code_is}
 use Rattle.flt_gen.proofs.Numbers.{operand_is}
-use Rattle.flt_bpf.specs.declared.operation.Operation.TheVariants.{LoadAbsolute, LoadIndirect, Load, LoadHeaderLength, Store, Compute, Negate, Jump, CopyToIndex}
-use Rattle.flt_bpf.specs.declared.operation.Register.TheVariants.{Accumulator}
-use Rattle.flt_bpf.specs.declared.operation.Source.TheVariants.{Immediate, Memory, Length}
-use Rattle.flt_bpf.specs.declared.operation.AluOperation.TheVariants as arithmetic
+use Rattle.flt_gen.proofs.Tails.{by_right}
 
-passes : (k m : ℕ) (f : CheckFault) → k < m → unless (nat_lt k m) f ≡ None
-passes k m f l = let t : nat_lt k m ≡ true = grind (arith, nat_tests) in ap (λ b. unless b f) t
+abbrev pub branches : List Insn → ℕ
+branches c = count_by (λ i. is_branch (operation_of i.code)) c
+
+-- code without a fault or a jump
+pub record Sound (c : List Insn) : Type 0 where
+  pub valid : IsValidUnlessLong c
+  pub no_jump : HasNoJump c
+
+-- such code that was put in front of code c: at most m instructions, which are w with each branch counted three times
+pub record Grows (c d : List Insn) (m w : ℕ) : Type 0 where
+  pub sound : Sound d
+  pub longer : length c ≤ length d
+  pub shorter : length d ≤ length c + m
+  pub lighter : length d + 2 * branches d ≤ length c + 2 * branches c + w
+
+pub grows_none : {c : List Insn} → Sound c → Grows c c 0 0
+grows_none s = record { sound = s; longer = omega arith; shorter = omega arith; lighter = omega arith }
+
+grows_more : {c d : List Insn} {m w : ℕ} (m' w' : ℕ) → m ≤ m' → w ≤ w' → Grows c d m w → Grows c d m' w'
+grows_more m' w' lm lw g = record { sound = g.sound; longer = g.longer; shorter = omega (arith, g.shorter); lighter = omega (arith, g.lighter) }
+
+-- an operation that goes on with the next instruction
+abbrev is_plain : Operation → Bool
+is_plain Jump = false
+is_plain (JumpIf t o) = false
+is_plain _ = true
+
+abbrev jumps : Option Operation → Bool
+jumps (Some Jump) = true
+jumps _ = false
+
+ends_put : (i : Insn) (c : List Insn) → ends_in_return c ≡ true → ends_in_return (i ∷ c) ≡ true
+ends_put i [] e = cc
+ends_put i (j ∷ c) e = e
+
+no_jump : (o : Operation) (i : Insn) → i.code ≡ code_of o → jumps (Some o) ≡ false → i.code ≢ JUMP
+unfolding operation_of
+no_jump o i e other j =
+    let same : Some o ≡ Some Jump = sym (code_is o) ∙ ap operation_of (sym e ∙ j) in
+    let yes : jumps (Some o) ≡ true = ap jumps same in
+    absurd (let no : true ≡ false = sym yes ∙ other in cc)
+
+branch_count : (o : Operation) (i : Insn) (c : List Insn) → i.code ≡ code_of o → branches (i ∷ c) ≡ cond (is_branch (Some o)) 1 0 + branches c
+branch_count o i c e =
+    sum_by-cons (λ j. cond (is_branch (operation_of j.code)) 1 0) i c ∙ ap (λ x. cond (is_branch x) 1 0 + branches c) (ap operation_of e ∙ code_is o)
+
+sound_put : (o : Operation) (i : Insn) (c : List Insn) → i.code ≡ code_of o → jumps (Some o) ≡ false → operation_fault o i (length c) ≡ None → Sound c → Sound (i ∷ c)
+unfolding fault_of
+sound_put o i c e other f s = record {
+  valid = record {
+    faultless = (ap (λ x. fault_if_known x i (length c)) (ap operation_of e ∙ code_is o) ∙ f, s.valid.faultless);
+    ends = ends_put i c s.valid.ends;
+  };
+  no_jump = All-cons (λ j. j.code ≢ JUMP) i c (no_jump o i e other) s.no_jump;
+}
+
+plain_no_jump : (o : Operation) → is_plain o ≡ true → jumps (Some o) ≡ false
+plain_no_jump Jump e = cc
+plain_no_jump _ e = refl
+
+plain_no_branch : (o : Operation) → is_plain o ≡ true → is_branch (Some o) ≡ false
+plain_no_branch (JumpIf t p) e = cc
+plain_no_branch _ e = refl
+
+grows_put : {c d : List Insn} {m w : ℕ} (o : Operation) (k : ℕ) → is_plain o ≡ true → operation_fault o (plain o k) (length d) ≡ None → Grows c d m w → Grows c (plain o k ∷ d) (m + 1) (w + 1)
+grows_put {d = d} o k p f g =
+    let b : branches (plain o k ∷ d) ≡ 0 + branches d = branch_count o (plain o k) d refl ∙ ap (λ x. cond x 1 0 + branches d) (plain_no_branch o p) in
+    record {
+      sound = sound_put o (plain o k) d refl (plain_no_jump o p) f g.sound;
+      longer = omega (arith, g.longer);
+      shorter = omega (arith, g.shorter);
+      lighter = omega (arith, g.lighter);
+    }
+
+-- a place that a test may go on at
+pub record Inside (c : List Insn) (place : ℕ) : Type 0 where
+  pub low : 0 < place
+  pub upper_bound : place ≤ length c
+
+inside_on : {c d : List Insn} {m w place : ℕ} → Grows c d m w → Inside c place → Inside d place
+inside_on g h = record { low = h.low; upper_bound = omega (arith, g.longer, h.upper_bound) }
 
 passes_both : (j k m : ℕ) (f : CheckFault) → j < m → k < m → unless (nat_lt j m && nat_lt k m) f ≡ None
 passes_both j k m f a b =
@@ -51,300 +131,174 @@ passes_both j k m f a b =
     let t : nat_lt k m ≡ true = grind (arith, nat_tests) in
     ap (λ x. unless (x && nat_lt k m) f) s ∙ ap (λ x. unless (true && x) f) t
 
--- instructions without a fault
-store_fine : (k m : ℕ) → k < 16 → fault_of (plain (Store Accumulator) k) m ≡ None
-unfolding fault_of operation_of
-store_fine k m l = passes k 16 NoSuchWord l
+branch_grows : (t : Test) (operand : Operand) (k hit miss : ℕ) (c : List Insn) → Sound c → Inside c hit → Inside c miss → Grows c (emit_branch t operand k hit miss c) 1 3
+branch_grows t operand k hit miss c s h m =
+    let i = branch_insn t operand k (length c - hit) (length c - miss) in
+    let b : branches (i ∷ c) ≡ 1 + branches c = branch_count (JumpIf t operand) i c refl in
+    let f = passes_both (length c - hit) (length c - miss) (length c) JumpOut (omega (arith, h.low, h.upper_bound)) (omega (arith, m.low, m.upper_bound)) in
+    record {
+      sound = sound_put (JumpIf t operand) i c refl refl f s;
+      longer = omega arith;
+      shorter = omega arith;
+      lighter = omega arith;
+    }
 
-word_fine : (k m : ℕ) → k < 16 → fault_of (plain (Load Accumulator Memory) k) m ≡ None
-unfolding fault_of operation_of
-word_fine k m l = passes k 16 NoSuchWord l
+comparison_grows : (comparison : Comparison) (operand : Operand) (k hit miss : ℕ) (c : List Insn) → Sound c → Inside c hit → Inside c miss → Grows c (emit_comparison comparison operand k hit miss c) 1 3
+comparison_grows Equal operand k hit miss c s h m = branch_grows test.Equal operand k hit miss c s h m
+comparison_grows NotEqual operand k hit miss c s h m = branch_grows test.Equal operand k miss hit c s m h
+comparison_grows Less operand k hit miss c s h m = branch_grows test.AtLeast operand k miss hit c s m h
+comparison_grows AtMost operand k hit miss c s h m = branch_grows test.Greater operand k miss hit c s m h
+comparison_grows Greater operand k hit miss c s h m = branch_grows test.Greater operand k hit miss c s h m
+comparison_grows AtLeast operand k hit miss c s h m = branch_grows test.AtLeast operand k hit miss c s h m
 
-jump_fine : (k m : ℕ) → k < m → fault_of (plain Jump k) m ≡ None
-unfolding fault_of operation_of
-jump_fine k m l = passes k m JumpOut l
+field_grows : (place : Offset) (width : Width) {c d : List Insn} {m w : ℕ} → Grows c d m w → Grows c (emit_field place width d) (m + 2) (w + 2)
+field_grows (Fixed k) width g = grows_more _ _ (omega arith) (omega arith) (grows_put (LoadAbsolute width) k refl refl g)
+field_grows (AfterHeader header k) width g =
+    grows_more _ _ (omega arith) (omega arith) (grows_put LoadHeaderLength header refl refl (grows_put (LoadIndirect width) k refl refl g))
 
-branch_fine : (t : Test) (operand : Operand) (k jt jf m : ℕ) → jt < m → jf < m → fault_of (branch_insn t operand k jt jf) m ≡ None
-unfolding fault_of operation_of
-branch_fine test.Equal Constant k jt jf m a b = passes_both jt jf m JumpOut a b
-branch_fine test.Greater Constant k jt jf m a b = passes_both jt jf m JumpOut a b
-branch_fine test.AtLeast Constant k jt jf m a b = passes_both jt jf m JumpOut a b
-branch_fine test.AnyBit Constant k jt jf m a b = passes_both jt jf m JumpOut a b
-branch_fine test.Equal IndexRegister k jt jf m a b = passes_both jt jf m JumpOut a b
-branch_fine test.Greater IndexRegister k jt jf m a b = passes_both jt jf m JumpOut a b
-branch_fine test.AtLeast IndexRegister k jt jf m a b = passes_both jt jf m JumpOut a b
-branch_fine test.AnyBit IndexRegister k jt jf m a b = passes_both jt jf m JumpOut a b
+mask_grows : (mask : Option ℕ) {c d : List Insn} {m w : ℕ} → Grows c d m w → Grows c (emit_mask mask d) (m + 1) (w + 1)
+mask_grows None g = grows_more _ _ (omega arith) (omega arith) g
+mask_grows (Some mask) g = grows_put (Compute arithmetic.And Constant) mask refl refl g
 
-literal_fine : (k m : ℕ) → fault_of (plain (Load Accumulator Immediate) k) m ≡ None
-unfolding fault_of operation_of
-literal_fine k m = refl
+transport_grows : (at : ℕ) (width : Width) {c d : List Insn} {m w : ℕ} → Grows c d m w → Grows c (plain LoadHeaderLength at ∷ plain (Compute arithmetic.Add IndexRegister) 0 ∷ plain CopyToIndex 0 ∷ plain (LoadIndirect width) at ∷ d) (m + 4) (w + 4)
+transport_grows at width g =
+    grows_more _ _ (omega arith) (omega arith)
+    (grows_put LoadHeaderLength at refl refl (grows_put (Compute arithmetic.Add IndexRegister) 0 refl refl (grows_put CopyToIndex 0 refl refl (grows_put (LoadIndirect width) at refl refl g))))
 
-length_fine : (k m : ℕ) → fault_of (plain (Load Accumulator Length) k) m ≡ None
-unfolding fault_of operation_of
-length_fine k m = refl
+base_grows : (at : ℕ) (width : Width) {c d : List Insn} {m w : ℕ} → Grows c d m w → Grows c (plain CopyToIndex 0 ∷ plain (LoadIndirect width) at ∷ d) (m + 4) (w + 4)
+base_grows at width g =
+    grows_more _ _ (omega arith) (omega arith) (grows_put CopyToIndex 0 refl refl (grows_put (LoadIndirect width) at refl refl g))
 
-minus_fine : (k m : ℕ) → fault_of (plain Negate k) m ≡ None
-unfolding fault_of operation_of
-minus_fine k m = refl
+accessor_grows : (link : Link) (protocol : Protocol) (width : Width) {c d : List Insn} {m w : ℕ} → Grows c d m w → Grows c (emit_accessor link protocol width d) (m + 4) (w + 4)
+accessor_grows link Tcp width g = transport_grows (network_offset link) width g
+accessor_grows link Udp width g = transport_grows (network_offset link) width g
+accessor_grows link Icmp width g = transport_grows (network_offset link) width g
+accessor_grows link _ width g = base_grows _ width g
 
-to_x_fine : (k m : ℕ) → fault_of (plain CopyToIndex k) m ≡ None
-unfolding fault_of operation_of
-to_x_fine k m = refl
-
-header_fine : (k m : ℕ) → fault_of (plain LoadHeaderLength k) m ≡ None
-unfolding fault_of operation_of
-header_fine k m = refl
-
-mask_fine : (k m : ℕ) → fault_of (plain (Compute arithmetic.And Constant) k) m ≡ None
-unfolding fault_of operation_of
-mask_fine k m = refl
-
-add_fine : (k m : ℕ) → fault_of (plain (Compute arithmetic.Add IndexRegister) k) m ≡ None
-unfolding fault_of operation_of
-add_fine k m = refl
-
-load_fine : (w : Width) (k m : ℕ) → fault_of (plain (LoadAbsolute w) k) m ≡ None
-unfolding fault_of operation_of
-load_fine Word k m = refl
-load_fine HalfWord k m = refl
-load_fine Byte k m = refl
-
-indirect_fine : (w : Width) (k m : ℕ) → fault_of (plain (LoadIndirect w) k) m ≡ None
-unfolding fault_of operation_of
-indirect_fine Word k m = refl
-indirect_fine HalfWord k m = refl
-indirect_fine Byte k m = refl
-
-operator_fine : (operator : Operator) (k m : ℕ) → fault_of (plain (computation operator IndexRegister) k) m ≡ None
-unfolding fault_of operation_of
-operator_fine Add k m = refl
-operator_fine Subtract k m = refl
-operator_fine Multiply k m = refl
-operator_fine Divide k m = refl
-operator_fine Or k m = refl
-operator_fine And k m = refl
-operator_fine ShiftLeft k m = refl
-operator_fine ShiftRight k m = refl
-operator_fine Remainder k m = refl
-operator_fine ExclusiveOr k m = refl
+-- a word of memory, and arithmetic with a constant, without a fault
+word_fine : (k : ℕ) → k < 16 → unless (nat_lt k 16) NoSuchWord ≡ None
+word_fine k l = let t : nat_lt k 16 ≡ true = grind (arith, nat_tests) in ap (λ b. unless b NoSuchWord) t
 
 not_zero : (b : Bool) → not b ≡ true → (if b then Some DivisionByZero else None) ≡ None
 not_zero true e = cc
 not_zero false e = refl
 
-constant_fine : (operator : Operator) (k m : ℕ) → takes operator k ≡ true → fault_of (plain (computation operator Constant) k) m ≡ None
-unfolding fault_of operation_of
-constant_fine Add k m t = refl
-constant_fine Subtract k m t = refl
-constant_fine Multiply k m t = refl
+constant_fine : (operator : Operator) (k m : ℕ) → takes operator k ≡ true → operation_fault (computation operator Constant) (plain (computation operator Constant) k) m ≡ None
 constant_fine Divide k m t = not_zero (k == 0) t
-constant_fine Or k m t = refl
-constant_fine And k m t = refl
+constant_fine Remainder k m t = not_zero (k == 0) t
 constant_fine ShiftLeft k m t = ap (λ b. unless b ShiftTooFar) t
 constant_fine ShiftRight k m t = ap (λ b. unless b ShiftTooFar) t
-constant_fine Remainder k m t = not_zero (k == 0) t
-constant_fine ExclusiveOr k m t = refl
+constant_fine _ k m t = refl
 
-ends_put : (i : Insn) (c : List Insn) → ends_in_return c ≡ true → ends_in_return (i ∷ c) ≡ true
-ends_put i [] e = cc
-ends_put i (j ∷ c) e = e
+-- the two operands are in A and X
+operands_grow : {c d : List Insn} {m w : ℕ} (slot : ℕ) → slot < 16 → Grows c d m w → Grows c (plain CopyToIndex 0 ∷ plain (Load Accumulator Memory) slot ∷ d) (m + 1 + 1) (w + 1 + 1)
+operands_grow slot l g = grows_put CopyToIndex 0 refl refl (grows_put (Load Accumulator Memory) slot refl (word_fine slot l) g)
+
+number_grows : (link : Link) (e : NumberTree) (slot : ℕ) {c d : List Insn} {m w : ℕ} → slot + number_words e ≤ 16 → Grows c d m w → Grows c (emit_number link e slot d) (m + 6 * number_size e) (w + 6 * number_size e)
+number_grows link (literal k) slot few g = grows_more _ _ (omega arith) (omega arith) (grows_put (Load Accumulator Immediate) k refl refl g)
+number_grows link (named k) slot few g = grows_more _ _ (omega arith) (omega arith) (grows_put (Load Accumulator Immediate) k refl refl g)
+number_grows link len slot few g = grows_more _ _ (omega arith) (omega arith) (grows_put (Load Accumulator Length) 0 refl refl g)
+number_grows link (negated a) slot few g =
+    grows_more _ _ (omega arith) (omega arith) (number_grows link a slot few (grows_put Negate 0 refl refl g))
+number_grows link (load protocol size i) slot few g =
+    grows_more _ _ (omega arith) (omega arith) (number_grows link i slot few (accessor_grows link protocol (width_of size) g))
+number_grows link (applied operator l r) slot {c = c} {d = d} {m = m} {w = w} few g =
+    grows_more _ _ (omega arith) (omega arith)
+    (number_grows link l slot (omega arith)
+    (by_right (λ b. Grows c b (m + 4 + 6 * number_size r) (w + 4 + 6 * number_size r)) (constant_operand operator r) slot _ _
+    (λ k is. grows_more _ _ (omega arith) (omega arith) (grows_put (computation operator Constant) k refl (constant_fine operator k (length d) (operand_is operator r k is).taken) g))
+    (grows_more _ _ (omega arith) (omega arith)
+    (grows_put (Store Accumulator) slot refl (word_fine slot (omega arith))
+    (number_grows link r (slot + 1) (omega arith)
+    (operands_grow slot (omega arith) (grows_put (computation operator IndexRegister) 0 refl refl g)))))))
+
+-- a block in front of code, with its entry inside
+pub record Fits (c : List Insn) (e : Block) (m w : ℕ) : Type 0 where
+  pub grows : Grows c e.code m w
+  pub entry : Inside e.code e.entry
 
 ends_some : (c : List Insn) → ends_in_return c ≡ true → 0 < length c
 ends_some [] e = cc
 ends_some (i ∷ c) e = omega arith
 
--- code d without a fault, which has code c at its end and at most m instructions more
-pub record Grows (c d : List Insn) (m : ℕ) : Type 0 where
-  pub sound : IsFaultless d
-  pub longer : length c ≤ length d
-  pub shorter : length d ≤ length c + m
-  pub ends : ends_in_return d ≡ true
+fits_top : {c d : List Insn} {m w : ℕ} → Grows c d m w → Fits c (at_top d) m w
+fits_top {d = d} g = record { grows = g; entry = record { low = ends_some d g.sound.valid.ends; upper_bound = omega arith } }
 
-pub grows_none : (c : List Insn) → IsFaultless c → ends_in_return c ≡ true → Grows c c 0
-grows_none c s e = record { sound = s; longer = omega arith; shorter = omega arith; ends = e }
-
-grows_put : (c d : List Insn) (m m' : ℕ) (i : Insn) → Grows c d m → fault_of i (length d) ≡ None → m + 1 ≤ m' → Grows c (i ∷ d) m'
-grows_put c d m m' i g f l =
-    record { sound = (f, g.sound); longer = omega (arith, g.longer); shorter = omega (arith, g.shorter); ends = ends_put i d g.ends }
-
-grows_more : (c d : List Insn) (m m' : ℕ) → m ≤ m' → Grows c d m → Grows c d m'
-grows_more c d m m' l g = record { sound = g.sound; longer = g.longer; shorter = omega (arith, g.shorter); ends = g.ends }
-
-grows_on : (c d f : List Insn) (m m' : ℕ) → Grows c d m → Grows d f m' → Grows c f (m + m')
-grows_on c d f m m' a b =
-    record { sound = b.sound; longer = omega (arith, a.longer, b.longer); shorter = omega (arith, a.shorter, b.shorter); ends = b.ends }
-
-branch_grows : (t : Test) (operand : Operand) (k hit miss : ℕ) (c : List Insn) → IsFaultless c → ends_in_return c ≡ true → 0 < hit → hit ≤ length c → 0 < miss → miss ≤ length c → Grows c (emit_branch t operand k hit miss c) 3
-unfolding emit_branch
-branch_grows t operand k hit miss c s e ph lh pm lm =
-    let none = grows_none c s e in
-    let one_hit = grows_put c c 0 1 (plain Jump (length c - hit)) none (jump_fine (length c - hit) (length c) (omega arith)) (omega arith) in
-    let one_miss = grows_put c c 0 1 (plain Jump (length c - miss)) none (jump_fine (length c - miss) (length c) (omega arith)) (omega arith) in
-    let j = plain Jump (length c - miss) in
-    let two = grows_put c (j ∷ c) 1 2 (plain Jump (length (j ∷ c) - hit)) one_miss (jump_fine (length (j ∷ c) - hit) (length (j ∷ c)) (omega arith)) (omega arith) in
-    by_reach (λ d. Grows c d 3) (reach hit miss c) t operand k hit miss c
-    (grows_put c c 0 3 _ none (branch_fine t operand k (length c - hit) (length c - miss) (length c) (omega arith) (omega arith)) (omega arith))
-    (grows_put c (emit_jump hit c) 1 3 _ one_hit (branch_fine t operand k 0 (length c + 1 - miss) (length (emit_jump hit c)) (omega arith) (omega arith)) (omega arith))
-    (grows_put c (emit_jump miss c) 1 3 _ one_miss (branch_fine t operand k (length c + 1 - hit) 0 (length (emit_jump miss c)) (omega arith) (omega arith)) (omega arith))
-    (grows_put c (emit_jump hit (emit_jump miss c)) 2 3 _ two (branch_fine t operand k 0 1 (length (emit_jump hit (emit_jump miss c))) (omega arith) (omega arith)) (omega arith))
-
-field_grows : (place : Offset) (w : Width) (c d : List Insn) (m : ℕ) → Grows c d m → Grows c (emit_field place w d) (m + 2)
-field_grows (Fixed k) w c d m g = grows_put c d m (m + 2) _ g (load_fine w k (length d)) (omega arith)
-field_grows (AfterHeader header k) w c d m g = grows_put c _ (m + 1) (m + 2) _ (grows_put c d m (m + 1) _ g (indirect_fine w k (length d)) (omega arith)) (header_fine header _) (omega arith)
-
-mask_grows : (mask : Option ℕ) (c d : List Insn) (m : ℕ) → Grows c d m → Grows c (emit_mask mask d) (m + 1)
-mask_grows None c d m g = grows_more c d m (m + 1) (omega arith) g
-mask_grows (Some mask) c d m g = grows_put c d m (m + 1) _ g (mask_fine mask (length d)) (omega arith)
-
-comparison_grows : (comparison : Comparison) (operand : Operand) (k hit miss : ℕ) (c : List Insn) → IsFaultless c → ends_in_return c ≡ true → 0 < hit → hit ≤ length c → 0 < miss → miss ≤ length c → Grows c (emit_comparison comparison operand k hit miss c) 3
-comparison_grows Equal operand k hit miss c s e ph lh pm lm = branch_grows test.Equal operand k hit miss c s e ph lh pm lm
-comparison_grows NotEqual operand k hit miss c s e ph lh pm lm = branch_grows test.Equal operand k miss hit c s e pm lm ph lh
-comparison_grows Less operand k hit miss c s e ph lh pm lm = branch_grows test.AtLeast operand k miss hit c s e pm lm ph lh
-comparison_grows AtMost operand k hit miss c s e ph lh pm lm = branch_grows test.Greater operand k miss hit c s e pm lm ph lh
-comparison_grows Greater operand k hit miss c s e ph lh pm lm = branch_grows test.Greater operand k hit miss c s e ph lh pm lm
-comparison_grows AtLeast operand k hit miss c s e ph lh pm lm = branch_grows test.AtLeast operand k hit miss c s e ph lh pm lm
-
-base_grows : (at : ℕ) (w : Width) (c d : List Insn) (m : ℕ) → Grows c d m → Grows c (emit_base at w d) (m + 4)
-base_grows at w c d m g = grows_put c _ (m + 1) (m + 4) _ (grows_put c d m (m + 1) _ g (indirect_fine w at (length d)) (omega arith)) (to_x_fine 0 _) (omega arith)
-
-transport_grows : (link : Link) (w : Width) (c d : List Insn) (m : ℕ) → Grows c d m → Grows c (emit_transport link w d) (m + 4)
-transport_grows link w c d m g =
-    grows_put c _ (m + 3) (m + 4) _ (grows_put c _ (m + 2) (m + 3) _ (grows_put c _ (m + 1) (m + 2) _ (grows_put c d m (m + 1) _ g (indirect_fine w (network_offset link) (length d)) (omega arith)) (to_x_fine 0 _) (omega arith)) (add_fine 0 _) (omega arith)) (header_fine (network_offset link) _) (omega arith)
-
-accessor_grows : (link : Link) (protocol : Protocol) (w : Width) (c d : List Insn) (m : ℕ) → Grows c d m → Grows c (emit_accessor link protocol w d) (m + 4)
-accessor_grows link Ether w c d m g = base_grows 0 w c d m g
-accessor_grows link Tcp w c d m g = transport_grows link w c d m g
-accessor_grows link Udp w c d m g = transport_grows link w c d m g
-accessor_grows link Icmp w c d m g = transport_grows link w c d m g
-accessor_grows link _ w c d m g = base_grows (network_offset link) w c d m g
-
-number_grows : (link : Link) (e : NumberTree) (slot : ℕ) (c d : List Insn) (m : ℕ) → slot + number_words e ≤ 16 → Grows c d m → Grows c (emit_number link e slot d) (m + 6 * number_size e)
-number_grows link (literal k) slot c d m upper_bound g = grows_put c d m _ _ g (literal_fine k (length d)) (omega arith)
-number_grows link (named k) slot c d m upper_bound g = grows_put c d m _ _ g (literal_fine k (length d)) (omega arith)
-number_grows link len slot c d m upper_bound g = grows_put c d m _ _ g (length_fine 0 (length d)) (omega arith)
-number_grows link (negated a) slot c d m upper_bound g =
-    grows_more c _ (m + 1 + 6 * number_size a) _ (omega arith) (number_grows link a slot c (plain Negate 0 ∷ d) (m + 1) upper_bound (grows_put c d m (m + 1) _ g (minus_fine 0 (length d)) (omega arith)))
-number_grows link (load protocol size i) slot c d m upper_bound g =
-    grows_more c _ (m + 4 + 6 * number_size i) _ (omega arith) (number_grows link i slot c (emit_accessor link protocol (width_of size) d) (m + 4) upper_bound (accessor_grows link protocol (width_of size) c d m g))
-number_grows link (applied operator l r) slot c d m upper_bound g =
-    let g1 = grows_put c d m (m + 1) (plain (computation operator IndexRegister) 0) g (operator_fine operator 0 (length d)) (omega arith) in
-    let g2 = grows_put c _ (m + 1) (m + 2) (plain (Load Accumulator Memory) slot) g1 (word_fine slot _ (omega arith)) (omega arith) in
-    let g3 = grows_put c _ (m + 2) (m + 3) (plain CopyToIndex 0) g2 (to_x_fine 0 _) (omega arith) in
-    let g4 = number_grows link r (slot + 1) c _ (m + 3) (omega arith) g3 in
-    let g5 = grows_put c _ (m + 3 + 6 * number_size r) (m + 4 + 6 * number_size r) (plain (Store Accumulator) slot) g4 (store_fine slot _ (omega arith)) (omega arith) in
-    let g6 = by_right (λ b. Grows c b (m + 4 + 6 * number_size r)) (constant_operand operator r) slot _ _ (λ k is. grows_put c d m _ _ g (constant_fine operator k (length d) (operand_is operator r k is).taken) (omega arith)) g5 in
-    grows_more c _ (m + 4 + 6 * number_size r + 6 * number_size l) _ (omega arith) (number_grows link l slot c _ (m + 4 + 6 * number_size r) (omega arith) g6)
-
--- grown code, with its entry inside
-pub record Sits (e : Block) (c : List Insn) (m : ℕ) : Type 0 where
-  pub grows : Grows c e.code m
-  pub low : 0 < e.entry
-  pub inside : e.entry ≤ length e.code
-
-sits_top : (c d : List Insn) (m m' : ℕ) → m ≤ m' → Grows c d m → Sits (at_top d) c m'
-sits_top c d m m' l g = record { grows = grows_more c d m m' l g; low = ends_some d g.ends; inside = omega arith }
-
-elementary_sits : (known : Knowledge) (t : Elementary) (hit miss : ℕ) (c : List Insn) → IsFaultless c → ends_in_return c ≡ true → 0 < hit → hit ≤ length c → 0 < miss → miss ≤ length c → Sits (emit_elementary known t hit miss c) c 6
-elementary_sits known (Outcome true) hit miss c s e ph lh pm lm = record { grows = grows_more c c 0 6 (omega arith) (grows_none c s e); low = ph; inside = lh }
-elementary_sits known (Outcome false) hit miss c s e ph lh pm lm = record { grows = grows_more c c 0 6 (omega arith) (grows_none c s e); low = pm; inside = lm }
-elementary_sits known (Field k) hit miss c s e ph lh pm lm =
-    let h = target_inside c known k.offset (fact (Field k) true) hit ph lh in
-    let m = target_inside c known k.offset (fact (Field k) false) miss pm lm in
-    sits_top c _ 6 _ (omega arith) (field_grows k.offset k.width c _ 4 (mask_grows k.mask c _ 3 (comparison_grows k.comparison Constant k.value _ _ c s e h.0 h.1 m.0 m.1)))
+pub fits_more : {c : List Insn} {e : Block} {m w : ℕ} (m' w' : ℕ) → m ≤ m' → w ≤ w' → Fits c e m w → Fits c e m' w'
+fits_more m' w' lm lw f = record { grows = grows_more m' w' lm lw f.grows; entry = f.entry }
 
 -- one part of the code in front of another
-sits_on : (d f : Block) (c : List Insn) (m m' k : ℕ) → Sits d c m → Sits f d.code m' → m + m' ≤ k → Sits f c k
-sits_on d f c m m' k a b l = record { grows = grows_more c f.code (m + m') k l (grows_on c d.code f.code m m' a.grows b.grows); low = b.low; inside = b.inside }
+fits_on : {c d : List Insn} {e : Block} {m w m' w' : ℕ} → Grows c d m w → Fits d e m' w' → Fits c e (m + m') (w + w')
+fits_on a b = record {
+  grows = record {
+    sound = b.grows.sound;
+    longer = omega (arith, a.longer, b.grows.longer);
+    shorter = omega (arith, a.shorter, b.grows.shorter);
+    lighter = omega (arith, a.lighter, b.grows.lighter);
+  };
+  entry = b.entry;
+}
 
-fork_sits : (known : Knowledge) (t u : Elementary) (hit miss : ℕ) (c : List Insn) → IsFaultless c → ends_in_return c ≡ true → 0 < hit → hit ≤ length c → 0 < miss → miss ≤ length c → Sits (emit_fork known t u hit miss c) c 12
-fork_sits known t u hit miss c s e ph lh pm lm =
-    let d = emit_elementary (and_fact (fact t false) known) u hit miss c in
-    let sb = elementary_sits (and_fact (fact t false) known) u hit miss c s e ph lh pm lm in
-    let lh' : hit ≤ length d.code = omega (arith, sb.grows.longer) in
-    let sa = elementary_sits known t hit d.entry d.code sb.grows.sound sb.grows.ends ph lh' sb.low sb.inside in
-    sits_on d (emit_elementary known t hit d.entry d.code) c 6 6 12 sb sa (omega arith)
+elementary_fits : (t : Elementary) (hit miss : ℕ) (c : List Insn) → Sound c → Inside c hit → Inside c miss → Fits c (emit_elementary t hit miss c) 4 6
+elementary_fits (Outcome true) hit miss c s h m = record { grows = grows_more _ _ (omega arith) (omega arith) (grows_none s); entry = h }
+elementary_fits (Outcome false) hit miss c s h m = record { grows = grows_more _ _ (omega arith) (omega arith) (grows_none s); entry = m }
+elementary_fits (Field t) hit miss c s h m =
+    fits_top (field_grows t.offset t.width (mask_grows t.mask (comparison_grows t.comparison Constant t.value hit miss c s h m)))
 
-chain_sits : (vs : List ℕ) (hit miss : ℕ) (c : List Insn) → IsFaultless c → ends_in_return c ≡ true → 0 < hit → hit ≤ length c → 0 < miss → miss ≤ length c → Sits (emit_chain vs hit miss c) c (3 * length vs)
-chain_sits [] hit miss c s e ph lh pm lm = record { grows = grows_none c s e; low = pm; inside = lm }
-chain_sits (v ∷ vs) hit miss c s e ph lh pm lm =
-    let d = emit_chain vs hit miss c in
-    let sd = chain_sits vs hit miss c s e ph lh pm lm in
-    let lh' : hit ≤ length d.code = omega (arith, sd.grows.longer) in
-    let g = branch_grows test.Equal Constant v hit d.entry d.code sd.grows.sound sd.grows.ends ph lh' sd.low sd.inside in
-    sits_on d (emit_chain (v ∷ vs) hit miss c) c (3 * length vs) 3 _ sd (sits_top d.code _ 3 3 (omega arith) g) (omega arith)
+branch_fits : {c : List Insn} {m w : ℕ} (t : Test) (k hit miss : ℕ) (d : List Insn) → Grows c d m w → Inside d hit → Inside d miss → Fits c (at_top (emit_branch t Constant k hit miss d)) (m + 1) (w + 3)
+branch_fits t k hit miss d g h m = fits_on g (fits_top (branch_grows t Constant k hit miss d g.sound h m))
 
-chain_fits : (vs : List ℕ) (hit miss : ℕ) (c : List Insn) → IsFaultless c → ends_in_return c ≡ true → 0 < hit → hit ≤ length c → 0 < miss → miss ≤ length c → Sits (emit_chain vs hit miss c) c (3 + 6 * (length vs - 1))
-chain_fits vs hit miss c s e ph lh pm lm =
-    let t = chain_sits vs hit miss c s e ph lh pm lm in
-    record { grows = grows_more c _ (3 * length vs) _ (omega arith) t.grows; low = t.low; inside = t.inside }
+-- a number has one test, and each further one a half of its own at most
+abbrev Searched : List Insn → Block → ℕ → Type 0
+Searched c e n = Fits c e (2 * n - 1) (3 * (2 * n - 1))
 
-search_sits : (k : ℕ) (vs : List ℕ) (hit miss : ℕ) (c : List Insn) → IsFaultless c → ends_in_return c ≡ true → 0 < hit → hit ≤ length c → 0 < miss → miss ≤ length c → Sits (emit_search k vs hit miss c) c (3 + 6 * (length vs - 1))
+chain_fits : (vs : List ℕ) (hit miss : ℕ) (c : List Insn) → Sound c → Inside c hit → Inside c miss → Fits c (emit_chain vs hit miss c) (length vs) (3 * length vs)
+chain_fits [] hit miss c s h m = record { grows = grows_none s; entry = m }
+chain_fits (v ∷ vs) hit miss c s h m =
+    let e = emit_chain vs hit miss c in
+    let f = chain_fits vs hit miss c s h m in
+    fits_more _ _ (omega arith) (omega arith) (branch_fits test.Equal v hit e.entry e.code f.grows (inside_on f.grows h) f.entry)
+
+search_fits : (k : ℕ) (vs : List ℕ) (hit miss : ℕ) (c : List Insn) → Sound c → Inside c hit → Inside c miss → Searched c (emit_search k vs hit miss c) (length vs)
 unfolding emit_search
-search_sits zero vs hit miss c s e ph lh pm lm = chain_fits vs hit miss c s e ph lh pm lm
-search_sits (suc k) vs hit miss c s e ph lh pm lm =
-    let h = length vs / 2 in
-    let a = length-drop h vs in
-    let b = length-take h vs in
-    let upper = emit_search k (drop h vs) hit miss c in
-    let lower = emit_search k (take h vs) hit miss upper.code in
-    let su = search_sits k (drop h vs) hit miss c s e ph lh pm lm in
-    let lh' : hit ≤ length upper.code = omega (arith, su.grows.longer) in
-    let lm' : miss ≤ length upper.code = omega (arith, su.grows.longer) in
-    let sl = search_sits k (take h vs) hit miss upper.code su.grows.sound su.grows.ends ph lh' pm lm' in
-    let lu : upper.entry ≤ length lower.code = (let i = su.inside in omega (arith, sl.grows.longer)) in
-    let g = branch_grows test.AtLeast Constant (get_or vs h 0) upper.entry lower.entry lower.code sl.grows.sound sl.grows.ends su.low lu sl.low sl.inside in
-    by_test (λ (d : Block). Sits d c (3 + 6 * (length vs - 1))) (nat_lt (length vs) 2) _ _
-    (λ upper_bound. chain_fits vs hit miss c s e ph lh pm lm)
+search_fits zero vs hit miss c s h m = fits_more _ _ (omega arith) (omega arith) (chain_fits vs hit miss c s h m)
+search_fits (suc k) vs hit miss c s h m =
+    let half = length vs / 2 in
+    let a = length-drop half vs in
+    let b = length-take half vs in
+    let upper = emit_search k (drop half vs) hit miss c in
+    let lower = emit_search k (take half vs) hit miss upper.code in
+    let fu = search_fits k (drop half vs) hit miss c s h m in
+    let fl = search_fits k (take half vs) hit miss upper.code fu.grows.sound (inside_on fu.grows h) (inside_on fu.grows m) in
+    let both = fits_on fu.grows fl in
+    if_case (λ (e : Block). Searched c e (length vs)) (nat_lt (length vs) 2) _ _
+    (λ few. fits_more _ _ (omega arith) (omega arith) (chain_fits vs hit miss c s h m))
     (λ many. let two : 2 ≤ length vs = grind (arith, nat_tests) in
-    sits_on lower _ c (3 + 6 * (length (drop h vs) - 1) + (3 + 6 * (length (take h vs) - 1))) 3 _ (sits_on upper lower c _ _ _ su sl (omega arith)) (sits_top lower.code _ 3 3 (omega arith) g) (omega arith))
+    fits_more _ _ (omega arith) (omega arith) (branch_fits test.AtLeast (get_or vs half 0) upper.entry lower.entry lower.code both.grows (inside_on fl.grows fu.entry) fl.entry))
 
-pub emitted_sits : (link : Link) (known : Knowledge) (f : Formula) (hit miss : ℕ) (c : List Insn) → words f ≤ 16 → IsFaultless c → ends_in_return c ≡ true → 0 < hit → hit ≤ length c → 0 < miss → miss ≤ length c → Sits (emit_formula link known f hit miss c) c (6 * (tests f + nodes f))
-emitted_sits link known (Single t) hit miss c upper_bound s e ph lh pm lm = elementary_sits known t hit miss c s e ph lh pm lm
-emitted_sits link known (Compare comparison l r) hit miss c upper_bound s e ph lh pm lm =
-    let g0 = comparison_grows comparison IndexRegister 0 hit miss c s e ph lh pm lm in
-    let g1 = grows_put c _ 3 4 (plain (Load Accumulator Memory) 0) g0 (word_fine 0 _ (omega arith)) (omega arith) in
-    let g2 = grows_put c _ 4 5 (plain CopyToIndex 0) g1 (to_x_fine 0 _) (omega arith) in
-    let g3 = number_grows link r 1 c _ 5 (omega arith) g2 in
-    let g4 = grows_put c _ (5 + 6 * number_size r) (6 + 6 * number_size r) (plain (Store Accumulator) 0) g3 (store_fine 0 _ (omega arith)) (omega arith) in
-    let g5 = by_right (λ b. Grows c b (6 + 6 * number_size r)) (constant r) 0 _ _ (λ k is. grows_more c _ 3 _ (omega arith) (comparison_grows comparison Constant k hit miss c s e ph lh pm lm)) g4 in
-    sits_top c _ (6 + 6 * number_size r + 6 * number_size l) _ (omega arith) (number_grows link l 0 c _ (6 + 6 * number_size r) (omega arith) g5)
-emitted_sits link known (Both a b) hit miss c upper_bound s e ph lh pm lm =
-    let d = emit_formula link known b hit miss c in
-    let sb = emitted_sits link known b hit miss c (omega arith) s e ph lh pm lm in
-    let lm' : miss ≤ length d.code = omega (arith, sb.grows.longer) in
-    let sa = emitted_sits link known a d.entry miss d.code (omega arith) sb.grows.sound sb.grows.ends sb.low sb.inside pm lm' in
-    record { grows = grows_more c _ (6 * (tests b + nodes b) + 6 * (tests a + nodes a)) _ (omega arith) (grows_on c d.code _ _ _ sb.grows sa.grows); low = sa.low; inside = sa.inside }
-emitted_sits link known (Either a b) hit miss c upper_bound s e ph lh pm lm =
-    let d = emit_formula link known b hit miss c in
-    let sb = emitted_sits link known b hit miss c (omega arith) s e ph lh pm lm in
-    let lh' : hit ≤ length d.code = omega (arith, sb.grows.longer) in
-    let sa = emitted_sits link known a hit d.entry d.code (omega arith) sb.grows.sound sb.grows.ends ph lh' sb.low sb.inside in
-    record { grows = grows_more c _ (6 * (tests b + nodes b) + 6 * (tests a + nodes a)) _ (omega arith) (grows_on c d.code _ _ _ sb.grows sa.grows); low = sa.low; inside = sa.inside }
-emitted_sits link known (Except a) hit miss c upper_bound s e ph lh pm lm = emitted_sits link known a miss hit c upper_bound s e pm lm ph lh
-emitted_sits link known (Guard t a) hit miss c upper_bound s e ph lh pm lm =
-    let d = emit_formula link (and_fact (fact t true) known) a hit miss c in
-    let sb = emitted_sits link (and_fact (fact t true) known) a hit miss c upper_bound s e ph lh pm lm in
-    let lm' : miss ≤ length d.code = omega (arith, sb.grows.longer) in
-    let sa = elementary_sits known t d.entry miss d.code sb.grows.sound sb.grows.ends sb.low sb.inside pm lm' in
-    sits_on d (emit_elementary known t d.entry miss d.code) c (6 * (tests a + nodes a)) 6 _ sb sa (omega arith)
-emitted_sits link known (Fork t u a) hit miss c upper_bound s e ph lh pm lm =
-    let d = emit_formula link (and_fork t u known) a hit miss c in
-    let sb = emitted_sits link (and_fork t u known) a hit miss c upper_bound s e ph lh pm lm in
-    let lm' : miss ≤ length d.code = omega (arith, sb.grows.longer) in
-    let sa = fork_sits known t u d.entry miss d.code sb.grows.sound sb.grows.ends sb.low sb.inside pm lm' in
-    sits_on d (emit_fork known t u d.entry miss d.code) c (6 * (tests a + nodes a)) 12 _ sb sa (omega arith)
-emitted_sits link known (Choose t a b) hit miss c upper_bound s e ph lh pm lm =
-    let d = emit_formula link (and_fact (fact t false) known) b hit miss c in
-    let sb = emitted_sits link (and_fact (fact t false) known) b hit miss c (omega arith) s e ph lh pm lm in
-    let lh' : hit ≤ length d.code = omega (arith, sb.grows.longer) in
-    let lm' : miss ≤ length d.code = omega (arith, sb.grows.longer) in
-    let f = emit_formula link (and_fact (fact t true) known) a hit miss d.code in
-    let sa = emitted_sits link (and_fact (fact t true) known) a hit miss d.code (omega arith) sb.grows.sound sb.grows.ends ph lh' pm lm' in
-    let ld : d.entry ≤ length f.code = (let l = sb.inside in omega (arith, sa.grows.longer)) in
-    let st = elementary_sits known t f.entry d.entry f.code sa.grows.sound sa.grows.ends sa.low sa.inside sb.low ld in
-    sits_on f (emit_elementary known t f.entry d.entry f.code) c (6 * (tests b + nodes b) + 6 * (tests a + nodes a)) 6 _ (sits_on d f c (6 * (tests b + nodes b)) (6 * (tests a + nodes a)) _ sb sa (omega arith)) st (omega arith)
-emitted_sits link known (Among f vs) hit miss c upper_bound s e ph lh pm lm =
-    let h = target_inside c known f.offset always hit ph lh in
-    let m = target_inside c known f.offset always miss pm lm in
-    let g = search_sits LEVELS vs (target c known f.offset always hit) (target c known f.offset always miss) c s e h.0 h.1 m.0 m.1 in
-    sits_top c _ (3 + 6 * (length vs - 1) + 1 + 2) _ (omega arith) (field_grows f.offset f.width c _ (3 + 6 * (length vs - 1) + 1) (mask_grows f.mask c _ (3 + 6 * (length vs - 1)) g.grows))
+pub emitted_fits : (link : Link) (f : Formula) (hit miss : ℕ) (c : List Insn) → words f ≤ 16 → Sound c → Inside c hit → Inside c miss → Fits c (emit_formula link f hit miss c) (4 * tests f + 6 * nodes f) (6 * (tests f + nodes f))
+emitted_fits link (Single t) hit miss c few s h m = fits_more _ _ (omega arith) (omega arith) (elementary_fits t hit miss c s h m)
+emitted_fits link (Compare comparison l r) hit miss c few s h m =
+    fits_more _ _ (omega arith) (omega arith)
+    (fits_top
+    (number_grows link l 0 (omega arith)
+    (by_right (λ b. Grows c b (4 + 6 * number_size r) (6 + 6 * number_size r)) (constant r) 0 _ _
+    (λ k is. grows_more _ _ (omega arith) (omega arith) (comparison_grows comparison Constant k hit miss c s h m))
+    (grows_more _ _ (omega arith) (omega arith)
+    (grows_put (Store Accumulator) 0 refl refl
+    (number_grows link r 1 (omega arith)
+    (operands_grow 0 (omega arith) (comparison_grows comparison IndexRegister 0 hit miss c s h m))))))))
+emitted_fits link (Both a b) hit miss c few s h m =
+    let e = emit_formula link b hit miss c in
+    let f = emitted_fits link b hit miss c (omega arith) s h m in
+    fits_more _ _ (omega arith) (omega arith)
+    (fits_on f.grows (emitted_fits link a e.entry miss e.code (omega arith) f.grows.sound f.entry (inside_on f.grows m)))
+emitted_fits link (Either a b) hit miss c few s h m =
+    let e = emit_formula link b hit miss c in
+    let f = emitted_fits link b hit miss c (omega arith) s h m in
+    fits_more _ _ (omega arith) (omega arith)
+    (fits_on f.grows (emitted_fits link a hit e.entry e.code (omega arith) f.grows.sound (inside_on f.grows h) f.entry))
+emitted_fits link (Except a) hit miss c few s h m = emitted_fits link a miss hit c few s m h
+emitted_fits link (Among f vs) hit miss c few s h m =
+    let g = search_fits LEVELS vs hit miss c s h m in
+    fits_more _ _ (omega arith) (omega arith) (fits_top (field_grows f.offset f.width (mask_grows f.mask g.grows)))

@@ -7,7 +7,7 @@ use Rattle.flt_words.specs.declared.token.Side.TheVariants.{Source, Destination}
 use Rattle.flt_words.specs.declared.token.Join.TheVariants.{And, Or}
 use Rattle.flt_words.specs.declared.token.Protocol.{Protocol}
 use Rattle.flt_words.specs.declared.token.ValueType.{ValueType}
-use Rattle.flt_words.specs.declared.token.ValueType.TheVariants.{Host, Net, Port, PortRange, Proto}
+use Rattle.flt_words.specs.declared.token.ValueType.TheVariants.{Net}
 use Rattle.flt_ast.specs.declared.qualifiers.Direction.{Direction}
 use Rattle.flt_ast.specs.declared.qualifiers.Direction.TheVariants as direction
 use Rattle.flt_ast.specs.declared.value.Value.{Value}
@@ -20,14 +20,13 @@ use Rattle.cap_octet.specs.declared.link.Link.{Link}
 use Rattle.flt_emit.specs.declared.elementary.FrameKind.TheVariants as kind
 use Rattle.flt_emit.specs.declared.elementary.Offset.TheVariants.{Fixed}
 use Rattle.flt_emit.specs.declared.elementary.Elementary.{Elementary}
-use Rattle.flt_emit.specs.Elementary.{Reading, Yes, No, Rejected, reading_of, with, under_mask, kind_test, elementary_reads}
+use Rattle.flt_emit.specs.Elementary.{MatchResult, Yes, No, Rejected, reading_of, with, under_mask, kind_test, elementary_reads}
 use Rattle.cap_octet.specs.Link.{network_offset}
 use Rattle.flt_emit.specs.Formula.{both, either, all_of, sides, reads}
-use Rattle.flt_gen.specs.inside.Counts.{tests}
 use Rattle.flt_gen.specs.Primitives.{partial_mask, address_test, ip6_test, ip6_tests, ip6_formula, value_formula}
-use Rattle.flt_gen.specs.inside.Emitted.{is_empty, is_idle, capture_test, last_test, needed_tests, needed_sides, ip6_needed, value_needed}
-use Rattle.flt_gen.proofs.Ascending.{if_case}
-use Rattle.flt_gen.proofs.Counted.{Bare, bare_guard, bare_sides, bare_value, value_tests_fit}
+use Rattle.flt_gen.specs.inside.Emitted.{is_empty, is_idle, capture_test, last_test, needed_tests, ip6_needed, value_needed}
+use Rattle.flt_gen.proofs.Ascending.{if_case, both_true}
+use Rattle.flt_gen.proofs.Counted.{Bare, bare_after, bare_sides, bare_value}
 
 -- no more tests
 fewer : (ts : List Elementary) → length (needed_tests ts) ≤ length ts
@@ -37,95 +36,57 @@ fewer (t ∷ u ∷ ts) =
     let h = fewer (u ∷ ts) in
     if_case (λ xs. length xs ≤ length (t ∷ u ∷ ts)) (is_idle t) (needed_tests (u ∷ ts)) (t ∷ needed_tests (u ∷ ts)) (λ e. omega arith) (λ e. omega arith)
 
--- at least one
-some : (t : Elementary) (ts : List Elementary) → 1 ≤ length (needed_tests (t ∷ ts))
-some t [] = omega arith
-some t (u ∷ ts) =
-    let h = some u ts in
-    if_case (λ xs. 1 ≤ length xs) (is_idle t) (needed_tests (u ∷ ts)) (t ∷ needed_tests (u ∷ ts)) (λ e. omega arith) (λ e. omega arith)
-
-all_tests : (ts : List Elementary) → 1 ≤ length ts → tests (all_of ts) ≡ length ts
-all_tests [] l = absurd (omega arith)
-all_tests (t ∷ []) l = refl
-all_tests (t ∷ u ∷ ts) l = let h = all_tests (u ∷ ts) (omega arith) in omega arith
-
-side_tests : (prefix : Option ℕ) (address at : ℕ) → tests (all_of (needed_tests (ip6_tests prefix address at))) ≤ 4
-side_tests prefix address at =
-    let ts = ip6_tests prefix address at in
-    let l = fewer ts in
-    let m = all_tests (needed_tests ts) (some (ip6_test prefix address at 0) (ip6_test prefix address at 1 ∷ ip6_test prefix address at 2 ∷ ip6_test prefix address at 3 ∷ [])) in
-    omega arith
-
-sides_tests : (d : Direction) (prefix : Option ℕ) (address s t : ℕ) → tests (needed_sides d (ip6_tests prefix address s) (ip6_tests prefix address t)) ≤ count.side_tests d 4
-sides_tests (direction.One Source) prefix address s t = side_tests prefix address s
-sides_tests (direction.One Destination) prefix address s t = side_tests prefix address t
-sides_tests (direction.Both Or) prefix address s t = let l = side_tests prefix address s in let m = side_tests prefix address t in omega arith
-sides_tests (direction.Both And) prefix address s t = let l = side_tests prefix address s in let m = side_tests prefix address t in omega arith
-
-pub needed_tests_fit : (link : Link) (k : ValueType) (p : Option Protocol) (d : Direction) (v : Value) → tests (value_needed link k p d v) ≤ count.typed_tests k p d v
-needed_tests_fit link Net p d (value.Ip6 a n) = let l = sides_tests d n a (network_offset link + 8) (network_offset link + 24) in omega arith
-needed_tests_fit link Net p d (value.Number n m) = value_tests_fit link Net p d (value.Number n m)
-needed_tests_fit link Net p d (value.Dotted a m) = value_tests_fit link Net p d (value.Dotted a m)
-needed_tests_fit link Net p d (value.Mac a) = value_tests_fit link Net p d (value.Mac a)
-needed_tests_fit link Net p d (value.Range a b) = value_tests_fit link Net p d (value.Range a b)
-needed_tests_fit link Host p d v = value_tests_fit link Host p d v
-needed_tests_fit link Port p d v = value_tests_fit link Port p d v
-needed_tests_fit link PortRange p d v = value_tests_fit link PortRange p d v
-needed_tests_fit link Proto p d v = value_tests_fit link Proto p d v
-
-pub bare_needed : (link : Link) (k : ValueType) (p : Option Protocol) (d : Direction) (v : Value) → Bare (value_needed link k p d v)
-bare_needed link Net p d (value.Ip6 a n) = bare_guard _ _ (bare_sides d _ _)
-bare_needed link Net p d (value.Number n m) = bare_value link Net p d (value.Number n m)
-bare_needed link Net p d (value.Dotted a m) = bare_value link Net p d (value.Dotted a m)
-bare_needed link Net p d (value.Mac a) = bare_value link Net p d (value.Mac a)
-bare_needed link Net p d (value.Range a b) = bare_value link Net p d (value.Range a b)
-bare_needed link Host p d v = bare_value link Host p d v
-bare_needed link Port p d v = bare_value link Port p d v
-bare_needed link PortRange p d v = bare_value link PortRange p d v
-bare_needed link Proto p d v = bare_value link Proto p d v
+pub bare_needed : (link : Link) (k : ValueType) (p : Option Protocol) (d : Direction) (v : Value) → Bare (value_needed link k p d v) (count.typed_tests k p d v)
+bare_needed link Net p d (value.Ip6 a n) =
+    bare_after (bare_sides d _ _ 4 (fewer (ip6_tests n a (network_offset link + 8))) (fewer (ip6_tests n a (network_offset link + 24))) (omega arith))
+bare_needed link k p d v = bare_value link k p d v
 
 -- ---- the same reading
-
-both_are : (a b : Bool) → (a && b) ≡ true → (a ≡ true) × (b ≡ true)
-both_are true true e = (refl, refl)
-both_are true false e = cc
-both_are false b e = cc
 
 -- an idle test is yes of each number
 idle_holds : (mask : Option ℕ) (a v : ℕ) → (is_empty mask && a == 0) ≡ true → (under_mask mask v == a) ≡ true
 idle_holds None a v e = cc
 idle_holds (Some m) a v e =
-    let b = both_are (m == 0) (a == 0) e in
+    let b = both_true (m == 0) (a == 0) e in
     let no_bits : m ≡ 0 = (let z = b.0 in grind (arith, nat_tests)) in
     let zero_is : a ≡ 0 = (let z = b.1 in grind (arith, nat_tests)) in
     let none : bit_and v m ≡ 0 = ap (λ x. bit_and v x) no_bits ∙ and_zero_r v in
     let same : bit_and v m ≡ a = none ∙ sym zero_is in
     grind (arith, nat_tests)
 
-and_yes : (r : Reading) → both r Yes ≡ r
+and_yes : (r : MatchResult) → both r Yes ≡ r
 and_yes Yes = refl
 and_yes No = refl
 and_yes Rejected = refl
 
--- a word's test, by its place
-abbrev word_mask : Option ℕ → ℕ → Option ℕ
-word_mask prefix word = with prefix (λ bits. partial_mask (first_bits 32 (bits - 32 * word)))
+-- tests of words, each after the one before, by masks and values
+abbrev tests_from : ℕ → List (Option ℕ × ℕ) → List Elementary
+tests_from at [] = []
+tests_from at (w ∷ ws) = address_test w.0 w.1 (Fixed at) ∷ tests_from (at + 4) ws
 
-abbrev word_value : ℕ → ℕ → ℕ
-word_value address word = address / 2 ^ (96 - 32 * word) % 2 ^ 32
+abbrev word_of : Option ℕ → ℕ → ℕ → Option ℕ × ℕ
+word_of prefix address word = (with prefix (λ bits. partial_mask (first_bits 32 (bits - 32 * word))), address / 2 ^ (96 - 32 * word) % 2 ^ 32)
 
-word_is : (prefix : Option ℕ) (address at word place : ℕ) → at + 4 * word ≡ place → ip6_test prefix address at word ≡ address_test (word_mask prefix word) (word_value address word) (Fixed place)
-word_is prefix address at word place e = ap (λ k. address_test (word_mask prefix word) (word_value address word) (Fixed k)) e
+abbrev four_words : Option ℕ → ℕ → List (Option ℕ × ℕ)
+four_words prefix address = word_of prefix address 0 ∷ word_of prefix address 1 ∷ word_of prefix address 2 ∷ word_of prefix address 3 ∷ []
+
+words_are : (prefix : Option ℕ) (address at : ℕ) → ip6_tests prefix address at ≡ tests_from at (four_words prefix address)
+words_are prefix address at =
+    four _ _ _ _ _ _ _ _ (word_is 0 at (omega arith)) (word_is 1 (at + 4) (omega arith)) (word_is 2 (at + 4 + 4) (omega arith)) (word_is 3 (at + 4 + 4 + 4) (omega arith))
+  where
+    four : (a b c d e f g h : Elementary) → a ≡ e → b ≡ f → c ≡ g → d ≡ h → (a ∷ b ∷ c ∷ d ∷ []) ≡ (e ∷ f ∷ g ∷ h ∷ [])
+    four a b c d e f g h i j k l = cc
+
+    word_is : (word place : ℕ) → at + 4 * word ≡ place → ip6_test prefix address at word ≡ address_test (word_of prefix address word).0 (word_of prefix address word).1 (Fixed place)
+    word_is word place e = ap (λ k. address_test (word_of prefix address word).0 (word_of prefix address word).1 (Fixed k)) e
 
 module _ (link : Link) (p : List ℕ) (n : ℕ) where
-  all_put : (t : Elementary) (ts : List Elementary) → reads link (all_of (t ∷ ts)) p n ≡ both (elementary_reads t p) (reads link (all_of ts) p n)
+  abbrev told : List Elementary → MatchResult
+  told ts = reads link (all_of ts) p n
+
+  all_put : (t : Elementary) (ts : List Elementary) → told (t ∷ ts) ≡ both (elementary_reads t p) (told ts)
   all_put t [] = sym (and_yes (elementary_reads t p))
   all_put t (u ∷ ts) = refl
-
-  -- tests of words, each after the one before
-  abbrev Words : ℕ → List Elementary → Type 0
-  Words at [] = Unit {0}
-  Words at (t ∷ ts) = (mask : Option ℕ) × (a : ℕ) × (t ≡ address_test mask a (Fixed at)) × Words (at + 4) ts
 
   later_none : (at : ℕ) → field p at Word ≡ None → field p (at + 4) Word ≡ None
   later_none at e =
@@ -137,75 +98,47 @@ module _ (link : Link) (p : List ℕ) (n : ℕ) where
       cut_off true x f = cc
       cut_off false x f = refl
 
-  -- a word that isn't captured rejects
-  word_rejected : (mask : Option ℕ) (a at : ℕ) → field p at Word ≡ None → elementary_reads (address_test mask a (Fixed at)) p ≡ Rejected
-  word_rejected mask a at e = ap (λ o. reading_of (with o (λ v. Some (under_mask mask v == a)))) e
+  -- a test of a word by what is captured there
+  abbrev of_word : Option ℕ × ℕ → Option ℕ → MatchResult
+  of_word w o = reading_of (with o (λ v. Some (under_mask w.0 v == w.1)))
 
-  first_rejected : (at : ℕ) (t : Elementary) (ts : List Elementary) → Words at (t ∷ ts) → field p at Word ≡ None → reads link (all_of (t ∷ ts)) p n ≡ Rejected
-  first_rejected at t ts w e =
-      all_put t ts ∙ ap (λ r. both r (reads link (all_of ts) p n)) (ap (λ u. elementary_reads u p) w.2 ∙ word_rejected w.0 w.1 at e)
-
-  -- so an idle test in front of others decides nothing
-  idle_first : (at : ℕ) (t u : Elementary) (ts : List Elementary) → Words at (t ∷ u ∷ ts) → is_idle t ≡ true → both (elementary_reads t p) (reads link (all_of (u ∷ ts)) p n) ≡ reads link (all_of (u ∷ ts)) p n
-  idle_first at t u ts w e = by_field (field p at Word) refl
+  -- an idle test in front of others decides nothing: where its word isn't captured, the next isn't
+  idle_first : (at : ℕ) (w u : Option ℕ × ℕ) (ws : List (Option ℕ × ℕ)) → (is_empty w.0 && w.1 == 0) ≡ true → both (of_word w (field p at Word)) (told (tests_from (at + 4) (u ∷ ws))) ≡ told (tests_from (at + 4) (u ∷ ws))
+  idle_first at w u ws e = by_field (field p at Word) refl
     where
-      idle : (is_empty w.0 && w.1 == 0) ≡ true
-      idle = ap is_idle (sym w.2) ∙ e
+      later : MatchResult
+      later = told (tests_from (at + 4) (u ∷ ws))
 
-      by_field : (o : Option ℕ) → field p at Word ≡ o → both (elementary_reads t p) (reads link (all_of (u ∷ ts)) p n) ≡ reads link (all_of (u ∷ ts)) p n
-      by_field None f =
-          let r = first_rejected (at + 4) u ts w.3 (later_none at f) in
-          ap (λ x. both x (reads link (all_of (u ∷ ts)) p n)) (ap (λ x. elementary_reads x p) w.2 ∙ word_rejected w.0 w.1 at f) ∙ sym r
-      by_field (Some v) f =
-          ap (λ x. both x (reads link (all_of (u ∷ ts)) p n))
-          (ap (λ x. elementary_reads x p) w.2
-          ∙ ap (λ o. reading_of (with o (λ x. Some (under_mask w.0 x == w.1)))) f
-          ∙ ap (λ b. reading_of (Some b)) (idle_holds w.0 w.1 v idle))
+      by_field : (o : Option ℕ) → field p at Word ≡ o → both (of_word w o) later ≡ later
+      by_field None f = sym (all_put _ (tests_from (at + 4 + 4) ws) ∙ ap (λ o. both (of_word u o) (told (tests_from (at + 4 + 4) ws))) (later_none at f))
+      by_field (Some v) f = ap (λ b. both (reading_of (Some b)) later) (idle_holds w.0 w.1 v e)
 
-  last_same : (at : ℕ) (t : Elementary) → Words at (t ∷ []) → elementary_reads (last_test t) p ≡ elementary_reads t p
-  last_same at t w =
-      ap (λ x. elementary_reads (last_test x) p) w.2 ∙ of_word w.0 w.1 ∙ sym (ap (λ x. elementary_reads x p) w.2)
+  last_same : (w : Option ℕ × ℕ) (at : ℕ) → elementary_reads (last_test (address_test w.0 w.1 (Fixed at))) p ≡ of_word w (field p at Word)
+  last_same w at =
+      if_case (λ x. elementary_reads x p ≡ of_word w (field p at Word)) (is_empty w.0 && w.1 == 0) (capture_test (address_test w.0 w.1 (Fixed at))) (address_test w.0 w.1 (Fixed at))
+      (λ e. captured_same e (field p at Word)) (λ e. refl)
     where
-      captured_same : (mask : Option ℕ) (a : ℕ) → (is_empty mask && a == 0) ≡ true → (o : Option ℕ) → reading_of (with o (λ v. Some (nat_le 0 v))) ≡ reading_of (with o (λ v. Some (under_mask mask v == a)))
-      captured_same mask a e None = refl
-      captured_same mask a e (Some v) =
+      captured_same : (is_empty w.0 && w.1 == 0) ≡ true → (o : Option ℕ) → reading_of (with o (λ v. Some (nat_le 0 v))) ≡ of_word w o
+      captured_same e None = refl
+      captured_same e (Some v) =
           let low : nat_le 0 v ≡ true = grind (arith, nat_tests) in
-          ap (λ b. reading_of (Some b)) (low ∙ sym (idle_holds mask a v e))
+          ap (λ b. reading_of (Some b)) (low ∙ sym (idle_holds w.0 w.1 v e))
 
-      of_word : (mask : Option ℕ) (a : ℕ) → elementary_reads (last_test (address_test mask a (Fixed at))) p ≡ elementary_reads (address_test mask a (Fixed at)) p
-      of_word mask a =
-          if_case (λ x. elementary_reads x p ≡ elementary_reads (address_test mask a (Fixed at)) p) (is_empty mask && a == 0) (capture_test (address_test mask a (Fixed at))) (address_test mask a (Fixed at))
-          (λ e. captured_same mask a e (field p at Word)) (λ e. refl)
+  needed_same : (at : ℕ) (ws : List (Option ℕ × ℕ)) → told (needed_tests (tests_from at ws)) ≡ told (tests_from at ws)
+  needed_same at [] = refl
+  needed_same at (w ∷ []) = last_same w at
+  needed_same at (w ∷ u ∷ ws) =
+      let h = needed_same (at + 4) (u ∷ ws) in
+      let t = address_test w.0 w.1 (Fixed at) in
+      let later = needed_tests (tests_from (at + 4) (u ∷ ws)) in
+      if_case (λ xs. told xs ≡ told (tests_from at (w ∷ u ∷ ws))) (is_idle t) later (t ∷ later)
+      (λ e. h ∙ sym (idle_first at w u ws e))
+      (λ e. all_put t later ∙ ap (λ r. both (elementary_reads t p) r) h)
 
-  needed_same : (at : ℕ) (ts : List Elementary) → Words at ts → reads link (all_of (needed_tests ts)) p n ≡ reads link (all_of ts) p n
-  needed_same at [] w = refl
-  needed_same at (t ∷ []) w = last_same at t w
-  needed_same at (t ∷ u ∷ ts) w =
-      let h = needed_same (at + 4) (u ∷ ts) w.3 in
-      if_case (λ xs. reads link (all_of xs) p n ≡ reads link (all_of (t ∷ u ∷ ts)) p n) (is_idle t) (needed_tests (u ∷ ts)) (t ∷ needed_tests (u ∷ ts))
-      (λ e. h ∙ sym (idle_first at t u ts w e))
-      (λ e. all_put t (needed_tests (u ∷ ts)) ∙ ap (λ r. both (elementary_reads t p) r) h)
-
-  words_are : (prefix : Option ℕ) (address at : ℕ) → Words at (ip6_tests prefix address at)
-  words_are prefix address at = (
-    word_mask prefix 0,
-    word_value address 0,
-    word_is prefix address at 0 at (omega arith),
-    (
-      word_mask prefix 1,
-      word_value address 1,
-      word_is prefix address at 1 (at + 4) (omega arith),
-      (
-        word_mask prefix 2,
-        word_value address 2,
-        word_is prefix address at 2 (at + 4 + 4) (omega arith),
-        (word_mask prefix 3, word_value address 3, word_is prefix address at 3 (at + 4 + 4 + 4) (omega arith), tt),
-      ),
-    ),
-  )
-
-  word_same : (prefix : Option ℕ) (address at : ℕ) → reads link (all_of (needed_tests (ip6_tests prefix address at))) p n ≡ reads link (all_of (ip6_tests prefix address at)) p n
-  word_same prefix address at = needed_same at (ip6_tests prefix address at) (words_are prefix address at)
+  word_same : (prefix : Option ℕ) (address at : ℕ) → told (needed_tests (ip6_tests prefix address at)) ≡ told (ip6_tests prefix address at)
+  word_same prefix address at =
+      let e = words_are prefix address at in
+      ap (λ ts. told (needed_tests ts)) e ∙ needed_same at (four_words prefix address) ∙ ap told (sym e)
 
   sides_same : (d : Direction) (s t u v : List Elementary) → reads link (all_of s) p n ≡ reads link (all_of u) p n → reads link (all_of t) p n ≡ reads link (all_of v) p n → reads link (sides d s t) p n ≡ reads link (sides d u v) p n
   sides_same (direction.One Source) s t u v h k = h
@@ -220,11 +153,4 @@ module _ (link : Link) (p : List ℕ) (n : ℕ) where
 
   pub value_same : (k : ValueType) (q : Option Protocol) (d : Direction) (v : Value) → reads link (value_needed link k q d v) p n ≡ reads link (value_formula link k q d v) p n
   value_same Net q d (value.Ip6 a m) = ip6_same d m a
-  value_same Net q d (value.Number a m) = refl
-  value_same Net q d (value.Dotted a m) = refl
-  value_same Net q d (value.Mac a) = refl
-  value_same Net q d (value.Range a b) = refl
-  value_same Host q d v = refl
-  value_same Port q d v = refl
-  value_same PortRange q d v = refl
-  value_same Proto q d v = refl
+  value_same k q d v = refl

@@ -4,7 +4,7 @@ use Rattle.std.specs.Prelude.{◌↔◌, ◌^◌, All, bit_and, slice_index}
 use Rattle.std.proofs.lemmas.Bool.Decides.{nat_tests}
 use Rattle.std.proofs.lemmas.Grind.{and_high_numeral}
 use Rattle.cap_octet.specs.Assigned.{ETHERTYPE_IPV4, ETHERTYPE_IPV6, ETHERTYPE_ARP, ETHERTYPE_RARP}
-use Rattle.cap_octet.specs.NetworkHeader.{header_after, network_header, of_type, of_version}
+use Rattle.cap_octet.specs.NetworkHeader.{header_after, network_header, header_by_ethertype, header_by_version}
 use Rattle.cap_octet.specs.Number.{u16_in, number_in}
 use Rattle.cap_octet.specs.declared.network.NetworkHeader.{NetworkHeader}
 use Rattle.cap_octet.specs.declared.network.NetworkHeader.TheVariants.{Known, OtherType, OtherVersion, Short}
@@ -15,12 +15,12 @@ use Rattle.flt_bpf.specs.declared.operation.Width.TheVariants.{HalfWord}
 use Rattle.flt_bpf.specs.Machine.{big_endian_at}
 use Rattle.cap_octet.specs.declared.link.Link.{Link}
 use Rattle.cap_octet.specs.declared.link.Link.TheVariants.{Ether}
-use Rattle.flt_emit.specs.Elementary.{Reading, Yes, No, Rejected, reading_of, with, elementary_reads, is_at, kind_test, type_test}
+use Rattle.flt_emit.specs.Elementary.{MatchResult, Yes, No, Rejected, reading_of, with, elementary_reads, is_at, kind_test, type_test}
 use Rattle.cap_octet.specs.Link.{all_links, link_of, link_type, type_offset}
 use Rattle.flt_gen.specs.Laws.{frame_kind, carries_kind, carries}
 
 -- a test reads what a packet's header is
-pub record Agrees (reading : Reading) (header : NetworkHeader) (kind : NetworkKind) (carries_kind : Bool) : Type 0 where
+pub record Agrees (reading : MatchResult) (header : NetworkHeader) (kind : NetworkKind) (carries_kind : Bool) : Type 0 where
   pub matches : (reading ≡ Yes) ↔ (header ≡ Known kind)
   pub rejects : (reading ≡ Rejected) ↔ ((header ≡ Short) × (carries_kind ≡ true))
 
@@ -30,7 +30,7 @@ type_of Ipv6 = ETHERTYPE_IPV6
 type_of Arp = ETHERTYPE_ARP
 type_of Rarp = ETHERTYPE_RARP
 
-type_is : (kind : NetworkKind) → of_type (type_of kind) ≡ Known kind
+type_is : (kind : NetworkKind) → header_by_ethertype (type_of kind) ≡ Known kind
 type_is Ipv4 = refl
 type_is Ipv6 = refl
 type_is Arp = refl
@@ -51,7 +51,7 @@ equal : (a b : ℕ) → (a == b) ≡ true → a ≡ b
 equal a b e = grind (arith, nat_tests)
 
 -- a number that is the type of a kind is equal to it
-type_back : (v : ℕ) (kind : NetworkKind) → of_type v ≡ Known kind → (v == type_of kind) ≡ true
+type_back : (v : ℕ) (kind : NetworkKind) → header_by_ethertype v ≡ Known kind → (v == type_of kind) ≡ true
 type_back v kind = go (v == ETHERTYPE_IPV4) (v == ETHERTYPE_IPV6) (v == ETHERTYPE_ARP) (v == ETHERTYPE_RARP) refl refl refl refl
   where
     at : (k : NetworkKind) → (v == type_of k) ≡ true → Known k ≡ Known kind → (v == type_of kind) ≡ true
@@ -66,7 +66,7 @@ type_back v kind = go (v == ETHERTYPE_IPV4) (v == ETHERTYPE_IPV6) (v == ETHERTYP
     go false false false true ta tb tc td e = at Rarp td e
     go false false false false ta tb tc td e = absurd (cc)
 
-type_not_short : (v : ℕ) → of_type v ≡ Short → ⊥
+type_not_short : (v : ℕ) → header_by_ethertype v ≡ Short → ⊥
 type_not_short v = go (v == ETHERTYPE_IPV4) (v == ETHERTYPE_IPV6) (v == ETHERTYPE_ARP) (v == ETHERTYPE_RARP)
   where
     go : (a b c d : Bool) → (if a then Known Ipv4 else if b then Known Ipv6 else if c then Known Arp else if d then Known Rarp else OtherType v) ≡ Short → ⊥
@@ -80,10 +80,10 @@ type_not_short v = go (v == ETHERTYPE_IPV4) (v == ETHERTYPE_IPV6) (v == ETHERTYP
 nothing_there : (kind : NetworkKind) → Agrees (reading_of None) Short kind true
 nothing_there kind = record { matches = (λ e. absurd (cc), λ e. absurd (cc)); rejects = (λ e. (refl, refl), λ e. refl) }
 
-number_there : (v : ℕ) (kind : NetworkKind) → Agrees (reading_of (Some (v == type_of kind))) (of_type v) kind true
+number_there : (v : ℕ) (kind : NetworkKind) → Agrees (reading_of (Some (v == type_of kind))) (header_by_ethertype v) kind true
 number_there v kind = record {
   matches = (
-    λ e. ap of_type (equal v (type_of kind) (is_yes (v == type_of kind) e)) ∙ type_is kind,
+    λ e. ap header_by_ethertype (equal v (type_of kind) (is_yes (v == type_of kind) e)) ∙ type_is kind,
     λ e. ap (λ b. reading_of (Some b)) (type_back v kind e),
   );
   rejects = (λ e. absurd (not_rejected (v == type_of kind) e), λ e. absurd (type_not_short v e.0));
@@ -97,11 +97,11 @@ same_number p at =
     omega (arith, first, second)
 
 -- by the type at a place
-at_type : (at : ℕ) (kind : NetworkKind) (p : List ℕ) → Agrees (elementary_reads (is_at at HalfWord (type_of kind)) p) (if nat_lt (length p) (at + 2) then Short else of_type (u16_in Big p at)) kind true
+at_type : (at : ℕ) (kind : NetworkKind) (p : List ℕ) → Agrees (elementary_reads (is_at at HalfWord (type_of kind)) p) (if nat_lt (length p) (at + 2) then Short else header_by_ethertype (u16_in Big p at)) kind true
 at_type at kind p = rw (same_number p at) (go (nat_le (at + 2) (length p)) (nat_lt (length p) (at + 2)) refl refl)
   where
     go : (long short : Bool) → nat_le (at + 2) (length p) ≡ long → nat_lt (length p) (at + 2) ≡ short
-        → Agrees (reading_of (with (if long then Some (big_endian_at p at HalfWord) else None) (λ (x : ℕ). Some (x == type_of kind)))) (if short then Short else of_type (big_endian_at p at HalfWord)) kind true
+        → Agrees (reading_of (with (if long then Some (big_endian_at p at HalfWord) else None) (λ (x : ℕ). Some (x == type_of kind)))) (if short then Short else header_by_ethertype (big_endian_at p at HalfWord)) kind true
     go true false long short = number_there (big_endian_at p at HalfWord) kind
     go false true long short = nothing_there kind
     go true true long short = absurd (grind (arith, nat_tests))
@@ -126,16 +126,16 @@ version_test v n m times upper_bound = go (bit_and v 0xf0 == m) (v / 16 == n) re
         let back : bit_and v 0xf0 ≡ m = omega (arith, high) in
         absurd (grind (arith, nat_tests))
 
-is_four : (w : ℕ) → (w == 4) ≡ true ↔ (of_version w ≡ Known Ipv4)
-is_four w = (λ test. ap of_version (equal w 4 test), go (w == 4) (w == 6) refl)
+is_four : (w : ℕ) → (w == 4) ≡ true ↔ (header_by_version w ≡ Known Ipv4)
+is_four w = (λ test. ap header_by_version (equal w 4 test), go (w == 4) (w == 6) refl)
   where
     go : (a b : Bool) → (w == 4) ≡ a → (if a then Known Ipv4 else if b then Known Ipv6 else OtherVersion w) ≡ Known Ipv4 → (w == 4) ≡ true
     go true b test e = test
     go false true test e = absurd (cc)
     go false false test e = absurd (cc)
 
-is_six : (w : ℕ) → (w == 6) ≡ true ↔ (of_version w ≡ Known Ipv6)
-is_six w = (λ test. ap of_version (equal w 6 test), go (w == 4) (w == 6) refl)
+is_six : (w : ℕ) → (w == 6) ≡ true ↔ (header_by_version w ≡ Known Ipv6)
+is_six w = (λ test. ap header_by_version (equal w 6 test), go (w == 4) (w == 6) refl)
   where
     go : (a b : Bool) → (w == 6) ≡ b → (if a then Known Ipv4 else if b then Known Ipv6 else OtherVersion w) ≡ Known Ipv6 → (w == 6) ≡ true
     go a true test e = test
@@ -149,7 +149,7 @@ IsIp (Known Ipv6) = Unit {0}
 IsIp (OtherVersion w) = Unit {0}
 IsIp _ = ⊥
 
-version_ip : (w : ℕ) → IsIp (of_version w)
+version_ip : (w : ℕ) → IsIp (header_by_version w)
 version_ip w = go (w == 4) (w == 6)
   where
     go : (a b : Bool) → IsIp (if a then Known Ipv4 else if b then Known Ipv6 else OtherVersion w)
@@ -157,15 +157,15 @@ version_ip w = go (w == 4) (w == 6)
     go false true = tt
     go false false = tt
 
-not_ip : {header : NetworkHeader} (w : ℕ) → (IsIp header → ⊥) → of_version w ≡ header → ⊥
+not_ip : {header : NetworkHeader} (w : ℕ) → (IsIp header → ⊥) → header_by_version w ≡ header → ⊥
 not_ip w other e = other (subst IsIp e (version_ip w))
 
 first_byte : (p : List ℕ) → All (λ b. b < 2 ^ 8) p → nat_le (0 + 1) (length p) ≡ true → slice_index p 0 < 2 ^ 8
 first_byte p bytes long = bytes 0 0 (grind (arith, nat_tests))
 
 -- by the version of IP n, which the mask leaves as m
-module _ (kind : NetworkKind) (n m : ℕ) (times : m ≡ 16 * n) (is : (w : ℕ) → (w == n) ≡ true ↔ (of_version w ≡ Known kind)) where
-  version_there : (v : ℕ) → v < 2 ^ 8 → Agrees (reading_of (Some (bit_and v 0xf0 == m))) (of_version (v / 16)) kind true
+module _ (kind : NetworkKind) (n m : ℕ) (times : m ≡ 16 * n) (is : (w : ℕ) → (w == n) ≡ true ↔ (header_by_version w ≡ Known kind)) where
+  version_there : (v : ℕ) → v < 2 ^ 8 → Agrees (reading_of (Some (bit_and v 0xf0 == m))) (header_by_version (v / 16)) kind true
   version_there v upper_bound = record {
     matches = (
       λ e. (is (v / 16)).0 (sym (version_test v n m times upper_bound) ∙ is_yes (bit_and v 0xf0 == m) e),
@@ -175,11 +175,11 @@ module _ (kind : NetworkKind) (n m : ℕ) (times : m ≡ 16 * n) (is : (w : ℕ)
   }
 
   by_version : (p : List ℕ) → All (λ b. b < 2 ^ 8) p
-      → Agrees (reading_of (with (if nat_le (0 + 1) (length p) then Some (slice_index p 0) else None) (λ (x : ℕ). Some (bit_and x 0xf0 == m)))) (if length p == 0 then Short else of_version (slice_index p 0 / 16)) kind true
+      → Agrees (reading_of (with (if nat_le (0 + 1) (length p) then Some (slice_index p 0) else None) (λ (x : ℕ). Some (bit_and x 0xf0 == m)))) (if length p == 0 then Short else header_by_version (slice_index p 0 / 16)) kind true
   by_version p bytes = go (nat_le (0 + 1) (length p)) (length p == 0) refl refl
     where
       go : (long none : Bool) → nat_le (0 + 1) (length p) ≡ long → (length p == 0) ≡ none
-          → Agrees (reading_of (with (if long then Some (slice_index p 0) else None) (λ (x : ℕ). Some (bit_and x 0xf0 == m)))) (if none then Short else of_version (slice_index p 0 / 16)) kind true
+          → Agrees (reading_of (with (if long then Some (slice_index p 0) else None) (λ (x : ℕ). Some (bit_and x 0xf0 == m)))) (if none then Short else header_by_version (slice_index p 0 / 16)) kind true
       go true false long none = version_there (slice_index p 0) (first_byte p bytes long)
       go false true long none = nothing_there kind
       go true true long none = absurd (grind (arith, nat_tests))
@@ -192,7 +192,7 @@ not_carried kind p other = record {
   rejects = (λ e. absurd (cc), λ e. absurd (let true_is = e.1 in cc));
 }
   where
-    go : (none : Bool) → (if none then Short else of_version (slice_index p 0 / 16)) ≡ Known kind → ⊥
+    go : (none : Bool) → (if none then Short else header_by_version (slice_index p 0 / 16)) ≡ Known kind → ⊥
     go true e = absurd (cc)
     go false e = not_ip (slice_index p 0 / 16) other e
 

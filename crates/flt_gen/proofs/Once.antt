@@ -4,17 +4,16 @@ use Rattle.flt_words.specs.declared.token.Comparison.{Comparison}
 use Rattle.flt_words.specs.declared.token.Protocol.{Protocol}
 use Rattle.flt_words.specs.declared.token.Protocol.TheVariants.{Ether, Ip, Ip6, Arp, Rarp, Tcp, Udp, Icmp, Icmp6}
 use Rattle.flt_ast.specs.Tree.{NumberTree, literal, len, named, load, negated, applied, compared}
-use Rattle.flt_ast.specs.Counts.{number_tests, truth_tests}
+use Rattle.flt_ast.specs.Counts.{accessor_test_count, number_tests, truth_tests}
 use Rattle.cap_octet.specs.declared.link.Link.{Link}
 use Rattle.flt_emit.specs.declared.elementary.Elementary.{Elementary}
-use Rattle.flt_emit.specs.Elementary.{Reading, Yes, No, Rejected, elementary_reads}
+use Rattle.flt_emit.specs.Elementary.{MatchResult, Yes, No, Rejected, elementary_reads}
 use Rattle.flt_emit.specs.Numbers.{accessors, accessor_tests}
 use Rattle.flt_emit.specs.Formula.{Formula, Compare, both, reads, guarded_formula, checked_formula}
-use Rattle.flt_gen.specs.inside.Counts.{tests}
+use Rattle.flt_gen.specs.inside.Counts.{tests, nodes, words}
 use Rattle.flt_gen.specs.inside.Emitted.{equals, without_protocol, protocols_of, relation_formula}
 use Rattle.flt_gen.specs.Reading.{formula}
-use Rattle.flt_gen.proofs.Ascending.{if_case}
-use Rattle.flt_gen.proofs.Counted.{accessor_tests_are}
+use Rattle.flt_gen.proofs.Ascending.{if_case, Searches}
 
 equal_are : (p q : Protocol) → equals p q ≡ true → p ≡ q
 equal_are Ether Ether e = refl
@@ -26,17 +25,34 @@ equal_are Tcp Tcp e = refl
 equal_are Udp Udp e = refl
 equal_are Icmp Icmp e = refl
 equal_are Icmp6 Icmp6 e = refl
-equal_are Ether _ e = cc
-equal_are Ip _ e = cc
-equal_are Ip6 _ e = cc
-equal_are Arp _ e = cc
-equal_are Rarp _ e = cc
-equal_are Tcp _ e = cc
-equal_are Udp _ e = cc
-equal_are Icmp _ e = cc
-equal_are Icmp6 _ e = cc
+equal_are _ _ e = cc
+
+-- the tests of accessors add neither nodes nor words, and search for nothing
+pub record SameSizes (f g : Formula) : Type 0 where
+  pub nodes_are : nodes f ≡ nodes g
+  pub words_are : words f ≡ words g
+  pub searches : Searches g → Searches f
+
+guarded_sizes : (ts : List Elementary) (f : Formula) → SameSizes (guarded_formula ts f) f
+guarded_sizes [] f = record { nodes_are = refl; words_are = refl; searches = λ s. s }
+guarded_sizes (t ∷ ts) f =
+    let h = guarded_sizes ts f in
+    record { nodes_are = omega (arith, h.nodes_are); words_are = omega (arith, h.words_are); searches = λ s. (tt, h.searches s) }
+
+pub same_sizes : (link : Link) (ps : List Protocol) (f : Formula) → SameSizes (checked_formula link ps f) f
+same_sizes link [] f = record { nodes_are = refl; words_are = refl; searches = λ s. s }
+same_sizes link (p ∷ ps) f =
+    let h = same_sizes link ps f in
+    let g = guarded_sizes (accessor_tests link p) (checked_formula link ps f) in
+    record { nodes_are = g.nodes_are ∙ h.nodes_are; words_are = g.words_are ∙ h.words_are; searches = λ s. g.searches (h.searches s) }
 
 -- no more tests
+accessor_tests_are : (link : Link) (p : Protocol) (f : Formula) → tests (guarded_formula (accessor_tests link p) f) ≡ accessor_test_count p + tests f
+accessor_tests_are link Tcp f = omega arith
+accessor_tests_are link Udp f = omega arith
+accessor_tests_are link Icmp f = omega arith
+accessor_tests_are link _ f = refl
+
 without_tests : (link : Link) (p : Protocol) (qs : List Protocol) (f : Formula) → tests (checked_formula link (without_protocol p qs) f) ≤ tests (checked_formula link qs f)
 without_tests link p [] f = omega arith
 without_tests link p (q ∷ qs) f =
@@ -67,23 +83,23 @@ relation_tests link c l r =
     omega arith
 
 -- the same reading
-both_again : (a b r : Reading) → both a (both b r) ≡ both (both a b) r
+both_again : (a b r : MatchResult) → both a (both b r) ≡ both (both a b) r
 both_again Yes b r = refl
 both_again No b r = refl
 both_again Rejected b r = refl
 
 -- after a test that holds
-if_yes : (a r s : Reading) → (a ≡ Yes → r ≡ s) → both a r ≡ both a s
+if_yes : (a r s : MatchResult) → (a ≡ Yes → r ≡ s) → both a r ≡ both a s
 if_yes Yes r s h = h refl
 if_yes No r s h = refl
 if_yes Rejected r s h = refl
 
 module _ (link : Link) (p : List ℕ) (n : ℕ) where
-  abbrev all_read : List Elementary → Reading
+  abbrev all_read : List Elementary → MatchResult
   all_read [] = Yes
   all_read (t ∷ ts) = both (elementary_reads t p) (all_read ts)
 
-  abbrev told : Protocol → Reading
+  abbrev told : Protocol → MatchResult
   told q = all_read (accessor_tests link q)
 
   guarded_read : (ts : List Elementary) (f : Formula) → reads link (guarded_formula ts f) p n ≡ both (all_read ts) (reads link f p n)
@@ -91,7 +107,7 @@ module _ (link : Link) (p : List ℕ) (n : ℕ) where
   guarded_read (t ∷ ts) f = ap (λ r. both (elementary_reads t p) r) (guarded_read ts f) ∙ both_again (elementary_reads t p) (all_read ts) (reads link f p n)
 
   -- what is read after the tests of protocols
-  abbrev following : List Protocol → Formula → Reading
+  abbrev following : List Protocol → Formula → MatchResult
   following qs f = reads link (checked_formula link qs f) p n
 
   one_read : (q : Protocol) (qs : List Protocol) (f : Formula) → following (q ∷ qs) f ≡ both (told q) (following qs f)

@@ -10,22 +10,32 @@ use Rattle.flt_ast.specs.declared.node.Node.{Node}
 use Rattle.flt_ast.specs.declared.node.Node.TheVariants.{Apply, Compare, Literal, Not}
 use Rattle.flt_bpf.specs.declared.operation.Operand.TheVariants.{Constant, IndexRegister}
 use Rattle.flt_words.specs.declared.token.Operator.{Operator}
-use Rattle.flt_emit.specs.declared.elementary.Elementary.TheVariants.{Outcome}
-use Rattle.flt_gen.specs.Primitives.{check_formula, cast_formula, sized_formula}
+use Rattle.flt_gen.specs.Reading.{formula}
 use Rattle.flt_gen.specs.inside.Group.{Group, no_group, larger_group, truth_member, choice, or_any, or_group, group_formula, grouped_formula}
-use Rattle.flt_ast.specs.Tree.{NumberTree, literal, len, named, load, negated, applied, TruthTree, check, cast, sized, bare, valued, qualified, compared, denied, joined, Expression, empty, truth}
+use Rattle.flt_ast.specs.Tree.{NumberTree, literal, len, named, load, negated, applied, TruthTree, qualified, compared, denied, joined, Expression, empty, truth}
 use Rattle.flt_ast.specs.inside.Nodes.{number_onto, truth_onto, expr_onto}
 use Rattle.cap_octet.specs.declared.link.Link.{Link}
 use Rattle.flt_emit.specs.declared.code.Targets.{Targets}
 use Rattle.flt_gen.specs.declared.waiting.LeftTruth.{LeftTruth}
 use Rattle.flt_gen.specs.declared.waiting.Pending.TheVariants as next
 use Rattle.flt_gen.specs.inside.Emitted.{protocols_of, relation_formula, qualified_needed}
-use Rattle.flt_emit.specs.Formula.{Formula, Single, Both, Either, Except, Compare as compare}
-use Rattle.flt_emit.specs.inside.Follow.{nothing}
-use Rattle.flt_emit.specs.inside.Code.{plain, computation, takes, emit_comparison, emit_operands, emit_right, emit_number, Block, emit_formula}
+use Rattle.flt_emit.specs.Formula.{Formula, Both, Either, Except, Compare as compare, guarded_formula, checked_formula}
+use Rattle.flt_emit.specs.Numbers.{accessor_tests}
+use Rattle.flt_emit.specs.declared.elementary.Elementary.{Elementary}
+use Rattle.flt_words.specs.declared.token.Protocol.{Protocol}
+use Rattle.flt_emit.specs.inside.Code.{plain, computation, takes, emit_comparison, emit_operands, emit_right, emit_number, Block, emit_elementary, emit_formula, emit_all}
 use Rattle.flt_gen.specs.inside.ProgramCode.{emit_accessors, expression_code}
 use Rattle.flt_gen.specs.inside.Walk.{Walk, targets, finish_truth, finish_number, with_insns, finish_formula, flush_members, flush_group, emit_value, emit_truth_node, emit_node, or_walk, start_walk, emit_nodes}
-use Rattle.flt_gen.proofs.Joined.{checked_emitted}
+
+guarded_emitted : (link : Link) (ts : List Elementary) (f : Formula) (hit miss : ℕ) (c : List Insn) → emit_formula link (guarded_formula ts f) hit miss c ≡ (let e = emit_formula link f hit miss c in emit_all ts e.entry miss e.code)
+guarded_emitted link [] f hit miss c = refl
+guarded_emitted link (t ∷ ts) f hit miss c = ap (λ (e : Block). emit_elementary t e.entry miss e.code) (guarded_emitted link ts f hit miss c)
+
+-- the tests of accessors stand in front of the formula that they guard
+checked_emitted : (link : Link) (ps : List Protocol) (f : Formula) (hit miss : ℕ) (c : List Insn) → emit_formula link (checked_formula link ps f) hit miss c ≡ (let e = emit_formula link f hit miss c in emit_accessors link ps e.entry miss e.code)
+checked_emitted link [] f hit miss c = refl
+checked_emitted link (p ∷ ps) f hit miss c =
+    guarded_emitted link (accessor_tests link p) (checked_formula link ps f) hit miss c ∙ ap (λ (e : Block). emit_all (accessor_tests link p) e.entry miss e.code) (checked_emitted link ps f hit miss c)
 
 -- a number's code and accessors are put
 abbrev with_number : Link → NumberTree → Walk → Walk
@@ -45,9 +55,7 @@ number_walked link (negated a) w d = number_walked link a _ d
 number_walked link (applied o a (literal k)) w d = constant_walked link o k a w d (λ v. number_walked link a v d) (takes o k)
 number_walked link (applied o a (named k)) w d = constant_walked link o k a w d (λ v. number_walked link a v d) (takes o k)
 number_walked link (applied o a len) w d = number_walked link a _ d
-number_walked link (applied o a (load p s i)) w d = number_walked link (load p s i) _ (number_onto a d) ∙ number_walked link a _ d
-number_walked link (applied o a (negated i)) w d = number_walked link (negated i) _ (number_onto a d) ∙ number_walked link a _ d
-number_walked link (applied o a (applied q x y)) w d = number_walked link (applied q x y) _ (number_onto a d) ∙ number_walked link a _ d
+number_walked link (applied o a r) w d = number_walked link r _ (number_onto a d) ∙ number_walked link a _ d
 
 -- a walk between two truths, with hosts that wait; and one after an or
 abbrev pub waiting : List Insn → Targets → List LeftTruth → Group → Walk
@@ -61,7 +69,7 @@ between c to ts = waiting c to ts no_group
 
 -- where a truth and the hosts after it go on
 abbrev emit_of : Link → Formula → List Insn → Targets → List LeftTruth → Walk
-emit_of link f c to ts = finish_truth (emit_formula link nothing f to.yes to.no c) (between c to ts)
+emit_of link f c to ts = finish_truth (emit_formula link f to.yes to.no c) (between c to ts)
 
 leaf_put : (link : Link) (f : Formula) (c : List Insn) (to : Targets) (ts : List LeftTruth) (group : Group) (bs : List ℕ) → finish_formula link f (flush_members link (waiting c to ts group) bs) ≡ emit_of link (or_any f (group_formula link group) bs) c to ts
 leaf_put link f c to ts group [] = refl
@@ -79,41 +87,28 @@ comparison_walked link k b w d = emit_nodes link (emit_truth_node link w (Compar
 
 compare_walked : (link : Link) (k : Comparison) (b : NumberTree) (w : Walk) (d : List Node) → emit_nodes link w (Compare k ∷ number_onto b d) ≡ comparison_walked link k b (flush_group link w) d
 compare_walked link k (literal j) w d = refl
-compare_walked link k (named j) w d = refl
-compare_walked link k len w d = refl
-compare_walked link k (load p s i) w d = refl
-compare_walked link k (negated i) w d = refl
-compare_walked link k (applied o x y) w d = refl
+compare_walked link k _ w d = refl
 
 relation_walked : (link : Link) (k : Comparison) (a b : NumberTree) (c : List Insn) (to : Targets) (ts : List LeftTruth) (d : List Node) → comparison_walked link k b (between c to ts) (number_onto a d) ≡ emit_nodes link (emit_of link (relation_formula link k a b) c to ts) d
 relation_walked link k a b c to ts d =
     both b ∙ ap (λ (e : Block). emit_nodes link (finish_truth e (between c to ts)) d) (sym (checked_emitted link (protocols_of a (protocols_of b [])) (compare k a b) to.yes to.no c))
   where
-    both : (r : NumberTree) → comparison_walked link k r (between c to ts) (number_onto a d) ≡ (let e = emit_formula link nothing (compare k a r) to.yes to.no c in emit_nodes link (finish_truth (emit_accessors link (protocols_of a (protocols_of r [])) e.entry to.no e.code) (between c to ts)) d)
+    both : (r : NumberTree) → comparison_walked link k r (between c to ts) (number_onto a d) ≡ (let e = emit_formula link (compare k a r) to.yes to.no c in emit_nodes link (finish_truth (emit_accessors link (protocols_of a (protocols_of r [])) e.entry to.no e.code) (between c to ts)) d)
     both (literal j) = number_walked link a _ d
     both (named j) = number_walked link a _ d
     both len = number_walked link a _ d
-    both (load p s i) = number_walked link (load p s i) _ (number_onto a d) ∙ number_walked link a _ d
-    both (negated i) = number_walked link (negated i) _ (number_onto a d) ∙ number_walked link a _ d
-    both (applied o x y) = number_walked link (applied o x y) _ (number_onto a d) ∙ number_walked link a _ d
+    both r = number_walked link r _ (number_onto a d) ∙ number_walked link a _ d
 
 relation_settled : (link : Link) (k : Comparison) (a b : NumberTree) (c : List Insn) (to : Targets) (ts : List LeftTruth) (group : Group) (d : List Node) (bs : List ℕ) → comparison_walked link k b (flush_members link (waiting c to ts group) bs) (number_onto a d) ≡ emit_nodes link (emit_of link (or_any (relation_formula link k a b) (group_formula link group) bs) c to ts) d
 relation_settled link k a b c to ts group d [] = relation_walked link k a b c to ts d
 relation_settled link k a b c to ts group d (h ∷ hs) =
-    let e = emit_formula link nothing (group_formula link group) to.yes to.no c in
+    let e = emit_formula link (group_formula link group) to.yes to.no c in
     relation_walked link k a b e.code (targets to.yes e.entry) ts d
 
 -- a host that is the right operand of an or waits with those after it
 member_waits : (link : Link) (b : TruthTree) (c : List Insn) (to : Targets) (ts : List LeftTruth) (group more : Group) (d : List Node) → truth_member b group ≡ Some more → emit_nodes link (after_or c to ts group) (truth_onto b d) ≡ emit_nodes link (waiting c to ts more) d
 member_waits link (qualified q v) c to ts group more d e = ap (λ o. emit_nodes link (emit_value link q v (after_or c to ts group) o) d) e
-member_waits link (check p) c to ts group more d e = cc
-member_waits link (cast p k) c to ts group more d e = cc
-member_waits link (sized s n) c to ts group more d e = cc
-member_waits link (bare v) c to ts group more d e = cc
-member_waits link (valued q v) c to ts group more d e = cc
-member_waits link (compared k a b) c to ts group more d e = cc
-member_waits link (denied a) c to ts group more d e = cc
-member_waits link (joined j a b) c to ts group more d e = cc
+member_waits link _ c to ts group more d e = cc
 
 -- any other right operand is on its own, and the left one waits for it
 abbrev left_after_or : Targets → LeftTruth
@@ -122,16 +117,10 @@ left_after_or to = record { join = Or; to = to }
 right_begins : (link : Link) (b : TruthTree) (c : List Insn) (to : Targets) (ts : List LeftTruth) (group : Group) (d : List Node) → truth_member b group ≡ None → emit_nodes link (after_or c to ts group) (truth_onto b d) ≡ emit_nodes link (waiting c to (left_after_or to ∷ ts) group) (truth_onto b d)
 right_begins link (qualified q v) c to ts group d e =
     ap (λ o. emit_nodes link (emit_value link q v (after_or c to ts group) o) d) e ∙ sym (ap (λ o. emit_nodes link (emit_value link q v (waiting c to (left_after_or to ∷ ts) group) o) d) e)
-right_begins link (check p) c to ts group d e = refl
-right_begins link (cast p k) c to ts group d e = refl
-right_begins link (sized s n) c to ts group d e = refl
-right_begins link (bare v) c to ts group d e = refl
-right_begins link (valued q v) c to ts group d e = refl
 right_begins link (compared k a b) c to ts group d e =
     compare_walked link k b (after_or c to ts group) (number_onto a d) ∙ sym (compare_walked link k b (waiting c to (left_after_or to ∷ ts) group) (number_onto a d))
-right_begins link (denied a) c to ts group d e = refl
 right_begins link (joined And a b) c to ts group d e = refl
-right_begins link (joined Or a b) c to ts group d e = refl
+right_begins link _ c to ts group d e = refl
 
 abbrev Walks : Link → TruthTree → Group → Type 0
 Walks link a group =
@@ -140,30 +129,25 @@ Walks link a group =
 denied_walked : (link : Link) (a : TruthTree) → Walks link a no_group → (c : List Insn) (to : Targets) (ts : List LeftTruth) (group : Group) (d : List Node) (bs : List ℕ) → emit_nodes link (emit_truth_node link (flush_members link (waiting c to ts group) bs) Not) (truth_onto a d) ≡ emit_nodes link (emit_of link (or_any (Except (grouped_formula link no_group a)) (group_formula link group) bs) c to ts) d
 denied_walked link a h c to ts group d [] = h c (targets to.no to.yes) ts d
 denied_walked link a h c to ts group d (b ∷ bs) =
-    let e = emit_formula link nothing (group_formula link group) to.yes to.no c in h e.code (targets e.entry to.yes) ts d
+    let e = emit_formula link (group_formula link group) to.yes to.no c in h e.code (targets e.entry to.yes) ts d
 
 both_walked : (link : Link) (a b : TruthTree) → Walks link a no_group → Walks link b no_group → (c : List Insn) (to : Targets) (ts : List LeftTruth) (d : List Node) → emit_nodes link (between c to (record { join = And; to = to } ∷ ts)) (truth_onto b (truth_onto a d)) ≡ emit_nodes link (emit_of link (Both (grouped_formula link no_group a) (grouped_formula link no_group b)) c to ts) d
 both_walked link a b ha hb c to ts d =
-    let e = emit_formula link nothing (grouped_formula link no_group b) to.yes to.no c in
+    let e = emit_formula link (grouped_formula link no_group b) to.yes to.no c in
     hb c to (record { join = And; to = to } ∷ ts) (truth_onto a d) ∙ ha e.code (targets e.entry to.no) ts d
 
 settled_both : (link : Link) (a b : TruthTree) → Walks link a no_group → Walks link b no_group → (c : List Insn) (to : Targets) (ts : List LeftTruth) (group : Group) (d : List Node) (bs : List ℕ) → (let v = flush_members link (waiting c to ts group) bs in emit_nodes link (record v { truths = record { join = And; to = v.to } ∷ v.truths }) (truth_onto b (truth_onto a d))) ≡ emit_nodes link (emit_of link (or_any (Both (grouped_formula link no_group a) (grouped_formula link no_group b)) (group_formula link group) bs) c to ts) d
 settled_both link a b ha hb c to ts group d [] = both_walked link a b ha hb c to ts d
 settled_both link a b ha hb c to ts group d (x ∷ xs) =
-    let e = emit_formula link nothing (group_formula link group) to.yes to.no c in both_walked link a b ha hb e.code (targets to.yes e.entry) ts d
+    let e = emit_formula link (group_formula link group) to.yes to.no c in both_walked link a b ha hb e.code (targets to.yes e.entry) ts d
 
 either_walked : (link : Link) (a b : TruthTree) (group : Group) (o : Option Group) → truth_member b group ≡ o → Walks link a no_group → ((more : Group) → Walks link a more) → Walks link b group → (c : List Insn) (to : Targets) (ts : List LeftTruth) (d : List Node) → emit_nodes link (after_or c to ts group) (truth_onto b (truth_onto a d)) ≡ emit_nodes link (emit_of link (choice o (λ more. grouped_formula link more a) (Either (grouped_formula link no_group a) (grouped_formula link group b))) c to ts) d
 either_walked link a b group None e ha hm hb c to ts d =
-    let x = emit_formula link nothing (grouped_formula link group b) to.yes to.no c in
+    let x = emit_formula link (grouped_formula link group b) to.yes to.no c in
     right_begins link b c to ts group (truth_onto a d) e ∙ hb c to (left_after_or to ∷ ts) (truth_onto a d) ∙ ha x.code (targets to.yes x.entry) ts d
 either_walked link a b group (Some more) e ha hm hb c to ts d = member_waits link b c to ts group more (truth_onto a d) e ∙ hm more c to ts d
 
-pub truth_walked : (link : Link) (a : TruthTree) (group : Group) → Walks link a group
-truth_walked link (check p) group = λ c to ts d. ap (λ w. emit_nodes link w d) (leaf_put link (check_formula link p) c to ts group group.numbers)
-truth_walked link (cast p x) group = λ c to ts d. ap (λ w. emit_nodes link w d) (leaf_put link (cast_formula link p x) c to ts group group.numbers)
-truth_walked link (sized s n) group = λ c to ts d. ap (λ w. emit_nodes link w d) (leaf_put link (sized_formula s n) c to ts group group.numbers)
-truth_walked link (bare v) group = λ c to ts d. ap (λ w. emit_nodes link w d) (leaf_put link (Single (Outcome false)) c to ts group group.numbers)
-truth_walked link (valued q v) group = λ c to ts d. ap (λ w. emit_nodes link w d) (leaf_put link (Single (Outcome false)) c to ts group group.numbers)
+truth_walked : (link : Link) (a : TruthTree) (group : Group) → Walks link a group
 truth_walked link (qualified q v) group = λ c to ts d. ap (λ w. emit_nodes link w d) (value_walked link q v c to ts group (larger_group q v group))
 truth_walked link (compared x a b) group = λ c to ts d. compare_walked link x b (waiting c to ts group) (number_onto a d) ∙ relation_settled link x a b c to ts group d group.numbers
 truth_walked link (denied a) group = λ c to ts d. denied_walked link a (truth_walked link a no_group) c to ts group d group.numbers
@@ -171,6 +155,7 @@ truth_walked link (joined And a b) group =
     λ c to ts d. settled_both link a b (truth_walked link a no_group) (truth_walked link b no_group) c to ts group d group.numbers
 truth_walked link (joined Or a b) group =
     λ c to ts d. either_walked link a b group (truth_member b group) refl (truth_walked link a no_group) (λ more. truth_walked link a more) (truth_walked link b group) c to ts d
+truth_walked link a group = λ c to ts d. ap (λ w. emit_nodes link w d) (leaf_put link (formula link a) c to ts group group.numbers)
 
 -- the walk over a whole expression ends with its code, entered where both targets are
 pub record Ends (w : Walk) (e : Block) : Type 0 where

@@ -27,29 +27,33 @@ use Rattle.flt_emit.specs.declared.elementary.Offset.{Offset}
 use Rattle.flt_emit.specs.declared.elementary.Offset.TheVariants.{Fixed, AfterHeader}
 use Rattle.flt_emit.specs.declared.elementary.Elementary.{Elementary}
 use Rattle.flt_emit.specs.declared.elementary.Elementary.TheVariants.{Outcome, Field}
-use Rattle.flt_gen.specs.declared.wanted.Ports.{Ports}
+use Rattle.flt_gen.specs.declared.port.Ports.{Ports}
 use Rattle.flt_emit.specs.declared.elementary.Sides.{Sides}
-use Rattle.flt_gen.specs.declared.wanted.NetTest.{NetTest}
-use Rattle.flt_gen.specs.declared.wanted.Hosts.{Hosts}
-use Rattle.flt_gen.specs.declared.wanted.Hosts.TheVariants as hosts
-use Rattle.flt_gen.specs.declared.wanted.PortTest.{PortTest}
-use Rattle.flt_gen.specs.declared.wanted.Transport.{Transport}
-use Rattle.flt_gen.specs.declared.wanted.Ports.TheVariants.{One, Between, Several}
+use Rattle.flt_gen.specs.declared.address.NetTest.{NetTest}
+use Rattle.flt_gen.specs.declared.address.Hosts.{Hosts}
+use Rattle.flt_gen.specs.declared.address.Hosts.TheVariants as hosts
+use Rattle.flt_gen.specs.declared.port.PortTest.{PortTest}
+use Rattle.flt_gen.specs.declared.port.Transport.{Transport}
+use Rattle.flt_gen.specs.declared.port.Ports.TheVariants.{One, Between, Several}
 use Rattle.flt_emit.specs.Elementary.{with, is_at, compares_at, has_type, kind_test, first_fragment, has_ip_proto, has_ip6_proto}
 use Rattle.cap_octet.specs.Link.{network_offset}
-use Rattle.flt_emit.specs.Formula.{Formula, Single, Compare, Guard, Fork, Choose, all_of, guarded_formula, sides, any_sides}
+use Rattle.flt_emit.specs.Formula.{Formula, Single, Compare, Both, Either, all_of, sides, any_sides}
 
--- protocols; of the kinds of frames at most one is yes
+-- a test, and then a formula
+abbrev pub after : Elementary → Formula → Formula
+after t f = Both (Single t) f
+
+-- protocols
 
 abbrev pub ip_proto : Link → ℕ → Formula
-ip_proto link n = Guard (kind_test link Ip) (Single (has_ip_proto link n))
+ip_proto link n = after (kind_test link Ip) (Single (has_ip_proto link n))
 
 abbrev pub ip6_proto : Link → ℕ → Formula
-ip6_proto link n = Guard (kind_test link Ip6) (Single (has_ip6_proto link n))
+ip6_proto link n = after (kind_test link Ip6) (Single (has_ip6_proto link n))
 
 -- the next header of IPv6 alone: extension headers aren't looked past
 abbrev pub any_proto : Link → ℕ → Formula
-any_proto link n = Choose (kind_test link Ip) (Single (has_ip_proto link n)) (ip6_proto link n)
+any_proto link n = Either (ip_proto link n) (ip6_proto link n)
 
 abbrev pub ether_proto : Link → ℕ → Formula
 ether_proto link n = Single (has_type link n)
@@ -81,7 +85,7 @@ mac_tests at address =
 
 abbrev pub ether_host : Link → Direction → ℕ → Formula
 ether_host link direction address =
-    guarded_formula (kind_test link Ethernet ∷ [])
+    after (kind_test link Ethernet)
     (sides direction (mac_tests 6 address) (mac_tests 0 address))
 
 -- the lowest bit of an Ethernet address' first byte is set
@@ -155,13 +159,12 @@ hosts_sides link kind (hosts.Several direction first) numbers =
 
 abbrev pub hosts_of_kind : Link → FrameKind → Hosts → List ℕ → Formula
 hosts_of_kind link kind wanted numbers =
-    Guard (kind_test link kind) (hosts_sides link kind wanted numbers)
+    after (kind_test link kind) (hosts_sides link kind wanted numbers)
 
 abbrev pub any_hosts : Link → Hosts → List ℕ → Formula
 any_hosts link wanted numbers =
-    Choose (kind_test link Ip) (hosts_sides link Ip wanted numbers)
-    (Choose (kind_test link Arp) (hosts_sides link Arp wanted numbers)
-    (hosts_of_kind link Rarp wanted numbers))
+    Either (hosts_of_kind link Ip wanted numbers)
+    (Either (hosts_of_kind link Arp wanted numbers) (hosts_of_kind link Rarp wanted numbers))
 
 abbrev pub hosts_formula : Link → Option Protocol → Hosts → List ℕ → Formula
 hosts_formula link (Some protocol.Ip) wanted numbers = hosts_of_kind link Ip wanted numbers
@@ -190,7 +193,7 @@ ip6_tests prefix address at =
 
 abbrev pub ip6_formula : Link → Direction → Option ℕ → ℕ → Formula
 ip6_formula link direction prefix address =
-    Guard (kind_test link Ip6) (sides direction (ip6_tests prefix address (network_offset link + 8))
+    after (kind_test link Ip6) (sides direction (ip6_tests prefix address (network_offset link + 8))
     (ip6_tests prefix address (network_offset link + 24)))
 
 -- ports
@@ -220,15 +223,15 @@ port_sides (Several first) direction header numbers =
 
 -- the test of TCP, that of UDP, or either, and then a formula
 abbrev pub transport : Option Protocol → Elementary → Elementary → Formula → Formula
-transport (Some protocol.Tcp) tcp udp f = Guard tcp f
-transport (Some protocol.Udp) tcp udp f = Guard udp f
-transport None tcp udp f = Fork tcp udp f
+transport (Some protocol.Tcp) tcp udp f = after tcp f
+transport (Some protocol.Udp) tcp udp f = after udp f
+transport None tcp udp f = Both (Either (Single tcp) (Single udp)) f
 transport (Some _) tcp udp f = Single (Outcome false)
 
 -- a test, if there is one, and then a formula
 abbrev pub following : Option Elementary → Formula → Formula
 following None f = f
-following (Some t) f = Guard t f
+following (Some t) f = after t f
 
 abbrev pub ports_after : Transport → PortTest → List ℕ → Formula
 ports_after header wanted numbers =
@@ -261,8 +264,8 @@ ip6_transport link = record {
 -- of TCP and UDP; of SCTP no port is read
 abbrev pub port_formula : Link → PortTest → List ℕ → Formula
 port_formula link wanted numbers =
-    Choose (kind_test link Ip) (transport_ports (ip_transport link) wanted numbers)
-    (Guard (kind_test link Ip6) (transport_ports (ip6_transport link) wanted numbers))
+    Either (after (kind_test link Ip) (transport_ports (ip_transport link) wanted numbers))
+    (after (kind_test link Ip6) (transport_ports (ip6_transport link) wanted numbers))
 
 abbrev pub port_test : Option Protocol → Direction → Ports → PortTest
 port_test protocol direction ports = record {

@@ -4,7 +4,7 @@ use Rattle.flt_words.specs.declared.token.Join.TheVariants.{And, Or}
 use Rattle.flt_ast.specs.Tree.{TruthTree, check, cast, sized, bare, valued, qualified, compared, denied, joined, Expression, empty, truth}
 use Rattle.cap_octet.specs.declared.link.Link.{Link}
 use Rattle.flt_emit.specs.declared.elementary.Elementary.TheVariants.{Outcome}
-use Rattle.flt_emit.specs.Elementary.{Reading, Yes}
+use Rattle.flt_emit.specs.Elementary.{MatchResult, Yes}
 use Rattle.flt_emit.specs.Numbers.{accessors}
 use Rattle.flt_emit.specs.Formula.{Formula, Single, Compare, Both, Either, Except, checked_formula, reads}
 use Rattle.flt_gen.specs.Primitives.{check_formula, cast_formula, sized_formula, qualified_formula}
@@ -24,6 +24,6 @@ formula link (joined Or a b) = Either (formula link a) (formula link b)
 
 -- the reading of an expression on the captured bytes p of a packet of original length n; the empty
 -- expression is yes
-abbrev pub holds : Expression → Link → List ℕ → ℕ → Reading
+abbrev pub holds : Expression → Link → List ℕ → ℕ → MatchResult
 holds empty link p n = Yes
 holds (truth a) link p n = reads link (formula link a) p n

@@ -4,4 +4,5 @@ pub mod Emitted
 pub mod Folding
 pub mod Group
 pub mod ProgramCode
+pub mod Steps
 pub mod Walk

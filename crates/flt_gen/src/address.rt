@@ -1,26 +1,59 @@
-//! The code of hosts and networks of IPv4 and IPv6.
+//! Hosts and networks of IPv4 and IPv6, as rows of the table of primitives.
 
-ghost use Rattle.std.specs.Prelude.{◌≡◌, ◌+◌, ◌*◌, ◌≤◌, length};
+ghost use Rattle.std.specs.Prelude.{◌≡◌, ◌+◌, ◌≤◌, OnOk};
 ghost use Rattle.cap_octet.specs.Link.{longest_header};
 ghost use Rattle.flt_ast.specs.Nets.{first_bits};
-ghost use Rattle.flt_emit.specs.Elementary.{kind_test};
-ghost use Rattle.flt_emit.specs.inside.Emits.{HasRoom, Emits, EmitsFormula, EmitsAfter};
-ghost use Rattle.flt_gen.specs.Primitives.{address_test, address_places, net_formula};
-ghost use Rattle.flt_gen.specs.Primitives.{hosts_sides, any_hosts, hosts_formula};
-ghost use Rattle.flt_gen.specs.Primitives.{ip6_test, ip6_tests};
-ghost use Rattle.flt_gen.specs.inside.Emitted.{is_idle, last_test, needed_tests, needed_sides, ip6_needed};
-ghost use Rattle.flt_emit.specs.inside.Code.{emit_all};
+ghost use Rattle.flt_emit.specs.Formula.{all_of};
+ghost use Rattle.flt_gen.specs.Primitives.{partial_mask, net_test, address_test, address_places};
+ghost use Rattle.flt_gen.specs.Primitives.{hosts_of_kind, hosts_formula, ip6_test, ip6_tests};
+ghost use Rattle.flt_gen.specs.inside.Emitted.{is_idle, last_test, needed_tests, needed_sides};
+ghost use Rattle.flt_gen.specs.inside.Emitted.{ip6_needed};
 
-use crate::wanted::{Hosts, NetTest, partial_mask};
+use crate::steps::Steps;
 use cap_octet::Link;
 use flt_ast::Direction;
 use flt_bpf::operation::Width;
-use flt_emit::{
-    Code, Context, Elementary, FieldTest, FrameKind, Offset, Sides, emit_any_sides,
-    emit_elementary, emit_sides, kind_test, network_offset,
-};
+use flt_emit::{Elementary, FieldTest, FrameKind, Offset, Sides, kind_test, network_offset};
 use flt_words::{Comparison, Join, Protocol, Side};
 use std::alloc::{AllocError, Allocator};
+
+/// A test of IPv4 addresses: the sides, the mask where not the whole address counts, and the
+/// address.
+#[derive(Clone, Copy)]
+pub struct NetTest {
+    pub direction: Direction,
+    pub mask: Option<u32>,
+    pub address: u32,
+}
+
+impl NetTest {
+    /// A test of this address, as far as the mask goes.
+    pub fn new(direction: Direction, mask: Option<u32>, address: u32) -> Self
+        ensures { result ≡ net_test direction mask address }
+    {
+        NetTest {
+            direction,
+            mask,
+            address,
+        }
+    }
+}
+
+/// The hosts of IPv4 that are looked for.
+#[derive(Clone, Copy)]
+pub enum Hosts {
+    /// Those of a network, which may be a single one.
+    Net(NetTest),
+    /// Those of the steps' numbers, of which this one stands first, on these sides.
+    Several(Direction, u32),
+}
+
+/// The mask of a word, where not all of its bits count.
+pub fn partial_mask(mask: u32) -> Option<u32>
+    ensures { result ≡ partial_mask mask }
+{
+    if mask == u32::MAX { None } else { Some(mask) }
+}
 
 /// The word at a place is an address, as far as the mask goes.
 fn address_test(mask: Option<u32>, address: u32, offset: Offset) -> Elementary
@@ -49,111 +82,6 @@ fn address_places(link: Link, kind: FrameKind) -> Sides
         source: Offset::Fixed(start + source),
         destination: Offset::Fixed(start + destination),
     }
-}
-
-/// The hosts of a header of a kind, on the sides that are asked for.
-fn emit_host_sides<A: Allocator>(
-    code: &mut Code<A>,
-    context: Context,
-    kind: FrameKind,
-    wanted: Hosts,
-    numbers: &[u32],
-) -> Result<usize, AllocError>
-    requires { HasRoom (12 * length numbers.now + 18) code.old }
-    ensures { EmitsFormula (12 * length numbers.now + 18) result context
-        (hosts_sides context.link kind wanted numbers.now) code.old code.new }
-{
-    let at = address_places(context.link, kind);
-    match wanted {
-        Hosts::Net(net) => {
-            let source = address_test(net.mask, net.address, at.source);
-            let destination = address_test(net.mask, net.address, at.destination);
-            emit_sides(code, context, net.direction, &[source], &[destination])
-        }
-        Hosts::Several(direction, first) => {
-            emit_any_sides(code, context, direction, at, first, numbers)
-        }
-    }
-}
-
-/// The same after that header. A frame of another kind goes on at `other`.
-fn emit_hosts_in<A: Allocator>(
-    code: &mut Code<A>,
-    context: Context,
-    kind: FrameKind,
-    wanted: Hosts,
-    numbers: &[u32],
-    other: usize,
-) -> Result<usize, AllocError>
-    requires { HasRoom (12 * length numbers.now + 24) code.old }
-    ensures { EmitsAfter (12 * length numbers.now + 24) result
-        context (kind_test context.link kind) other
-        (hosts_sides context.link kind wanted numbers.now) code.old code.new }
-{
-    let is_kind = kind_test(context.link, kind);
-    let yes = emit_host_sides(code, context.following(is_kind), kind, wanted, numbers)?;
-    emit_elementary(code, context.going_to(yes, other), is_kind)
-}
-
-/// The form of IPv4, or else that of ARP, or else that of RARP.
-fn emit_any_hosts<A: Allocator>(
-    code: &mut Code<A>,
-    context: Context,
-    wanted: Hosts,
-    numbers: &[u32],
-) -> Result<usize, AllocError>
-    requires { HasRoom (36 * length numbers.now + 72) code.old }
-    ensures { EmitsFormula (36 * length numbers.now + 72) result context
-        (any_hosts context.link wanted numbers.now) code.old code.new }
-{
-    let not_ip = context.elsewhere(kind_test(context.link, FrameKind::Ip));
-    let neither = not_ip.elsewhere(kind_test(context.link, FrameKind::Arp));
-    let rarp = emit_hosts_in(
-        code,
-        neither,
-        FrameKind::Rarp,
-        wanted,
-        numbers,
-        context.to.no,
-    )?;
-    let arp = emit_hosts_in(code, not_ip, FrameKind::Arp, wanted, numbers, rarp)?;
-    emit_hosts_in(code, context, FrameKind::Ip, wanted, numbers, arp)
-}
-
-/// Hosts of IPv4, by the forms that their protocol allows.
-pub fn emit_hosts<A: Allocator>(
-    code: &mut Code<A>,
-    context: Context,
-    protocol: Option<Protocol>,
-    wanted: Hosts,
-    numbers: &[u32],
-) -> Result<usize, AllocError>
-    requires { HasRoom (36 * length numbers.now + 72) code.old }
-    ensures { EmitsFormula (36 * length numbers.now + 72) result context
-        (hosts_formula context.link protocol wanted numbers.now) code.old code.new }
-{
-    let kind = match protocol {
-        Some(Protocol::Ip) => FrameKind::Ip,
-        Some(Protocol::Arp) => FrameKind::Arp,
-        Some(Protocol::Rarp) => FrameKind::Rarp,
-        Some(_) => return Ok(context.to.no),
-        None => return emit_any_hosts(code, context, wanted, numbers),
-    };
-    emit_hosts_in(code, context, kind, wanted, numbers, context.to.no)
-}
-
-/// `host` and `net` of IPv4.
-pub fn emit_net<A: Allocator>(
-    code: &mut Code<A>,
-    context: Context,
-    protocol: Option<Protocol>,
-    net: NetTest,
-) -> Result<usize, AllocError>
-    requires { HasRoom 72 code.old }
-    ensures { EmitsFormula 72 result context (net_formula context.link protocol net)
-        code.old code.new }
-{
-    emit_hosts(code, context, protocol, Hosts::Net(net), &[])
 }
 
 /// A mask of `bits` bits, of 32.
@@ -214,81 +142,114 @@ fn last_test(test: Elementary) -> Elementary
     }
 }
 
-/// All of some tests of words, each after the one before. One of which no bit counts is left out
-/// in front of another: where its word isn't captured, no later one is.
-#[tactic(auto, using(flt_emit::proofs::Joined::all_emitted))]
-fn emit_words<A: Allocator>(
-    code: &mut Code<A>,
-    context: Context,
-    tests: &[Elementary],
-) -> Result<usize, AllocError>
-    requires { HasRoom (6 * length tests.now) code.old }
-    ensures { Emits (6 * length tests.now) result
-        (emit_all context.known (needed_tests tests.now) context.to.yes context.to.no code.old)
-        code.old code.new }
-{
-    match tests {
-        [] => Ok(context.to.yes),
-        [only] => emit_elementary(code, context, last_test(*only)),
-        [first, others @ ..] => {
-            let yes = emit_words(code, context, others)?;
-            if is_idle(*first) {
-                return Ok(yes);
+impl<A: Allocator> Steps<A> {
+    ghost use Rattle.flt_gen.specs.inside.Steps.{IsPut};
+
+    /// The hosts of a header of a kind.
+    fn put_hosts_of_kind(
+        &mut self,
+        link: Link,
+        kind: FrameKind,
+        wanted: Hosts,
+    ) -> Result<(), AllocError>
+        ensures { OnOk result
+            (IsPut (hosts_of_kind link kind wanted self.old.numbers) self.old self.new) }
+    {
+        let at = address_places(link, kind);
+        self.check(kind_test(link, kind))?;
+        match wanted {
+            Hosts::Net(net) => {
+                let source = address_test(net.mask, net.address, at.source);
+                let destination = address_test(net.mask, net.address, at.destination);
+                self.check_sides(net.direction, &[source], &[destination])?;
             }
-            emit_elementary(code, context.going_to(yes, context.to.no), *first)
+            Hosts::Several(direction, first) => self.among_sides(direction, at, first)?,
+        }
+        self.join(Join::And)
+    }
+
+    /// `host` and `net` of IPv4, by the forms that their protocol allows: without one those of
+    /// IPv4, ARP and RARP.
+    pub fn put_hosts(
+        &mut self,
+        link: Link,
+        protocol: Option<Protocol>,
+        wanted: Hosts,
+    ) -> Result<(), AllocError>
+        ensures { OnOk result
+            (IsPut (hosts_formula link protocol wanted self.old.numbers) self.old self.new) }
+    {
+        match protocol {
+            Some(Protocol::Ip) => self.put_hosts_of_kind(link, FrameKind::Ip, wanted),
+            Some(Protocol::Arp) => self.put_hosts_of_kind(link, FrameKind::Arp, wanted),
+            Some(Protocol::Rarp) => self.put_hosts_of_kind(link, FrameKind::Rarp, wanted),
+            Some(_) => self.check(Elementary::Outcome(false)),
+            None => {
+                self.put_hosts_of_kind(link, FrameKind::Ip, wanted)?;
+                self.put_hosts_of_kind(link, FrameKind::Arp, wanted)?;
+                self.put_hosts_of_kind(link, FrameKind::Rarp, wanted)?;
+                self.join(Join::Or)?;
+                self.join(Join::Or)
+            }
         }
     }
-}
 
-/// The words of the source and of the destination, as a direction asks for them.
-#[tactic(auto, using(flt_emit::proofs::Joined::all_emitted))]
-fn emit_word_sides<A: Allocator>(
-    code: &mut Code<A>,
-    context: Context,
-    direction: Direction,
-    source: &[Elementary],
-    destination: &[Elementary],
-) -> Result<usize, AllocError>
-    requires { HasRoom (6 * (length source.now + length destination.now)) code.old }
-    ensures { EmitsFormula (6 * (length source.now + length destination.now)) result context
-        (needed_sides direction source.now destination.now) code.old code.new }
-{
-    match direction {
-        Direction::One(Side::Source) => emit_words(code, context, source),
-        Direction::One(Side::Destination) => emit_words(code, context, destination),
-        Direction::Both(Join::Or) => {
-            let no = emit_words(code, context, destination)?;
-            emit_words(code, context.going_to(context.to.yes, no), source)
-        }
-        Direction::Both(Join::And) => {
-            let yes = emit_words(code, context, destination)?;
-            emit_words(code, context.going_to(yes, context.to.no), source)
+    /// All of some tests of words, each after the one before. One of which no bit counts is left
+    /// out in front of another: where its word isn't captured, no later one is.
+    fn check_words(&mut self, tests: &[Elementary]) -> Result<(), AllocError>
+        ensures { OnOk result (IsPut (all_of (needed_tests tests.now)) self.old self.new) }
+    {
+        match tests {
+            [] => self.check(Elementary::Outcome(true)),
+            [only] => self.check(last_test(*only)),
+            [first, others @ ..] => {
+                if is_idle(*first) {
+                    return self.check_words(others);
+                }
+                self.check(*first)?;
+                self.check_words(others)?;
+                self.join(Join::And)
+            }
         }
     }
-}
 
-/// `host` and `net` of IPv6, with the length of the prefix where not the whole address counts.
-pub fn emit_ip6<A: Allocator>(
-    code: &mut Code<A>,
-    context: Context,
-    direction: Direction,
-    prefix: Option<u32>,
-    address: u128,
-) -> Result<usize, AllocError>
-    requires { HasRoom 54 code.old }
-    ensures { EmitsFormula 54 result context (ip6_needed context.link direction prefix address)
-        code.old code.new }
-{
-    let start = network_offset(context.link);
-    let source = ip6_tests(prefix, address, start + 8);
-    let destination = ip6_tests(prefix, address, start + 24);
-    let kind = kind_test(context.link, FrameKind::Ip6);
-    let yes = emit_word_sides(
-        code,
-        context.following(kind),
-        direction,
-        &source,
-        &destination,
-    )?;
-    emit_elementary(code, context.going_to(yes, context.to.no), kind)
+    /// The words of the source and of the destination, as a direction asks for them.
+    fn check_word_sides(
+        &mut self,
+        direction: Direction,
+        source: &[Elementary],
+        destination: &[Elementary],
+    ) -> Result<(), AllocError>
+        ensures { OnOk result
+            (IsPut (needed_sides direction source.now destination.now) self.old self.new) }
+    {
+        match direction {
+            Direction::One(Side::Source) => self.check_words(source),
+            Direction::One(Side::Destination) => self.check_words(destination),
+            Direction::Both(join) => {
+                self.check_words(source)?;
+                self.check_words(destination)?;
+                self.join(join)
+            }
+        }
+    }
+
+    /// `host` and `net` of IPv6, with the length of the prefix where not the whole address counts.
+    pub fn put_ip6(
+        &mut self,
+        link: Link,
+        direction: Direction,
+        prefix: Option<u32>,
+        address: u128,
+    ) -> Result<(), AllocError>
+        ensures { OnOk result
+            (IsPut (ip6_needed link direction prefix address) self.old self.new) }
+    {
+        let start = network_offset(link);
+        let source = ip6_tests(prefix, address, start + 8);
+        let destination = ip6_tests(prefix, address, start + 24);
+        self.check(kind_test(link, FrameKind::Ip6))?;
+        self.check_word_sides(direction, &source, &destination)?;
+        self.join(Join::And)
+    }
 }

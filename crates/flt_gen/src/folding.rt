@@ -22,7 +22,7 @@ fn node_constant(node: Node) -> Option<u32>
 }
 
 /// The number that an operator makes of two, if both are there. There is none for a division by 0.
-#[tactic(auto, using(crate::proofs::Folded::computed))]
+#[tactic(auto, using(crate::proofs::Numbers::computed))]
 fn applied_constant(operator: Operator, left: Option<u32>, right: Option<u32>) -> Option<u32>
     ensures { result ≡ applied_constant operator left right }
 {
@@ -72,6 +72,7 @@ fn push_operator<A: Allocator>(
     }
 }
 
+/// One more node, of numbers alone as one number.
 fn push_folded<A: Allocator>(nodes: &mut Stack<Node, A>, node: Node) -> Result<(), AllocError>
     ensures { OnOk result (nodes.new ≡ with_folded nodes.old node) }
 {

@@ -1,11 +1,18 @@
 //! Hosts or ports that are looked for together.
 
-ghost use Rattle.std.specs.Prelude.{◌≡◌, ◌≤◌, if◌then◌else◌, Some, None, length, IfOk};
+ghost use Rattle.std.specs.Prelude.{◌≡◌, ◌≤◌, if◌then◌else◌, Some, None, length, IfOk, OnOk};
 ghost use Rattle.std.specs.List.{insert};
 ghost use Rattle.flt_gen.specs.inside.Group.{no_group, insert_ascending, same_type, same_protocol};
-ghost use Rattle.flt_gen.specs.inside.Group.{same_direction, goes_with, member_number, larger_group};
+ghost use Rattle.flt_gen.specs.inside.Group.{same_direction, goes_with, member_number};
+ghost use Rattle.flt_gen.specs.inside.Group.{larger_group, group_formula};
+ghost use Rattle.flt_gen.specs.inside.Steps.{IsPut};
 
+use crate::address::{Hosts, NetTest};
+use crate::port::{PortTest, Ports};
+use crate::steps::Steps;
+use cap_octet::Link;
 use flt_ast::{CompleteQualifiers, Direction, Value};
+use flt_emit::Elementary;
 use flt_words::{Join, Protocol, Side, ValueType};
 use std::alloc::{AllocError, Allocator};
 use std::marker::Model;
@@ -118,32 +125,7 @@ impl<A: Allocator> Group<A> {
         self.numbers.clear();
     }
 
-    /// The type of the members.
-    pub fn value_type(&self) -> ValueType
-        ensures { result ≡ self.now.value_type }
-    {
-        self.value_type
-    }
-
-    pub fn protocol(&self) -> Option<Protocol>
-        ensures { result ≡ self.now.protocol }
-    {
-        self.protocol
-    }
-
-    pub fn direction(&self) -> Direction
-        ensures { result ≡ self.now.direction }
-    {
-        self.direction
-    }
-
-    /// The address or number of the member that stands first.
-    pub fn first(&self) -> u32
-        ensures { result ≡ self.now.first }
-    {
-        self.first
-    }
-
+    /// The addresses or numbers of the members, which ascend.
     pub fn numbers(&self) -> &[u32]
         ensures { result.now ≡ self.now.numbers }
     {
@@ -177,6 +159,33 @@ impl<A: Allocator> Group<A> {
                 Ok(true)
             }
             _ => Ok(false),
+        }
+    }
+
+    /// The steps of its members, which are looked for together. The steps have their numbers.
+    pub fn put(&self, link: Link, steps: &mut Steps<A>) -> Result<(), AllocError>
+        requires { steps.old.numbers ≡ self.now.numbers }
+        ensures { OnOk result (IsPut (group_formula link self.now) steps.old steps.new) }
+    {
+        let (protocol, direction, first) = (self.protocol, self.direction, self.first);
+        match (self.numbers(), self.value_type) {
+            ([_], ValueType::Host) => {
+                let net = NetTest::new(direction, None, first);
+                steps.put_hosts(link, protocol, Hosts::Net(net))
+            }
+            (_, ValueType::Host) => {
+                steps.put_hosts(link, protocol, Hosts::Several(direction, first))
+            }
+            ([_], ValueType::Port) => {
+                steps.put_ports(link, PortTest::new(protocol, direction, Ports::One(first)))
+            }
+            (_, ValueType::Port) => {
+                steps.put_ports(
+                    link,
+                    PortTest::new(protocol, direction, Ports::Several(first)),
+                )
+            }
+            _ => steps.check(Elementary::Outcome(false)),
         }
     }
 }

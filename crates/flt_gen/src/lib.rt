@@ -7,12 +7,12 @@ mod group;
 pub mod laws;
 mod number;
 mod port;
-mod primitive;
 mod program;
+mod protocol;
+mod steps;
 mod value;
 mod waiting;
 mod walk;
-mod wanted;
 
 pub use cap_octet::Link;
 pub use program::generate;

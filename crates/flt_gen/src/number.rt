@@ -1,21 +1,17 @@
 //! The code of arithmetic and of the tests that accessors ask for.
 
-ghost use Rattle.std.specs.Prelude.{◌≡◌, ◌^◌, ◌<◌, length, OnOk, IfOk, reverse};
-ghost use Rattle.flt_emit.specs.inside.Code.{block, emit_base, emit_transport, emit_accessor};
+ghost use Rattle.std.specs.Prelude.{◌≡◌, OnOk, reverse};
+ghost use Rattle.flt_emit.specs.inside.Code.{emit_base, emit_transport, emit_accessor};
 ghost use Rattle.flt_emit.specs.inside.Code.{alu_operation, computation, takes, emit_operands};
 ghost use Rattle.flt_emit.specs.inside.Code.{emit_all};
 ghost use Rattle.flt_gen.specs.inside.ProgramCode.{emit_accessors};
-ghost use Rattle.flt_emit.specs.inside.Follow.{nothing};
 ghost use Rattle.flt_emit.specs.Numbers.{accessor_tests, width_of};
-ghost use Rattle.flt_emit.specs.inside.Emits.{HasRoom, Emits};
+ghost use Rattle.flt_emit.specs.inside.Emits.{Emits};
 
 use cap_octet::Link;
 use cap_octet::assigned::{IPPROTO_ICMP, IPPROTO_TCP, IPPROTO_UDP};
 use flt_bpf::operation::{AluOperation, Operand, Operation, Register, Source, Width};
-use flt_emit::{
-    Code, Context, FrameKind, Targets, emit_all, first_fragment, has_ip_proto, kind_test,
-    network_offset,
-};
+use flt_emit::{Code, FrameKind, Targets, first_fragment, has_ip_proto, kind_test, network_offset};
 use flt_words::{Operator, Protocol};
 use std::alloc::{AllocError, Allocator};
 
@@ -121,38 +117,21 @@ fn emit_accessor_tests<A: Allocator>(
     protocol: Protocol,
     to: Targets,
 ) -> Result<usize, AllocError>
-    requires { HasRoom 18 code.old }
-    ensures { Emits 18 result
-        (emit_all nothing (accessor_tests link protocol) to.yes to.no code.old)
-        code.old code.new }
+    ensures { Emits result (emit_all (accessor_tests link protocol) to.yes to.no code.old)
+        code.new }
 {
-    let context = Context::new(link, to);
     let (ip, first) = (kind_test(link, FrameKind::Ip), first_fragment(link));
     match protocol {
-        Protocol::Ether => emit_all(code, context, &[kind_test(link, FrameKind::Ethernet)]),
-        Protocol::Ip => emit_all(code, context, &[ip]),
-        Protocol::Ip6 | Protocol::Icmp6 => emit_all(
-            code,
-            context,
-            &[kind_test(link, FrameKind::Ip6)],
-        ),
-        Protocol::Arp => emit_all(code, context, &[kind_test(link, FrameKind::Arp)]),
-        Protocol::Rarp => emit_all(code, context, &[kind_test(link, FrameKind::Rarp)]),
-        Protocol::Tcp => emit_all(
-            code,
-            context,
-            &[ip, has_ip_proto(link, IPPROTO_TCP.into()), first],
-        ),
-        Protocol::Udp => emit_all(
-            code,
-            context,
-            &[ip, has_ip_proto(link, IPPROTO_UDP.into()), first],
-        ),
-        Protocol::Icmp => emit_all(
-            code,
-            context,
-            &[ip, has_ip_proto(link, IPPROTO_ICMP.into()), first],
-        ),
+        Protocol::Ether => code.emit_all(&[kind_test(link, FrameKind::Ethernet)], to),
+        Protocol::Ip => code.emit_all(&[ip], to),
+        Protocol::Ip6 | Protocol::Icmp6 => code.emit_all(&[kind_test(link, FrameKind::Ip6)], to),
+        Protocol::Arp => code.emit_all(&[kind_test(link, FrameKind::Arp)], to),
+        Protocol::Rarp => code.emit_all(&[kind_test(link, FrameKind::Rarp)], to),
+        Protocol::Tcp => { code.emit_all(&[ip, has_ip_proto(link, IPPROTO_TCP.into()), first], to) }
+        Protocol::Udp => { code.emit_all(&[ip, has_ip_proto(link, IPPROTO_UDP.into()), first], to) }
+        Protocol::Icmp => {
+            code.emit_all(&[ip, has_ip_proto(link, IPPROTO_ICMP.into()), first], to)
+        }
     }
 }
 
@@ -163,11 +142,8 @@ pub fn emit_accessors<A: Allocator>(
     protocols: &[Protocol],
     to: Targets,
 ) -> Result<usize, AllocError>
-    requires { length (emit_accessors link (reverse protocols.now)
-        to.yes to.no code.old).code < 2 ^ 30 }
-    ensures { IfOk result
-        (λ entry. emit_accessors link (reverse protocols.now) to.yes to.no code.old
-        ≡ block code.new entry) }
+    ensures { Emits result (emit_accessors link (reverse protocols.now) to.yes to.no code.old)
+        code.new }
 {
     let mut yes = to.yes;
     for protocol in protocols {

@@ -1,147 +1,64 @@
-//! The code of ports, which are tested layer by layer: the network header (`emit_ports_of_kind`), TCP
-//! or UDP (`emit_transport_ports`), that it is no later fragment (`emit_ports_in`), the ports
-//! (`emit_port_sides`).
+//! Ports, as a row of the table of primitives. They are tested layer by layer: the network header
+//! (`put_ports`), TCP or UDP (`put_transport_ports`), that it is no later fragment
+//! (`put_ports_after`), the ports (`put_port_sides`).
 
-ghost use Rattle.std.specs.Prelude.{◌≡◌, ◌+◌, ◌*◌, length};
-ghost use Rattle.flt_emit.specs.inside.Emits.{HasRoom, EmitsFormula, EmitsAfter};
-ghost use Rattle.flt_gen.specs.Primitives.{port_is, port_between, port_places, port_sides};
+ghost use Rattle.std.specs.Prelude.{◌≡◌, OnOk};
+ghost use Rattle.flt_gen.specs.Primitives.{port_test, port_is, port_between, port_sides};
 ghost use Rattle.flt_gen.specs.Primitives.{ports_after, transport_ports, ip_transport};
 ghost use Rattle.flt_gen.specs.Primitives.{ip6_transport, port_formula};
 
-use crate::wanted::{PortTest, Ports, Transport};
+use crate::steps::Steps;
 use cap_octet::Link;
 use cap_octet::assigned::{IPPROTO_TCP, IPPROTO_UDP};
+use flt_ast::Direction;
 use flt_bpf::operation::Width;
 use flt_emit::{
-    Code, Context, Elementary, FrameKind, Offset, Sides, compares_at, emit_any_sides,
-    emit_elementary, emit_fork, emit_sides, first_fragment, has_ip_proto, has_ip6_proto, kind_test,
-    network_offset,
+    Elementary, FrameKind, Offset, Sides, compares_at, first_fragment, has_ip_proto, has_ip6_proto,
+    kind_test, network_offset,
 };
-use flt_words::{Comparison, Protocol};
+use flt_words::{Comparison, Join, Protocol};
 use std::alloc::{AllocError, Allocator};
 
-/// Where the ports follow a header.
-fn port_places(header: Transport) -> Sides
-    ensures { result ≡ port_places header }
-{
-    Sides {
-        width: Width::HalfWord,
-        source: header.source,
-        destination: header.destination,
-    }
+/// The ports that are looked for.
+#[derive(Clone, Copy)]
+pub enum Ports {
+    One(u32),
+    /// Those from the first to the second.
+    Between(u32, u32),
+    /// Those of the steps' numbers, of which this one stands first.
+    Several(u32),
 }
 
-/// A port at a place.
-fn port_is(port: u32, offset: Offset) -> [Elementary; 1]
-    ensures { result ≡ port_is port offset }
-{
-    [compares_at(offset, Width::HalfWord, Comparison::Equal, port)]
+/// A test of ports: the protocol, if one is asked for, the sides, and the ports.
+#[derive(Clone, Copy)]
+pub struct PortTest {
+    pub protocol: Option<Protocol>,
+    pub direction: Direction,
+    pub ports: Ports,
 }
 
-/// A port at a place that is in a range.
-fn port_between(first: u32, last: u32, offset: Offset) -> [Elementary; 2]
-    ensures { result ≡ port_between first last offset }
-{
-    [
-        compares_at(offset, Width::HalfWord, Comparison::AtLeast, first),
-        compares_at(offset, Width::HalfWord, Comparison::AtMost, last),
-    ]
-}
-
-/// The source port at one place, the destination port at another.
-fn emit_port_sides<A: Allocator>(
-    code: &mut Code<A>,
-    context: Context,
-    header: Transport,
-    wanted: PortTest,
-    numbers: &[u32],
-) -> Result<usize, AllocError>
-    requires { HasRoom (12 * length numbers.now + 24) code.old }
-    ensures { EmitsFormula (12 * length numbers.now + 24) result context
-        (port_sides wanted.ports wanted.direction header numbers.now) code.old code.new }
-{
-    let (direction, source, destination) = (wanted.direction, header.source, header.destination);
-    match wanted.ports {
-        Ports::One(port) => {
-            let (source, destination) = (port_is(port, source), port_is(port, destination));
-            emit_sides(code, context, direction, &source, &destination)
-        }
-        Ports::Between(first, last) => {
-            let source = port_between(first, last, source);
-            let destination = port_between(first, last, destination);
-            emit_sides(code, context, direction, &source, &destination)
-        }
-        Ports::Several(first) => {
-            let at = port_places(header);
-            emit_any_sides(code, context, direction, at, first, numbers)
+impl PortTest {
+    /// A test of these ports.
+    pub fn new(protocol: Option<Protocol>, direction: Direction, ports: Ports) -> Self
+        ensures { result ≡ port_test protocol direction ports }
+    {
+        PortTest {
+            protocol,
+            direction,
+            ports,
         }
     }
 }
 
-/// The ports of a header that isn't a later fragment's.
-fn emit_ports_in<A: Allocator>(
-    code: &mut Code<A>,
-    context: Context,
-    header: Transport,
-    wanted: PortTest,
-    numbers: &[u32],
-) -> Result<usize, AllocError>
-    requires { HasRoom (12 * length numbers.now + 30) code.old }
-    ensures { EmitsFormula (12 * length numbers.now + 30) result context
-        (ports_after header wanted numbers.now) code.old code.new }
-{
-    match header.whole {
-        None => emit_port_sides(code, context, header, wanted, numbers),
-        Some(whole) => {
-            let yes = emit_port_sides(code, context.following(whole), header, wanted, numbers)?;
-            emit_elementary(code, context.going_to(yes, context.to.no), whole)
-        }
-    }
-}
-
-/// The same after the protocol that is asked for, or else TCP or UDP.
-fn emit_transport_ports<A: Allocator>(
-    code: &mut Code<A>,
-    context: Context,
-    header: Transport,
-    wanted: PortTest,
-    numbers: &[u32],
-) -> Result<usize, AllocError>
-    requires { HasRoom (12 * length numbers.now + 42) code.old }
-    ensures { EmitsFormula (12 * length numbers.now + 42) result context
-        (transport_ports header wanted numbers.now) code.old code.new }
-{
-    let (tcp, udp, no) = (header.tcp, header.udp, context.to.no);
-    let protocol = match wanted.protocol {
-        Some(Protocol::Tcp) => tcp,
-        Some(Protocol::Udp) => udp,
-        Some(_) => return Ok(no),
-        None => {
-            let following = context.after_one_of(tcp, udp);
-            let yes = emit_ports_in(code, following, header, wanted, numbers)?;
-            return emit_fork(code, context.going_to(yes, no), tcp, udp);
-        }
-    };
-    let yes = emit_ports_in(code, context.following(protocol), header, wanted, numbers)?;
-    emit_elementary(code, context.going_to(yes, no), protocol)
-}
-
-/// The same after a header of a kind. A frame of another kind goes on at `other`.
-fn emit_ports_of_kind<A: Allocator>(
-    code: &mut Code<A>,
-    context: Context,
-    kind: Elementary,
-    header: Transport,
-    wanted: PortTest,
-    numbers: &[u32],
-    other: usize,
-) -> Result<usize, AllocError>
-    requires { HasRoom (12 * length numbers.now + 48) code.old }
-    ensures { EmitsAfter (12 * length numbers.now + 48) result context kind other
-        (transport_ports header wanted numbers.now) code.old code.new }
-{
-    let yes = emit_transport_ports(code, context.following(kind), header, wanted, numbers)?;
-    emit_elementary(code, context.going_to(yes, other), kind)
+/// What follows a network header: the tests of TCP and UDP, the test that no later fragment
+/// is there, where there are fragments, and the places of both ports.
+#[derive(Clone, Copy)]
+pub struct Transport {
+    pub tcp: Elementary,
+    pub udp: Elementary,
+    pub whole: Option<Elementary>,
+    pub source: Offset,
+    pub destination: Offset,
 }
 
 /// An IPv4 header has no fixed length: the ports follow the place that it leads to.
@@ -171,31 +88,105 @@ fn ip6_transport(link: Link) -> Transport
     }
 }
 
-/// `port` and `portrange`, or several ports, whose numbers are passed beside.
-pub fn emit_ports<A: Allocator>(
-    code: &mut Code<A>,
-    context: Context,
-    wanted: PortTest,
-    numbers: &[u32],
-) -> Result<usize, AllocError>
-    requires { HasRoom (24 * length numbers.now + 96) code.old }
-    ensures { EmitsFormula (24 * length numbers.now + 96) result context
-        (port_formula context.link wanted numbers.now) code.old code.new }
+/// A port at a place.
+fn port_is(port: u32, offset: Offset) -> [Elementary; 1]
+    ensures { result ≡ port_is port offset }
 {
-    let (link, no) = (context.link, context.to.no);
-    let (ip, ip6) = (
-        kind_test(link, FrameKind::Ip),
-        kind_test(link, FrameKind::Ip6),
-    );
-    let (header, not_ip) = (ip6_transport(link), context.elsewhere(ip));
-    let other = emit_ports_of_kind(code, not_ip, ip6, header, wanted, numbers, no)?;
-    emit_ports_of_kind(
-        code,
-        context,
-        ip,
-        ip_transport(link),
-        wanted,
-        numbers,
-        other,
-    )
+    [compares_at(offset, Width::HalfWord, Comparison::Equal, port)]
+}
+
+/// A port at a place that is in a range.
+fn port_between(first: u32, last: u32, offset: Offset) -> [Elementary; 2]
+    ensures { result ≡ port_between first last offset }
+{
+    [
+        compares_at(offset, Width::HalfWord, Comparison::AtLeast, first),
+        compares_at(offset, Width::HalfWord, Comparison::AtMost, last),
+    ]
+}
+
+impl<A: Allocator> Steps<A> {
+    ghost use Rattle.flt_gen.specs.inside.Steps.{IsPut};
+
+    /// The source port at one place, the destination port at another.
+    fn put_port_sides(&mut self, header: Transport, wanted: PortTest) -> Result<(), AllocError>
+        ensures { OnOk result (IsPut
+            (port_sides wanted.ports wanted.direction header self.old.numbers) self.old self.new) }
+    {
+        let (direction, source, destination) = (
+            wanted.direction,
+            header.source,
+            header.destination,
+        );
+        match wanted.ports {
+            Ports::One(port) => {
+                self.check_sides(
+                    direction,
+                    &port_is(port, source),
+                    &port_is(port, destination),
+                )
+            }
+            Ports::Between(first, last) => {
+                let source = port_between(first, last, source);
+                self.check_sides(direction, &source, &port_between(first, last, destination))
+            }
+            Ports::Several(first) => {
+                let width = Width::HalfWord;
+                let at = Sides {
+                    width,
+                    source,
+                    destination,
+                };
+                self.among_sides(direction, at, first)
+            }
+        }
+    }
+
+    /// The ports of a header that isn't a later fragment's.
+    fn put_ports_after(&mut self, header: Transport, wanted: PortTest) -> Result<(), AllocError>
+        ensures { OnOk result
+            (IsPut (ports_after header wanted self.old.numbers) self.old self.new) }
+    {
+        match header.whole {
+            None => self.put_port_sides(header, wanted),
+            Some(whole) => {
+                self.check(whole)?;
+                self.put_port_sides(header, wanted)?;
+                self.join(Join::And)
+            }
+        }
+    }
+
+    /// The same after the protocol that is asked for, or else TCP or UDP.
+    fn put_transport_ports(&mut self, header: Transport, wanted: PortTest) -> Result<(), AllocError>
+        ensures { OnOk result
+            (IsPut (transport_ports header wanted self.old.numbers) self.old self.new) }
+    {
+        match wanted.protocol {
+            Some(Protocol::Tcp) => self.check(header.tcp)?,
+            Some(Protocol::Udp) => self.check(header.udp)?,
+            None => {
+                self.check(header.tcp)?;
+                self.check(header.udp)?;
+                self.join(Join::Or)?;
+            }
+            Some(_) => return self.check(Elementary::Outcome(false)),
+        }
+        self.put_ports_after(header, wanted)?;
+        self.join(Join::And)
+    }
+
+    /// `port` and `portrange`, after a header of IPv4 or of IPv6.
+    pub fn put_ports(&mut self, link: Link, wanted: PortTest) -> Result<(), AllocError>
+        ensures { OnOk result
+            (IsPut (port_formula link wanted self.old.numbers) self.old self.new) }
+    {
+        self.check(kind_test(link, FrameKind::Ip))?;
+        self.put_transport_ports(ip_transport(link), wanted)?;
+        self.join(Join::And)?;
+        self.check(kind_test(link, FrameKind::Ip6))?;
+        self.put_transport_ports(ip6_transport(link), wanted)?;
+        self.join(Join::And)?;
+        self.join(Join::Or)
+    }
 }

@@ -1,6 +1,6 @@
 //! Programs of expressions.
 
-ghost use Rattle.std.specs.Prelude.{◌≡◌, ◌≤◌, length, IfOk, reverse};
+ghost use Rattle.std.specs.Prelude.{◌≡◌, ◌≤◌, IfOk, reverse};
 ghost use Rattle.flt_gen.specs.Correct.{IsProgramOf};
 ghost use Rattle.flt_gen.specs.Counts.{short_bound_of};
 ghost use Rattle.flt_bpf.specs.Layout.{JumpsAreNeeded, IsShort};
@@ -10,23 +10,20 @@ use crate::folding::folded_nodes;
 use crate::walk::Walk;
 use cap_octet::Link;
 use flt_ast::{Checked, Node};
-use flt_bpf::insn::Insn;
+use flt_bpf::Wide;
 use flt_bpf::program::{Program, check};
 use flt_passes::best_of;
-use flt_short::{pass_loads, shortened};
+use flt_short::{shortened, threaded};
 use std::alloc::{AllocError, Allocator};
 
-/// The instructions of a program for the tree with these nodes.
-fn program_insns<A: Allocator + Clone>(
+/// The code of the tree with these nodes.
+fn wide_code<A: Allocator + Clone>(
     alloc: A,
     nodes: &[Node],
     link: Link,
-) -> Result<Vec<Insn, A>, AllocError>
-    requires room { length (emit_nodes link start_walk (reverse nodes.now)).code ≤ 32768 }
-    requires inside { (emit_nodes link start_walk (reverse nodes.now)).to.yes
-        ≤ length (emit_nodes link start_walk (reverse nodes.now)).code }
+) -> Result<Vec<Wide, A>, AllocError>
     ensures { IfOk result
-        (λ insns. insns.items ≡ insns_of (emit_nodes link start_walk (reverse nodes.now))) }
+        (λ code. code.items ≡ insns_of (emit_nodes link start_walk (reverse nodes.now))) }
 {
     let mut walk = Walk::new(alloc)?;
     walk.emit_nodes(link, nodes)?;
@@ -55,12 +52,15 @@ pub fn generate<A: Allocator + Clone, B: Allocator>(
     ensures fresh { IfOk result (λ program. program.spent ≡ 0) }
 {
     let nodes = folded_nodes(alloc.clone()?, expr.expr.nodes())?;
-    let insns = program_insns(alloc.clone()?, &nodes, link)?;
-    let turned = pass_loads(alloc.clone()?, insns)?;
-    let short = shortened(alloc.clone()?, turned)?;
-    let best = best_of(alloc, short)?;
+    let code = wide_code(alloc.clone()?, &nodes, link)?;
+    // Code that gets much shorter repeats itself, so that the optimiser finds more.
+    let written = code.len();
+    let threaded = threaded(alloc.clone()?, code)?;
+    let short = shortened(alloc.clone()?, threaded)?;
+    let best = best_of(alloc, short, written)?;
     match check(best) {
         Ok(program) => Ok(program),
+        // What the passes make of valid code is valid.
         Err(_) => unreachable!(),
     }
 }

@@ -61,8 +61,8 @@ sum_expr_sizes : (e : Expression) → sum_by node_size (expr_nodes e) ≡ nodes_
 sum_expr_sizes empty = refl
 sum_expr_sizes (truth a) = omega (arith, sum_truth_sizes a [])
 
-pub sizes_whole : (items : List Node) → IsTree items → sum_by node_size items ≡ nodes_of (tree_of items)
-sizes_whole items whole = ap (λ l. sum_by node_size l) (sym whole) ∙ sum_expr_sizes (tree_of items)
+pub arithmetic_nodes_whole : (items : List Node) → IsTree items → sum_by node_size items ≡ nodes_of (tree_of items)
+arithmetic_nodes_whole items whole = ap (λ l. sum_by node_size l) (sym whole) ∙ sum_expr_sizes (tree_of items)
 
 moved_to : (h m i n : ℕ) (rest : List Node) → h ≡ i → m ≡ n → fold climb (h, m) rest ≡ fold climb (i, n) rest
 moved_to h m i n rest e f = cc

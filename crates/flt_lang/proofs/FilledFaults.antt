@@ -10,7 +10,7 @@ use Rattle.flt_ast.specs.Tree.{TruthTree, check, cast, sized, bare, valued, qual
 use Rattle.flt_ast.specs.Nodes.{tree_of}
 use Rattle.flt_ast.specs.inside.Nodes.{IsTree}
 use Rattle.flt_ast.specs.Fits.{fit_of, is_misfit_fit, is_proto, is_either}
-use Rattle.flt_ast.specs.Filled.{type_or_host, full, latest, with_inherited, complete, only_host, expr_inherited, fill_expression}
+use Rattle.flt_ast.specs.Filled.{type_or_host, completed_qualifiers, latest, with_inherited, complete, only_host, expr_inherited, fill_expression}
 use Rattle.flt_ast.specs.inside.Filled.{inherited_nodes}
 use Rattle.flt_ast.specs.Resolved.{is_misfit, is_out_of_range, has_past_bits, is_unfilled, any_primitive, some_primitive, first_fault, fill_fault, IsResolved}
 use Rattle.flt_ast.specs.inside.Resolved.{nodes_fault}
@@ -26,7 +26,7 @@ either_false true b h i = cc
 either_false false b h i = i
 
 -- what holds of no primitive holds of none of the completed tree
-completed_keeps : (f : TruthTree → Bool) → ((q : Qualifiers) (v : Value) → f (valued q v) ≡ false → f (qualified (full q) v) ≡ false) → (a : TruthTree) → any_primitive f a ≡ false → any_primitive f (complete a) ≡ false
+completed_keeps : (f : TruthTree → Bool) → ((q : Qualifiers) (v : Value) → f (valued q v) ≡ false → f (qualified (completed_qualifiers q) v) ≡ false) → (a : TruthTree) → any_primitive f a ≡ false → any_primitive f (complete a) ≡ false
 completed_keeps f keeps (check p) h = h
 completed_keeps f keeps (cast p c) h = h
 completed_keeps f keeps (sized s n) h = h
@@ -39,7 +39,7 @@ completed_keeps f keeps (joined j a b) h =
     let (left, right) = both_false (any_primitive f a) (any_primitive f b) h in
     either_false (any_primitive f (complete a)) (any_primitive f (complete b)) (completed_keeps f keeps a left) (completed_keeps f keeps b right)
 
-filled_keeps : (f : TruthTree → Bool) → ((q : Qualifiers) (v : Value) → f (valued q v) ≡ false → f (qualified (full q) v) ≡ false) → (e : Expression) → some_primitive f (expr_inherited e) ≡ false → some_primitive f (fill_expression e) ≡ false
+filled_keeps : (f : TruthTree → Bool) → ((q : Qualifiers) (v : Value) → f (valued q v) ≡ false → f (qualified (completed_qualifiers q) v) ≡ false) → (e : Expression) → some_primitive f (expr_inherited e) ≡ false → some_primitive f (fill_expression e) ≡ false
 filled_keeps f keeps empty h = h
 filled_keeps f keeps (truth a) h = completed_keeps f keeps (with_inherited only_host a) h
 

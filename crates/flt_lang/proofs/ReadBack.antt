@@ -17,7 +17,7 @@ use Rattle.flt_ast.specs.declared.value.NetMask.TheVariants as mask
 use Rattle.flt_ast.specs.declared.value.Value.{Value}
 use Rattle.flt_ast.specs.declared.value.Value.TheVariants as value
 use Rattle.flt_ast.specs.Tree.{NumberTree, literal, len, named, load, negated, applied, TruthTree, check, cast, sized, bare, valued, qualified, compared, denied, joined, Expression, empty, truth}
-use Rattle.flt_ast.specs.Filled.{latest, with_inherited, complete, full, only_host, fill_expression}
+use Rattle.flt_ast.specs.Filled.{latest, with_inherited, complete, completed_qualifiers, only_host, fill_expression}
 use Rattle.flt_ast.specs.Resolved.{IsResolved, any_primitive, fill_fault, is_misfit, is_out_of_range, is_unfilled, has_past_bits}
 use Rattle.flt_ast.specs.Fits.{fit_of, is_either, is_misfit_fit, is_proto}
 use Rattle.flt_lang.specs.Values.{ReadsProtocol, no_protocol, protocol, ReadsDirection, no_direction, one_side, source_first, of_type, ReadsQualifiers, qualifiers, is_written, ReadsMask, no_mask, prefix, dotted_mask, ReadsValue, number, dotted, ip6, ip6_prefix, mac, range}
@@ -147,7 +147,7 @@ reads_truth operand (joined j a b) rest w f =
     around operand rest (terms (term (reads_truth true a _ w.0 parts.0)) (reads_truth true b _ w.1 parts.1))
 
 -- resolved, it is the tree
-full_again : (k : ValueType) (p : Option Protocol) (d : Direction) → is_proto k && not (is_either d) ≡ false → full (record { protocol = p; direction = written_side k d; value_type = Some k }) ≡ record { protocol = p; direction = d; value_type = k }
+full_again : (k : ValueType) (p : Option Protocol) (d : Direction) → is_proto k && not (is_either d) ≡ false → completed_qualifiers (record { protocol = p; direction = written_side k d; value_type = Some k }) ≡ record { protocol = p; direction = d; value_type = k }
 unfolding written_side
 full_again Proto p (direction.Both join.Or) h = refl
 full_again Proto p (direction.Both join.And) h = cc

@@ -1,5 +1,8 @@
 //! The tokens of an expression, written from its last node to its first: what takes operands waits
 //! until they are written, so nothing recurses and each token is written once.
+//!
+//! Everywhere `is_operand` is whether a node is an operand of another one: then it has parentheses
+//! around it.
 
 ghost use Rattle.std.specs.Prelude.{◌≡◌, [], ◌∷◌, IfNone, IfOk, IfSome, OnOk, true};
 ghost use Rattle.flt_ast.specs.declared.node.Node.TheVariants as node;
@@ -57,7 +60,7 @@ impl<A: Allocator> Writer<A> {
     }
 
     /// Writes a token before those that are written.
-    fn write(&mut self, token: TokenKind) -> Result<(), AllocError>
+    fn push_token(&mut self, token: TokenKind) -> Result<(), AllocError>
         ensures tokens { OnOk result (self.new.tokens ≡ token ∷ self.old.tokens) }
         ensures pending { OnOk result (self.new.pending ≡ self.old.pending) }
     {
@@ -65,8 +68,8 @@ impl<A: Allocator> Writer<A> {
         Ok(())
     }
 
-    /// Lets this wait for the next operand.
-    fn wait(&mut self, pending: Pending) -> Result<(), AllocError>
+    /// Lets this wait until the next operand is written.
+    fn push_pending(&mut self, pending: Pending) -> Result<(), AllocError>
         ensures pending { OnOk result (self.new.pending ≡ pending ∷ self.old.pending) }
         ensures tokens { OnOk result (self.new.tokens ≡ self.old.tokens) }
     {
@@ -74,8 +77,8 @@ impl<A: Allocator> Writer<A> {
         Ok(())
     }
 
-    /// Takes what waits latest.
-    fn pop(&mut self) -> Option<Pending>
+    /// Takes off what waits since the shortest time.
+    fn pop_pending(&mut self) -> Option<Pending>
         ensures some { IfSome result (λ p. self.old.pending ≡ p ∷ self.new.pending) }
         ensures none { IfNone result (self.old.pending ≡ []) }
         ensures none_left { IfNone result (self.new.pending ≡ []) }
@@ -84,15 +87,16 @@ impl<A: Allocator> Writer<A> {
         self.pending.pop()
     }
 
-    /// An operand is written: what waits in front of it follows.
+    /// After an operand: writes what waits in front of it, up to what stands between it and another
+    /// one.
     fn settle(&mut self) -> Result<(), AllocError>
         ensures { OnOk result (self.new ≡ settle self.old.pending self.old.tokens) }
     {
-        while let Some(pending) = self.pop() {
+        while let Some(pending) = self.pop_pending() {
             match pending {
-                Pending::Front(token) => self.write(token)?,
+                Pending::Front(token) => self.push_token(token)?,
                 Pending::Between(token) => {
-                    self.write(token)?;
+                    self.push_token(token)?;
                     return Ok(());
                 }
             }
@@ -100,50 +104,53 @@ impl<A: Allocator> Writer<A> {
         Ok(())
     }
 
-    /// Closes the parentheses around an operand.
-    fn close(&mut self, is_operand: bool) -> Result<(), AllocError>
+    /// Writes the `)` after an operand; the end of it is written first.
+    fn close_parentheses(&mut self, is_operand: bool) -> Result<(), AllocError>
         ensures tokens { OnOk result (self.new.tokens ≡ close_operand is_operand self.old.tokens) }
         ensures pending { OnOk result (self.new.pending ≡ self.old.pending) }
     {
         if is_operand {
-            self.write(TokenKind::Close)?;
+            self.push_token(TokenKind::Close)?;
         }
         Ok(())
     }
 
-    /// Opens them.
-    fn open(&mut self, is_operand: bool) -> Result<(), AllocError>
+    /// Writes the `(` before an operand.
+    fn open_parentheses(&mut self, is_operand: bool) -> Result<(), AllocError>
         ensures tokens { OnOk result (self.new.tokens ≡ open_operand is_operand self.old.tokens) }
         ensures pending { OnOk result (self.new.pending ≡ self.old.pending) }
     {
         if is_operand {
-            self.write(TokenKind::Open)?;
+            self.push_token(TokenKind::Open)?;
         }
         Ok(())
     }
 
-    /// Closes the parentheses around a node with operands, which are written next.
+    /// Begins an operator whose operands are written next: closes its parentheses, and lets it wait
+    /// for them.
     fn surround(&mut self, is_operand: bool, pending: Pending) -> Result<(), AllocError>
         ensures { OnOk result (self.new ≡ around is_operand pending self.old) }
     {
         if is_operand {
-            self.write(TokenKind::Close)?;
-            self.wait(Pending::Front(TokenKind::Open))?;
+            self.push_token(TokenKind::Close)?;
+            self.push_pending(Pending::Front(TokenKind::Open))?;
         }
-        self.wait(pending)
+        self.push_pending(pending)
     }
 
+    /// Writes `/ N`, if there is a length of a prefix.
     fn write_prefix(&mut self, len: Option<u32>) -> Result<(), AllocError>
         ensures tokens { OnOk result (self.new.tokens ≡ prefix_tokens len self.old.tokens) }
         ensures pending { OnOk result (self.new.pending ≡ self.old.pending) }
     {
         if let Some(len) = len {
-            self.write(TokenKind::Number(len))?;
-            self.write(TokenKind::Operator(Operator::Divide))?;
+            self.push_token(TokenKind::Number(len))?;
+            self.push_token(TokenKind::Operator(Operator::Divide))?;
         }
         Ok(())
     }
 
+    /// Writes what follows a number or an IPv4 address of a network.
     fn write_mask(&mut self, mask: NetMask) -> Result<(), AllocError>
         ensures tokens { OnOk result (self.new.tokens ≡ mask_tokens mask self.old.tokens) }
         ensures pending { OnOk result (self.new.pending ≡ self.old.pending) }
@@ -151,19 +158,20 @@ impl<A: Allocator> Writer<A> {
         match mask {
             NetMask::Unwritten => Ok(()),
             NetMask::Prefix(len) => {
-                self.write(TokenKind::Number(len))?;
-                self.write(TokenKind::Operator(Operator::Divide))
+                self.push_token(TokenKind::Number(len))?;
+                self.push_token(TokenKind::Operator(Operator::Divide))
             }
             NetMask::Mask(dotted) => {
-                self.write(TokenKind::Dotted {
+                self.push_token(TokenKind::Dotted {
                     address: dotted.address,
                     parts: dotted.parts,
                 })?;
-                self.write(TokenKind::Mask)
+                self.push_token(TokenKind::Mask)
             }
         }
     }
 
+    /// Writes a value without its qualifiers.
     fn write_value(&mut self, value: Value) -> Result<(), AllocError>
         ensures tokens { OnOk result (self.new.tokens ≡ value_tokens value self.old.tokens) }
         ensures pending { OnOk result (self.new.pending ≡ self.old.pending) }
@@ -171,57 +179,59 @@ impl<A: Allocator> Writer<A> {
         match value {
             Value::Number(number, mask) => {
                 self.write_mask(mask)?;
-                self.write(TokenKind::Number(number))
+                self.push_token(TokenKind::Number(number))
             }
             Value::Dotted(dotted, mask) => {
                 self.write_mask(mask)?;
-                self.write(TokenKind::Dotted {
+                self.push_token(TokenKind::Dotted {
                     address: dotted.address,
                     parts: dotted.parts,
                 })
             }
             Value::Ip6(address, len) => {
                 self.write_prefix(len)?;
-                self.write(TokenKind::Ip6(address))
+                self.push_token(TokenKind::Ip6(address))
             }
-            Value::Mac(address) => self.write(TokenKind::Mac(address)),
-            Value::Range { first, last } => self.write(TokenKind::Range { first, last }),
+            Value::Mac(address) => self.push_token(TokenKind::Mac(address)),
+            Value::Range { first, last } => self.push_token(TokenKind::Range { first, last }),
         }
     }
 
+    /// Writes a protocol before a value, if it has one.
     fn write_protocol(&mut self, protocol: Option<Protocol>) -> Result<(), AllocError>
         ensures tokens { OnOk result (self.new.tokens ≡ protocol_tokens protocol self.old.tokens) }
         ensures pending { OnOk result (self.new.pending ≡ self.old.pending) }
     {
         match protocol {
             None => Ok(()),
-            Some(protocol) => self.write(TokenKind::Protocol(protocol)),
+            Some(protocol) => self.push_token(TokenKind::Protocol(protocol)),
         }
     }
 
+    /// Writes a direction before a value.
     fn write_direction(&mut self, direction: Direction) -> Result<(), AllocError>
         ensures tokens { OnOk result (self.new.tokens
             ≡ direction_tokens direction self.old.tokens) }
         ensures pending { OnOk result (self.new.pending ≡ self.old.pending) }
     {
         match direction {
-            Direction::One(side) => self.write(TokenKind::Side(side)),
+            Direction::One(side) => self.push_token(TokenKind::Side(side)),
             Direction::Both(join) => {
-                self.write(TokenKind::Side(Side::Destination))?;
-                self.write(TokenKind::Join(join))?;
-                self.write(TokenKind::Side(Side::Source))
+                self.push_token(TokenKind::Side(Side::Destination))?;
+                self.push_token(TokenKind::Join(join))?;
+                self.push_token(TokenKind::Side(Side::Source))
             }
         }
     }
 
-    /// The qualifiers that are written.
-    fn write_written(&mut self, qualifiers: Qualifiers) -> Result<(), AllocError>
+    /// Writes those qualifiers that the text had.
+    fn write_written_qualifiers(&mut self, qualifiers: Qualifiers) -> Result<(), AllocError>
         ensures tokens { OnOk result (self.new.tokens
             ≡ written_tokens qualifiers self.old.tokens) }
         ensures pending { OnOk result (self.new.pending ≡ self.old.pending) }
     {
         if let Some(value_type) = qualifiers.value_type {
-            self.write(TokenKind::ValueType(value_type))?;
+            self.push_token(TokenKind::ValueType(value_type))?;
         }
         if let Some(direction) = qualifiers.direction {
             self.write_direction(direction)?;
@@ -229,13 +239,13 @@ impl<A: Allocator> Writer<A> {
         self.write_protocol(qualifiers.protocol)
     }
 
-    /// All qualifiers.
+    /// Writes all qualifiers; a protocol number has no direction.
     fn write_qualifiers(&mut self, qualifiers: CompleteQualifiers) -> Result<(), AllocError>
         ensures tokens { OnOk result (self.new.tokens
             ≡ qualifier_tokens qualifiers self.old.tokens) }
         ensures pending { OnOk result (self.new.pending ≡ self.old.pending) }
     {
-        self.write(TokenKind::ValueType(qualifiers.value_type))?;
+        self.push_token(TokenKind::ValueType(qualifiers.value_type))?;
         match qualifiers.value_type {
             ValueType::Proto => {}
             _ => self.write_direction(qualifiers.direction)?,
@@ -245,15 +255,15 @@ impl<A: Allocator> Writer<A> {
 }
 
 impl<A: Allocator> Writer<A> {
-    /// An operand of one token.
+    /// Writes an operand of one token, which needs no parentheses.
     fn write_word(&mut self, token: TokenKind) -> Result<(), AllocError>
         ensures { OnOk result (self.new ≡ settle self.old.pending (token ∷ self.old.tokens)) }
     {
-        self.write(token)?;
+        self.push_token(token)?;
         self.settle()
     }
 
-    /// An operand of two tokens.
+    /// Writes an operand of two tokens.
     fn write_pair(
         &mut self,
         is_operand: bool,
@@ -263,14 +273,14 @@ impl<A: Allocator> Writer<A> {
         ensures { OnOk result (self.new ≡ settle self.old.pending
             (open_operand is_operand (first ∷ last ∷ close_operand is_operand self.old.tokens))) }
     {
-        self.close(is_operand)?;
-        self.write(last)?;
-        self.write(first)?;
-        self.open(is_operand)?;
+        self.close_parentheses(is_operand)?;
+        self.push_token(last)?;
+        self.push_token(first)?;
+        self.open_parentheses(is_operand)?;
         self.settle()
     }
 
-    /// `broadcast` or `multicast`.
+    /// Writes `broadcast` or `multicast`, with its protocol.
     fn write_cast(
         &mut self,
         is_operand: bool,
@@ -289,15 +299,17 @@ impl<A: Allocator> Writer<A> {
         }
     }
 
+    /// Writes a value that has no qualifiers yet.
     fn write_bare(&mut self, is_operand: bool, value: Value) -> Result<(), AllocError>
         ensures { OnOk result (self.new ≡ write_node is_operand (node.Bare value) self.old) }
     {
-        self.close(is_operand)?;
+        self.close_parentheses(is_operand)?;
         self.write_value(value)?;
-        self.open(is_operand)?;
+        self.open_parentheses(is_operand)?;
         self.settle()
     }
 
+    /// Writes a value with the qualifiers that the text had.
     fn write_valued(
         &mut self,
         is_operand: bool,
@@ -307,13 +319,14 @@ impl<A: Allocator> Writer<A> {
         ensures { OnOk result (self.new
             ≡ write_node is_operand (node.Valued qualifiers value) self.old) }
     {
-        self.close(is_operand)?;
+        self.close_parentheses(is_operand)?;
         self.write_value(value)?;
-        self.write_written(qualifiers)?;
-        self.open(is_operand)?;
+        self.write_written_qualifiers(qualifiers)?;
+        self.open_parentheses(is_operand)?;
         self.settle()
     }
 
+    /// Writes a value with all its qualifiers.
     fn write_qualified(
         &mut self,
         is_operand: bool,
@@ -323,23 +336,23 @@ impl<A: Allocator> Writer<A> {
         ensures { OnOk result (self.new
             ≡ write_node is_operand (node.Qualified qualifiers value) self.old) }
     {
-        self.close(is_operand)?;
+        self.close_parentheses(is_operand)?;
         self.write_value(value)?;
         self.write_qualifiers(qualifiers)?;
-        self.open(is_operand)?;
+        self.open_parentheses(is_operand)?;
         self.settle()
     }
 
-    /// An accessor, `protocol[index:size]`: writes `:size]`; the index is next, and `protocol[` waits
-    /// for it.
+    /// Writes `:size]` of an accessor `protocol[index:size]`; the index is next, and `protocol[`
+    /// waits for it.
     fn write_load(&mut self, protocol: Protocol, size: u32) -> Result<(), AllocError>
         ensures { OnOk result (self.new ≡ write_node true (node.Load protocol size) self.old) }
     {
-        self.write(TokenKind::CloseBracket)?;
-        self.write(TokenKind::Number(size))?;
-        self.write(TokenKind::Colon)?;
-        self.wait(Pending::Front(TokenKind::Protocol(protocol)))?;
-        self.wait(Pending::Front(TokenKind::OpenBracket))
+        self.push_token(TokenKind::CloseBracket)?;
+        self.push_token(TokenKind::Number(size))?;
+        self.push_token(TokenKind::Colon)?;
+        self.push_pending(Pending::Front(TokenKind::Protocol(protocol)))?;
+        self.push_pending(Pending::Front(TokenKind::OpenBracket))
     }
 
     /// Writes a node before those that are written.

@@ -1,4 +1,4 @@
-//! The counts of a checked expression.
+//! The counts of a checked expression, which bound its program.
 
 ghost use Rattle.std.specs.Prelude.{◌≡◌};
 ghost use Rattle.flt_ast.specs.Counts.{tests_of, nodes_of, words_of, bound_of};
@@ -7,7 +7,7 @@ use crate::sums;
 use flt_ast::Checked;
 use std::alloc::Allocator;
 
-/// How many elementary tests the formulas of its primitives have.
+/// How many elementary tests the formulas of its primitives have. `check` saw that it fits 32 bits.
 pub fn tests<A: Allocator>(checked: &Checked<A>) -> u32
     ensures { result ≡ tests_of checked.now.expr }
 {
@@ -21,7 +21,8 @@ pub fn nodes<A: Allocator>(checked: &Checked<A>) -> u32
     sums::nodes_in(&checked.expr) as u32
 }
 
-/// How many words of memory hold what waits while right sides are computed.
+/// How many of the machine's words of memory hold what waits while right sides are computed, 16 at
+/// most.
 pub fn words<A: Allocator>(checked: &Checked<A>) -> u32
     ensures { result ≡ words_of checked.now.expr }
 {

@@ -1,4 +1,4 @@
-//! What an expression means, as an expression.
+//! What an expression means, as an expression: for people, who see which qualifiers each value has.
 
 ghost use Rattle.std.specs.Prelude.{◌≡◌, IfOk};
 ghost use Rattle.std.specs.String.{string_bytes};
@@ -10,8 +10,8 @@ use flt_ast::Expr;
 use flt_words::TokenKind;
 use std::alloc::{AllocError, Allocator};
 
-/// The tokens of the nodes of an expression.
-fn tokens_of<A: Allocator + Clone>(
+/// The tokens of what an expression means.
+fn explained_tokens<A: Allocator + Clone>(
     alloc: A,
     expr: &Expr<A>,
 ) -> Result<Vec<TokenKind, A>, AllocError>
@@ -44,7 +44,7 @@ fn tokens_of<A: Allocator + Clone>(
 pub fn explain<A: Allocator + Clone>(alloc: A, expr: &Expr<A>) -> Result<String<A>, AllocError>
     ensures { IfOk result (λ text. string_bytes text ≡ explained_text expr.now) }
 {
-    let tokens = tokens_of(alloc.clone()?, expr)?;
+    let tokens = explained_tokens(alloc.clone()?, expr)?;
     let mut text = String::new(alloc);
     push_tokens(&mut text, &tokens)?;
     Ok(text)

@@ -1,6 +1,19 @@
 //! What the parser keeps: frames that wait for an operand, and the operand that was just read.
 //! Three precedences rule it, of which the greater binds more loosely: that of a frame, that of the
 //! next token, and that of the loosest operand which the latest frame takes.
+//!
+//!                   frame    next token    loosest operand that the frame takes
+//!     a sign `-`      0                      0
+//!     `*` `/` `%`     1          1           0
+//!     `+` `-`         2          2           1
+//!     `<<` `>>`       3          3           2
+//!     `&` `|` `^`     4          4           3
+//!     `=` and so on   5          5           4
+//!     `not`           6                      6
+//!     `and` `or`      7          7           6
+//!     `)` `]` `:`                8
+//!     `tcp[`          9                      4
+//!     `(`             9                      7, as the whole expression
 
 ghost use Rattle.std.specs.Prelude.{◌≡◌, reverse};
 ghost use Rattle.flt_lang.specs.Grammar.{level};
@@ -34,7 +47,7 @@ pub enum Operand {
     Either(u32, Option<u32>),
 }
 
-/// The two sorts of operands.
+/// The two sorts of operands: what is true or not of a packet, and what has a value.
 #[derive(Clone, Copy)]
 pub enum Sort {
     Truth,
@@ -42,7 +55,7 @@ pub enum Sort {
 }
 
 impl Operand {
-    /// The operand in parentheses.
+    /// The operand with parentheses around it: a plain number begins no longer value then.
     pub fn enclosed(self) -> Operand
         ensures { result ≡ enclosed_operand self }
     {
@@ -54,7 +67,7 @@ impl Operand {
 }
 
 impl Frame {
-    /// How loosely it binds its operand: 0 is the tightest.
+    /// How loosely it binds its operand, by the table above: 0 is the tightest.
     pub fn precedence(self) -> u8
         ensures { result ≡ precedence self }
     {
@@ -94,7 +107,7 @@ impl Frame {
     }
 }
 
-/// The level of an operator: its chains are of operands of this level.
+/// The level of an operator, 0 the tightest: operators of one level form a chain, from the left.
 pub fn level(operator: Operator) -> u8
     ensures { result ≡ level operator }
 {

@@ -1,4 +1,4 @@
-//! Laws of the grammar.
+//! Laws of the grammar: each is a theorem, and its function does nothing.
 
 ghost use Rattle.std.specs.Prelude.{◌≡◌, ◌≤◌, ℕ, List, Ok, length};
 ghost use Rattle.flt_words.specs.declared.token.Token.{Token};

@@ -1,4 +1,4 @@
-//! How deep tokens nest.
+//! How deep tokens nest (E6). It is tested before anything is read.
 
 ghost use Rattle.std.specs.Prelude.{◌≡◌, ◌↔◌, IsTrue};
 ghost use Rattle.flt_lang.specs.Nesting.{is_opening, is_closing, is_prefix, HasDeepFront};
@@ -14,20 +14,23 @@ pub fn is_nested_too_deep(tokens: &[Token]) -> bool
     has_deep_front(tokens) || has_long_prefix(tokens)
 }
 
+/// Whether a token opens a parenthesis or a bracket.
 #[tactic(auto, unfolding(crate::specs::Nesting::is_opening))]
-fn opens(token: &Token) -> bool
+fn is_opening(token: &Token) -> bool
     ensures { result ≡ is_opening token.now }
 {
     matches!(token.kind, TokenKind::Open | TokenKind::OpenBracket)
 }
 
+/// Whether a token closes one.
 #[tactic(auto, unfolding(crate::specs::Nesting::is_closing))]
-fn closes(token: &Token) -> bool
+fn is_closing(token: &Token) -> bool
     ensures { result ≡ is_closing token.now }
 {
     matches!(token.kind, TokenKind::Close | TokenKind::CloseBracket)
 }
 
+/// Whether a token may stand many times before one operand: `not` and the sign `-`.
 #[tactic(auto, unfolding(crate::specs::Nesting::is_prefix))]
 fn is_prefix(token: &Token) -> bool
     ensures { result ≡ is_prefix token.now }
@@ -38,16 +41,17 @@ fn is_prefix(token: &Token) -> bool
     )
 }
 
+/// Whether over 100 more are opened than closed at some place.
 fn has_deep_front(tokens: &[Token]) -> bool
     ensures { IsTrue result ↔ HasDeepFront tokens.now }
 {
     let mut opened: usize = 0;
     let mut closed: usize = 0;
     for token in tokens {
-        if opens(token) {
+        if is_opening(token) {
             opened += 1;
         }
-        if closes(token) {
+        if is_closing(token) {
             closed += 1;
         }
         if opened > closed.saturating_add(100) {
@@ -57,6 +61,7 @@ fn has_deep_front(tokens: &[Token]) -> bool
     false
 }
 
+/// Whether over 100 tokens `not` and `-` follow one another.
 fn has_long_prefix(tokens: &[Token]) -> bool
     ensures { IsTrue result ↔ HasLongPrefix tokens.now }
 {

@@ -1,4 +1,4 @@
-//! Tokens become a tree: the loop over `Reader`, and what it refuses.
+//! Tokens become a tree: what is refused at once, and the tree that `Reader` reads of the others.
 
 ghost use Rattle.std.specs.Prelude.{◌≡◌, ◌↔◌, ◌⊎◌, Err, IfOk, IfErr};
 ghost use Rattle.flt_ast.specs.Tree.{Expression};
@@ -28,12 +28,12 @@ pub fn parse<A: Allocator + Clone>(alloc: A, tokens: &[Token]) -> Result<Expr<A>
     if is_nested_too_deep(tokens) {
         return Err(ExprFault::NestedTooDeep);
     }
-    read(alloc, tokens)
+    read_tree(alloc, tokens)
 }
 
-/// The tree of the tokens.
+/// The tree of tokens that do not nest too deep.
 #[tactic(auto, using(crate::proofs::Parsing::no_tree))]
-fn read<A: Allocator + Clone>(alloc: A, tokens: &[Token]) -> Result<Expr<A>, ExprFault>
+fn read_tree<A: Allocator + Clone>(alloc: A, tokens: &[Token]) -> Result<Expr<A>, ExprFault>
     ensures ok { IfOk result (λ tree. IsReadAs (kinds_of tokens.now) tree) }
     ensures none { result ≡ Err ExprFault.NotAnExpression
         → (tree : Expression) → IsReadAs (kinds_of tokens.now) tree → ⊥ }

@@ -14,13 +14,14 @@ ghost use Rattle.flt_lang.specs.inside.Parser.{valued_of};
 use flt_ast::{Direction, Dotted, NetMask, Qualifiers, Value};
 use flt_words::{Join, Operator, Protocol, Side, Token, TokenKind, ValueType};
 
-/// The kind of the token at an index, if there is one.
+/// The kind of the token at an index from 0, if there is one.
 pub fn kind_at(tokens: &[Token], index: usize) -> Option<TokenKind>
     ensures { result ≡ slice_get (kinds_of tokens.now) index }
 {
     Some(tokens.get(index)?.kind)
 }
 
+/// The protocol with which tokens begin, and how many tokens it takes: 1, or 0 where there is none.
 fn read_protocol(tokens: &[Token]) -> (Option<Protocol>, usize)
     ensures value { result.0 ≡ (protocol_of (kinds_of tokens.now)).0 }
     ensures rest { kinds_of (drop result.1 tokens.now) ≡ (protocol_of (kinds_of tokens.now)).1 }
@@ -32,6 +33,7 @@ fn read_protocol(tokens: &[Token]) -> (Option<Protocol>, usize)
     }
 }
 
+/// Whether one side is the source and the other one the destination.
 fn is_opposite(first: Side, second: Side) -> bool
     ensures { result ≡ is_opposite first second }
 {
@@ -41,8 +43,8 @@ fn is_opposite(first: Side, second: Side) -> bool
     )
 }
 
-/// The join of both sides.
-fn read_both(tokens: &[Token]) -> Option<Join>
+/// The join of `src or dst` or `src and dst`, in either order of the sides: three tokens.
+fn read_both_sides(tokens: &[Token]) -> Option<Join>
     ensures value { result ≡ both_of (kinds_of tokens.now) }
     ensures within { IfSome result (λ _. 2 < length tokens.now) }
 {
@@ -53,12 +55,13 @@ fn read_both(tokens: &[Token]) -> Option<Join>
     }
 }
 
+/// The direction with which tokens begin, and how many tokens it takes: 3, 1, or 0.
 fn read_direction(tokens: &[Token]) -> (Option<Direction>, usize)
     ensures value { result.0 ≡ (direction_of (kinds_of tokens.now)).0 }
     ensures rest { kinds_of (drop result.1 tokens.now) ≡ (direction_of (kinds_of tokens.now)).1 }
     ensures within { result.1 ≤ length tokens.now }
 {
-    if let Some(join) = read_both(tokens) {
+    if let Some(join) = read_both_sides(tokens) {
         return (Some(Direction::Both(join)), 3);
     }
     match kind_at(tokens, 0) {
@@ -67,6 +70,7 @@ fn read_direction(tokens: &[Token]) -> (Option<Direction>, usize)
     }
 }
 
+/// The type with which tokens begin, and how many tokens it takes: 1 or 0.
 fn read_type(tokens: &[Token]) -> (Option<ValueType>, usize)
     ensures value { result.0 ≡ (type_of (kinds_of tokens.now)).0 }
     ensures rest { kinds_of (drop result.1 tokens.now) ≡ (type_of (kinds_of tokens.now)).1 }
@@ -78,6 +82,8 @@ fn read_type(tokens: &[Token]) -> (Option<ValueType>, usize)
     }
 }
 
+/// The qualifiers with which tokens begin, in their order, and how many tokens they take: 5 at
+/// most.
 fn read_qualifiers(tokens: &[Token]) -> (Qualifiers, usize)
     ensures qualifiers { result.0 ≡ (qualifiers_of (kinds_of tokens.now)).0 }
     ensures rest { kinds_of (drop result.1 tokens.now) ≡ (qualifiers_of (kinds_of tokens.now)).1 }
@@ -94,6 +100,7 @@ fn read_qualifiers(tokens: &[Token]) -> (Qualifiers, usize)
     (qualifiers, a + b + c)
 }
 
+/// `/ N` or `mask D`, if tokens begin with it, and how many tokens it takes: 2 or 0.
 fn read_mask(tokens: &[Token]) -> (NetMask, usize)
     ensures value { result.0 ≡ (mask_of (kinds_of tokens.now)).0 }
     ensures rest { kinds_of (drop result.1 tokens.now) ≡ (mask_of (kinds_of tokens.now)).1 }
@@ -110,7 +117,8 @@ fn read_mask(tokens: &[Token]) -> (NetMask, usize)
     }
 }
 
-fn read_prefix(tokens: &[Token]) -> (Option<u32>, usize)
+/// The `N` of `/ N`, if tokens begin with it, and how many tokens it takes: 2 or 0.
+fn read_prefix_len(tokens: &[Token]) -> (Option<u32>, usize)
     ensures value { result.0 ≡ (prefix_of (kinds_of tokens.now)).0 }
     ensures rest { kinds_of (drop result.1 tokens.now) ≡ (prefix_of (kinds_of tokens.now)).1 }
     ensures within { result.1 ≤ length tokens.now }
@@ -123,7 +131,8 @@ fn read_prefix(tokens: &[Token]) -> (Option<u32>, usize)
     }
 }
 
-/// The value that begins with a token, with the mask after it, and how many more tokens it takes.
+/// The value that begins with the token `first`, with the mask after it, and how many of `rest` it
+/// takes.
 fn value_at(first: TokenKind, rest: &[Token]) -> Option<(Value, usize)>
     ensures some { IfSome result (λ r.
         value_of (first ∷ kinds_of rest.now) ≡ Some (r.0, kinds_of (drop r.1 rest.now))) }
@@ -132,7 +141,7 @@ fn value_at(first: TokenKind, rest: &[Token]) -> Option<(Value, usize)>
 {
     match first {
         TokenKind::Ip6(address) => {
-            let (prefix, used) = read_prefix(rest);
+            let (prefix, used) = read_prefix_len(rest);
             Some((Value::Ip6(address, prefix), used))
         }
         TokenKind::Number(number) => {

@@ -1,4 +1,4 @@
-//! Where a protocol may stand.
+//! Where a protocol may stand: alone, before a bracket, before `broadcast` or `multicast`.
 
 ghost use Rattle.std.specs.Prelude.{◌≡◌, ◌⊎◌, ◌<◌, length};
 ghost use Rattle.flt_lang.specs.Grammar.{is_check, is_accessor, has_casts, kinds_of};
@@ -15,7 +15,7 @@ pub enum Opening {
     Other,
 }
 
-/// Looks at the second of the tokens.
+/// What the second of the tokens makes of the first one, a protocol. No token is used up.
 pub fn read_opening(tokens: &[Token]) -> Opening
     ensures value { result ≡ opening_of (kinds_of tokens.now) }
     ensures within { (result ≡ Opening.Other) ⊎ (1 < length tokens.now) }
@@ -27,21 +27,21 @@ pub fn read_opening(tokens: &[Token]) -> Opening
     }
 }
 
-/// Alone.
+/// Whether a protocol may stand alone: `ether` may not.
 pub fn is_check(protocol: Protocol) -> bool
     ensures { result ≡ is_check protocol }
 {
     !matches!(protocol, Protocol::Ether)
 }
 
-/// Before a bracket.
+/// Whether a protocol may stand before a bracket, as `tcp[`: `icmp6` may not.
 pub fn is_accessor(protocol: Protocol) -> bool
     ensures { result ≡ is_accessor protocol }
 {
     !matches!(protocol, Protocol::Icmp6)
 }
 
-/// Before `broadcast` or `multicast`.
+/// Whether a protocol may stand before `broadcast` or `multicast`.
 pub fn has_casts(protocol: Protocol) -> bool
     ensures { result ≡ has_casts protocol }
 {

@@ -49,6 +49,17 @@ impl<A: Allocator> Model for Reader<A> {
 
 // What a step has read is a pair: how many tokens after the first one, and the operand if it is
 // complete. If it isn't, a frame waits for the rest of it.
+//
+// Of `not tcp[13] = 2` these are the frames, latest last, and the operand that was just read, where
+// the token to the right comes next:
+//
+//     frames                        operand    next
+//     not                                      tcp
+//     not  tcp[                                13
+//     not  tcp[                     13         ]
+//     not                           number     =
+//     not  =                                   2
+//     not  =                        2          the end
 impl<A: Allocator> Reader<A> {
     /// Nothing is read yet.
     pub fn new(alloc: A) -> Result<Self, AllocError>
@@ -63,8 +74,8 @@ impl<A: Allocator> Reader<A> {
         })
     }
 
-    /// Adds a node.
-    fn write(&mut self, node: Node) -> Result<(), ExprFault>
+    /// Writes a node after the others.
+    fn push_node(&mut self, node: Node) -> Result<(), ExprFault>
         ensures nodes { OnOk result (self.new.nodes ≡ node ∷ self.old.nodes) }
         ensures frames { OnOk result (self.new.frames ≡ self.old.frames) }
         ensures err { IfErr result (λ fault. fault ≡ ExprFault.Memory) }
@@ -73,8 +84,8 @@ impl<A: Allocator> Reader<A> {
         Ok(())
     }
 
-    /// Adds a frame, which waits from now on.
-    fn wait(&mut self, frame: Frame) -> Result<(), ExprFault>
+    /// Adds a frame, which waits from now on for an operand or its closing token.
+    fn push_frame(&mut self, frame: Frame) -> Result<(), ExprFault>
         ensures frames { OnOk result (self.new.frames ≡ frame ∷ self.old.frames) }
         ensures nodes { OnOk result (self.new.nodes ≡ self.old.nodes) }
         ensures err { IfErr result (λ fault. fault ≡ ExprFault.Memory) }
@@ -90,8 +101,8 @@ impl<A: Allocator> Reader<A> {
         operand_precedence(&self.frames)
     }
 
-    /// Takes the latest frame off.
-    fn pop(&mut self) -> Option<Frame>
+    /// Takes the latest frame off, if one waits.
+    fn pop_frame(&mut self) -> Option<Frame>
         ensures frames { MatchOption result (self.old.frames ≡ [])
             (λ f. self.old.frames ≡ f ∷ self.new.frames) }
         ensures nodes { self.new.nodes ≡ self.old.nodes }
@@ -100,7 +111,7 @@ impl<A: Allocator> Reader<A> {
     }
 
     /// Takes the latest frame off if it binds at least as tightly as `limit`.
-    fn pop_tight(&mut self, limit: u8) -> Option<Frame>
+    fn pop_tight_frame(&mut self, limit: u8) -> Option<Frame>
         ensures some { IfSome result (λ f. self.old.frames ≡ f ∷ self.new.frames) }
         ensures tight { IfSome result (λ f. precedence f ≤ limit) }
         ensures kept { IfNone result (self.new.frames ≡ self.old.frames) }
@@ -126,7 +137,7 @@ impl<A: Allocator> Reader<A> {
 
     /// Reads the tokens where an operand begins, `first` among them: how many more than one are
     /// used up, and the operand, if that is all of it.
-    fn begin(
+    fn begin_operand(
         &mut self,
         first: TokenKind,
         tokens: &[Token],
@@ -159,14 +170,14 @@ impl<A: Allocator> Reader<A> {
         }
     }
 
-    /// A frame waits for an operand.
+    /// A frame that stands before its operand waits for it.
     fn shift_prefix(&mut self, frame: Frame) -> Result<(usize, Option<Operand>), ExprFault>
         ensures ok { IfOk result (λ r. r ≡ (0, None)) }
         ensures frames { IfOk result (λ _. self.new.frames ≡ frame ∷ self.old.frames) }
         ensures nodes { IfOk result (λ _. self.new.nodes ≡ self.old.nodes) }
         ensures err { IfErr result (λ fault. fault ≡ ExprFault.Memory) }
     {
-        self.wait(frame)?;
+        self.push_frame(frame)?;
         Ok((0, None))
     }
 
@@ -177,7 +188,7 @@ impl<A: Allocator> Reader<A> {
         ensures nodes { IfOk result (λ _. self.new.nodes ≡ node ∷ self.old.nodes) }
         ensures err { IfErr result (λ fault. fault ≡ ExprFault.Memory) }
     {
-        self.write(node)?;
+        self.push_node(node)?;
         Ok((0, Some(Operand::Number)))
     }
 
@@ -196,7 +207,7 @@ impl<A: Allocator> Reader<A> {
         let Some((node, more)) = read else {
             return Err(ExprFault::NotAnExpression);
         };
-        self.write(node)?;
+        self.push_node(node)?;
         Ok((more, Some(Operand::Truth)))
     }
 
@@ -219,7 +230,7 @@ impl<A: Allocator> Reader<A> {
     {
         match read_opening(tokens) {
             Opening::Bracket if is_accessor(protocol) => {
-                self.wait(Frame::Load(protocol))?;
+                self.push_frame(Frame::Load(protocol))?;
                 Ok((1, None))
             }
             Opening::Cast(cast) if has_casts(protocol) => {
@@ -262,12 +273,12 @@ impl<A: Allocator> Reader<A> {
         match operand {
             Operand::Number => Ok(()),
             Operand::Plain(number) | Operand::Either(number, None) => {
-                self.write(Node::Literal(number))
+                self.push_node(Node::Literal(number))
             }
             Operand::Either(number, Some(len)) => {
-                self.write(Node::Literal(number))?;
-                self.write(Node::Literal(len))?;
-                self.write(Node::Apply(Operator::Divide))
+                self.push_node(Node::Literal(number))?;
+                self.push_node(Node::Literal(len))?;
+                self.push_node(Node::Apply(Operator::Divide))
             }
             Operand::Truth => Err(ExprFault::NotAnExpression),
         }
@@ -284,10 +295,10 @@ impl<A: Allocator> Reader<A> {
         match operand {
             Operand::Truth => Ok(()),
             Operand::Plain(number) => {
-                self.write(Node::Bare(Value::Number(number, NetMask::Unwritten)))
+                self.push_node(Node::Bare(Value::Number(number, NetMask::Unwritten)))
             }
             Operand::Either(number, len) => {
-                self.write(Node::Bare(Value::Number(number, prefix_mask(len))))
+                self.push_node(Node::Bare(Value::Number(number, prefix_mask(len))))
             }
             Operand::Number => Err(ExprFault::NotAnExpression),
         }
@@ -307,7 +318,8 @@ impl<A: Allocator> Reader<A> {
         }
     }
 
-    /// Writes a frame after its operand. What the two are is returned.
+    /// Writes the node of a frame after its operand, of the sort that it takes. Returns what the
+    /// two are.
     fn fill(&mut self, frame: Frame, operand: Operand) -> Result<Operand, ExprFault>
         ensures ok { IfOk result (λ x.
             fill frame operand self.old.nodes ≡ Some (x, self.new.nodes)) }
@@ -320,11 +332,12 @@ impl<A: Allocator> Reader<A> {
             return Err(ExprFault::NotAnExpression);
         };
         self.write_operand(frame.sort(), operand)?;
-        self.write(node)?;
+        self.push_node(node)?;
         Ok(whole)
     }
 
-    /// The frames that bind at least as tightly as `limit` take the operand.
+    /// Fills the frames that bind at least as tightly as `limit`, the latest first. Returns what
+    /// they make of the operand.
     #[tactic(auto, using(crate::proofs::Reducing::reducing))]
     fn reduce(&mut self, operand: Operand, limit: u8) -> Result<Operand, ExprFault>
         ensures ok { IfOk result (λ x. reduce limit self.old.frames operand self.old.nodes
@@ -334,13 +347,13 @@ impl<A: Allocator> Reader<A> {
         ensures err { IfErr result IsReadFault }
     {
         let mut operand = operand;
-        while let Some(frame) = self.pop_tight(limit) {
+        while let Some(frame) = self.pop_tight_frame(limit) {
             operand = self.fill(frame, operand)?;
         }
         Ok(operand)
     }
 
-    /// A frame waits for its right operand, after its left one.
+    /// A frame whose left operand was read waits for its right one.
     fn shift_operator(
         &mut self,
         frame: Frame,
@@ -357,12 +370,12 @@ impl<A: Allocator> Reader<A> {
             return Err(ExprFault::NotAnExpression);
         }
         self.write_operand(frame.sort(), operand)?;
-        self.wait(frame)?;
+        self.push_frame(frame)?;
         Ok((0, None))
     }
 
-    /// A parenthesis closes.
-    fn close(&mut self, operand: Operand) -> Result<(usize, Option<Operand>), ExprFault>
+    /// A parenthesis closes: the latest frame has to be one.
+    fn close_parenthesis(&mut self, operand: Operand) -> Result<(usize, Option<Operand>), ExprFault>
         ensures ok { IfOk result (λ r. after_close self.old.frames operand self.old.nodes
             ≡ Some (r.0, (self.new.frames, r.1, self.new.nodes))) }
         ensures used { IfOk result (λ r. r.0 ≡ 0) }
@@ -370,14 +383,14 @@ impl<A: Allocator> Reader<A> {
             → after_close self.old.frames operand self.old.nodes ≡ None }
         ensures err { IfErr result IsReadFault }
     {
-        match self.pop() {
+        match self.pop_frame() {
             Some(Frame::Open) => Ok((0, Some(operand.enclosed()))),
             _ => Err(ExprFault::NotAnExpression),
         }
     }
 
-    /// The load that waits takes its index, and reads `size` bytes. `more` tokens more than one
-    /// are used up.
+    /// A bracket closes: the accessor that waits takes its index, and reads `size` bytes there.
+    /// `more` tokens more than one are used up.
     fn end_load(
         &mut self,
         operand: Operand,
@@ -391,19 +404,19 @@ impl<A: Allocator> Reader<A> {
             → after_load more size self.old.frames operand self.old.nodes ≡ None }
         ensures err { IfErr result IsReadFault }
     {
-        match self.pop() {
+        match self.pop_frame() {
             Some(Frame::Load(protocol)) => {
                 self.write_number(operand)?;
-                self.write(Node::Load(protocol, size))?;
+                self.push_node(Node::Load(protocol, size))?;
                 Ok((more, Some(Operand::Number)))
             }
             _ => Err(ExprFault::NotAnExpression),
         }
     }
 
-    /// Places a token after an operand: how many more than this one are used up, and the operand,
-    /// if one is whole.
-    fn after_token(
+    /// Places a token after an operand that no tighter frame takes: how many more than this one are
+    /// used up, and the operand, if one is whole.
+    fn place_token(
         &mut self,
         operand: Operand,
         first: TokenKind,
@@ -424,9 +437,9 @@ impl<A: Allocator> Reader<A> {
                 self.shift_operator(Frame::Compare(comparison), operand)
             }
             TokenKind::Join(join) => self.shift_operator(Frame::Join(join), operand),
-            TokenKind::Close => self.close(operand),
+            TokenKind::Close => self.close_parenthesis(operand),
             TokenKind::CloseBracket => self.end_load(operand, 0, 1),
-            TokenKind::Colon => match size_of(rest) {
+            TokenKind::Colon => match read_size(rest) {
                 Some(size) => self.end_load(operand, 2, size),
                 None => Err(ExprFault::NotAnExpression),
             },
@@ -436,7 +449,7 @@ impl<A: Allocator> Reader<A> {
 
     /// Reads the tokens after an operand, or the rest of a value: how many more than one are used
     /// up.
-    fn after_operand(
+    fn read_after_operand(
         &mut self,
         operand: Operand,
         first: TokenKind,
@@ -457,12 +470,12 @@ impl<A: Allocator> Reader<A> {
             }
             _ => {
                 let reduced = self.reduce(operand, token_precedence(first))?;
-                self.after_token(reduced, first, rest)
+                self.place_token(reduced, first, rest)
             }
         }
     }
 
-    /// Goes on by at least one token: how many, and the operand that is read then.
+    /// Goes on by at least one token: how many, and the operand that was read last, if it is whole.
     fn step(
         &mut self,
         operand: Option<Operand>,
@@ -483,17 +496,17 @@ impl<A: Allocator> Reader<A> {
         };
         match operand {
             None => {
-                let (more, next) = self.begin(first.kind, tokens)?;
+                let (more, next) = self.begin_operand(first.kind, tokens)?;
                 Ok((1 + more, next))
             }
             Some(read) => {
-                let (more, next) = self.after_operand(read, first.kind, rest)?;
+                let (more, next) = self.read_after_operand(read, first.kind, rest)?;
                 Ok((1 + more, next))
             }
         }
     }
 
-    /// What the tokens leave is one truth.
+    /// After the last token: what is left has to be one truth, with nothing that waits.
     fn finish(&mut self, operand: Option<Operand>) -> Result<(), ExprFault>
         ensures ok { OnOk result (finish operand self.old.frames self.old.nodes
             ≡ Some self.new.nodes) }
@@ -505,7 +518,7 @@ impl<A: Allocator> Reader<A> {
             return Err(ExprFault::NotAnExpression);
         };
         let reduced = self.reduce(read, 8)?;
-        match self.pop() {
+        match self.pop_frame() {
             None => self.write_truth(reduced),
             Some(_) => Err(ExprFault::NotAnExpression),
         }
@@ -548,7 +561,7 @@ fn read_sized(tokens: &[Token]) -> Option<(Node, usize)>
     }
 }
 
-/// A value with what stands before it, or else a check.
+/// A value with what stands before it, or else a protocol alone; and how many tokens more than one.
 fn read_primitive(tokens: &[Token]) -> Option<(Node, usize)>
     ensures value { (nodes : List Node) →
         one_node nodes result ≡ primitive (kinds_of tokens.now) nodes }
@@ -565,7 +578,7 @@ fn read_primitive(tokens: &[Token]) -> Option<(Node, usize)>
     }
 }
 
-/// A value with nothing before it.
+/// A value with nothing before it, and how many tokens more than one it takes.
 fn read_bare(tokens: &[Token]) -> Option<(Node, usize)>
     ensures value { (nodes : List Node) →
         one_node nodes result ≡ bare_of (kinds_of tokens.now) nodes }
@@ -575,6 +588,7 @@ fn read_bare(tokens: &[Token]) -> Option<(Node, usize)>
     Some((Node::Bare(value), used - 1))
 }
 
+/// What a number with this length of a prefix after it, or none, is a network by.
 fn prefix_mask(len: Option<u32>) -> NetMask
     ensures { result ≡ prefix_mask len }
 {
@@ -584,7 +598,8 @@ fn prefix_mask(len: Option<u32>) -> NetMask
     }
 }
 
-/// The number and the length of a prefix, where a plain number has one after it.
+/// A plain number and the length of a prefix, where `/ N` stands after it: a network, or a
+/// division.
 fn prefix_len(operand: Operand, first: TokenKind, rest: &[Token]) -> Option<(u32, u32)>
     ensures value { result ≡ prefix_len operand (first ∷ kinds_of rest.now) }
     ensures within { IfSome result (λ _. 0 < length rest.now) }
@@ -599,8 +614,8 @@ fn prefix_len(operand: Operand, first: TokenKind, rest: &[Token]) -> Option<(u32
     }
 }
 
-/// The size of an accessor, after its colon.
-fn size_of(tokens: &[Token]) -> Option<u32>
+/// The size in bytes of an accessor, after its colon and before its bracket.
+fn read_size(tokens: &[Token]) -> Option<u32>
     ensures value { result ≡ accessor_size (kinds_of tokens.now) }
     ensures within { IfSome result (λ _. 1 < length tokens.now) }
 {

@@ -1,4 +1,4 @@
-//! Values get the qualifiers that hold for them.
+//! Values get the qualifiers that hold for them: those of an earlier value, and what is left out.
 
 ghost use Rattle.std.specs.Prelude.{◌≡◌, map, IfOk, IfErr, Some, None};
 ghost use Rattle.std.specs.List.{list_any};
@@ -27,16 +27,16 @@ pub fn resolve<A: Allocator>(expr: Expr<A>) -> Result<Expr<A>, ExprFault>
     ensures err { IfErr result (λ fault. fill_fault expr ≡ Some fault) }
 {
     let Expr { mut nodes } = expr;
-    inherit(&mut nodes);
-    if let Some(fault) = fault_of(&nodes) {
+    inherit_qualifiers(&mut nodes);
+    if let Some(fault) = nodes_fault(&nodes) {
         return Err(fault);
     }
-    complete(&mut nodes);
+    complete_qualifiers(&mut nodes);
     Ok(Expr { nodes })
 }
 
-/// Gives each bare value the qualifiers that were written last.
-fn inherit<A: Allocator>(nodes: &mut Vec<Node, A>)
+/// Gives each bare value the qualifiers that were written last, or `host` where none were.
+fn inherit_qualifiers<A: Allocator>(nodes: &mut Vec<Node, A>)
     ensures { nodes.new.items ≡ inherited_nodes only_host nodes.old.items }
 {
     let mut nearest = Qualifiers {
@@ -53,8 +53,8 @@ fn inherit<A: Allocator>(nodes: &mut Vec<Node, A>)
     }
 }
 
-/// The first fault, by its number and not by its place.
-fn fault_of(nodes: &[Node]) -> Option<ExprFault>
+/// The first fault by its number, E7 to E9, and not by its place.
+fn nodes_fault(nodes: &[Node]) -> Option<ExprFault>
     ensures { result ≡ nodes_fault nodes.now }
 {
     if has_misfit(nodes) {
@@ -68,26 +68,29 @@ fn fault_of(nodes: &[Node]) -> Option<ExprFault>
     }
 }
 
+/// Whether some value has qualifiers that do not go with it (E7).
 fn has_misfit(nodes: &[Node]) -> bool
     ensures { result ≡ list_any is_misfit_node nodes.now }
 {
     nodes.iter().any(|node| node.is_misfit())
 }
 
+/// Whether some number of a value or some size of an accessor is out of range (E8).
 fn has_out_of_range(nodes: &[Node]) -> bool
     ensures { result ≡ list_any is_out_of_range_node nodes.now }
 {
     nodes.iter().any(|node| node.is_out_of_range())
 }
 
+/// Whether some network has bits set that its mask leaves out (E9).
 fn has_past_bits(nodes: &[Node]) -> bool
     ensures { result ≡ list_any has_past_bits_node nodes.now }
 {
     nodes.iter().any(|node| node.has_past_bits())
 }
 
-/// Fills in what is left out before the values.
-fn complete<A: Allocator>(nodes: &mut Vec<Node, A>)
+/// Fills in what is left out before each value: the type `host`, the direction `src or dst`.
+fn complete_qualifiers<A: Allocator>(nodes: &mut Vec<Node, A>)
     ensures { nodes.new.items ≡ map completed_node nodes.old.items }
 {
     for node in nodes.iter_mut() {

@@ -1,4 +1,4 @@
-//! How tokens are spelled: the text of tokens.
+//! How tokens are spelled: the text of tokens, from which `flt_words::lex` makes them again.
 
 ghost use Rattle.std.specs.Prelude.{◌≡◌, ◌<◌, ◌++◌, OnOk};
 ghost use Rattle.std.specs.String.{string_bytes};
@@ -24,6 +24,7 @@ pub enum Following {
     Other,
 }
 
+/// The keyword of a protocol.
 fn protocol_word(protocol: Protocol) -> &'static str
     ensures { result.now ≡ protocol_word protocol }
 {
@@ -40,6 +41,7 @@ fn protocol_word(protocol: Protocol) -> &'static str
     }
 }
 
+/// The keyword of a join.
 fn join_word(join: Join) -> &'static str
     ensures { result.now ≡ join_word join }
 {
@@ -49,6 +51,7 @@ fn join_word(join: Join) -> &'static str
     }
 }
 
+/// The keyword of a side.
 fn side_word(side: Side) -> &'static str
     ensures { result.now ≡ side_word side }
 {
@@ -58,6 +61,7 @@ fn side_word(side: Side) -> &'static str
     }
 }
 
+/// The keyword of a type.
 fn type_word(value_type: ValueType) -> &'static str
     ensures { result.now ≡ type_word value_type }
 {
@@ -70,6 +74,7 @@ fn type_word(value_type: ValueType) -> &'static str
     }
 }
 
+/// The keyword of a test of the length.
 fn size_word(size: Size) -> &'static str
     ensures { result.now ≡ size_word size }
 {
@@ -79,6 +84,7 @@ fn size_word(size: Size) -> &'static str
     }
 }
 
+/// The keyword of a cast.
 fn cast_word(cast: Cast) -> &'static str
     ensures { result.now ≡ cast_word cast }
 {
@@ -88,6 +94,7 @@ fn cast_word(cast: Cast) -> &'static str
     }
 }
 
+/// The symbol of a comparison.
 fn comparison_sign(comparison: Comparison) -> &'static str
     ensures { result.now ≡ comparison_sign comparison }
 {
@@ -101,6 +108,7 @@ fn comparison_sign(comparison: Comparison) -> &'static str
     }
 }
 
+/// The symbol of an operator.
 fn operator_sign(operator: Operator) -> &'static str
     ensures { result.now ≡ operator_sign operator }
 {
@@ -118,6 +126,7 @@ fn operator_sign(operator: Operator) -> &'static str
     }
 }
 
+/// The name of the number 1: the code of ICMP in `icmp[..]`, and else the TCP flag.
 fn name_of_number_one(following: Following) -> &'static str
     ensures { result.now ≡ name_of_number_one following }
 {
@@ -149,7 +158,7 @@ fn push_name<A: Allocator>(
     }
 }
 
-/// Appends two, three or all parts of an IPv4 address.
+/// Appends an IPv4 address, or the first two or three parts of it.
 #[tactic(auto, unfolding(crate::specs::Texts::dotted_word))]
 fn push_dotted<A: Allocator>(
     text: &mut String<A>,
@@ -170,6 +179,7 @@ fn push_dotted<A: Allocator>(
     }
 }
 
+/// The byte of half a MAC address whose place has this weight: a power of 256.
 fn byte_of(half: u64, weight: u64) -> u8
     requires { 0 < weight }
     ensures { result ≡ octet weight half }
@@ -177,7 +187,7 @@ fn byte_of(half: u64, weight: u64) -> u8
     (half / weight % 256) as u8
 }
 
-/// Appends the two digits of a byte.
+/// Appends a byte as two hexadecimal digits.
 #[tactic(auto, using(crate::proofs::HexBytes::hex_byte_is))]
 fn push_byte<A: Allocator>(text: &mut String<A>, byte: u8) -> Result<(), AllocError>
     ensures { OnOk result (string_bytes text.new ≡ string_bytes text.old ++ hex_byte byte) }
@@ -185,9 +195,9 @@ fn push_byte<A: Allocator>(text: &mut String<A>, byte: u8) -> Result<(), AllocEr
     write!(text, "{byte:02x}")
 }
 
-/// Appends the three bytes of half a MAC address.
+/// Appends the three bytes of half a MAC address, joined by colons.
 #[tactic(auto, unfolding(crate::specs::Texts::bytes_text))]
-fn push_bytes<A: Allocator>(text: &mut String<A>, half: u64) -> Result<(), AllocError>
+fn push_three_bytes<A: Allocator>(text: &mut String<A>, half: u64) -> Result<(), AllocError>
     ensures { OnOk result (string_bytes text.new ≡ string_bytes text.old ++ bytes_text half) }
 {
     push_byte(text, byte_of(half, 0x1_0000))?;
@@ -197,16 +207,17 @@ fn push_bytes<A: Allocator>(text: &mut String<A>, half: u64) -> Result<(), Alloc
     push_byte(text, byte_of(half, 1))
 }
 
-/// Appends the six bytes of a MAC address.
+/// Appends the six bytes of a MAC address, in halves of 24 bits.
 #[tactic(auto, unfolding(crate::specs::Texts::mac_word))]
 fn push_mac<A: Allocator>(text: &mut String<A>, address: u64) -> Result<(), AllocError>
     ensures { OnOk result (string_bytes text.new ≡ string_bytes text.old ++ mac_word address) }
 {
-    push_bytes(text, address / 0x100_0000)?;
+    push_three_bytes(text, address / 0x100_0000)?;
     text.push_str(":")?;
-    push_bytes(text, address % 0x100_0000)
+    push_three_bytes(text, address % 0x100_0000)
 }
 
+/// The group of half an IPv6 address whose place has this weight: a power of 65,536.
 fn group_of(address: u128, weight: u128) -> u16
     requires { 0 < weight }
     ensures { result ≡ group_at weight address }
@@ -214,9 +225,9 @@ fn group_of(address: u128, weight: u128) -> u16
     (address / weight % 65536) as u16
 }
 
-/// Appends the four groups of half an IPv6 address.
+/// Appends the four groups of half an IPv6 address, joined by colons, without leading zeros.
 #[tactic(auto, unfolding(crate::specs::Texts::groups_text))]
-fn push_groups<A: Allocator>(text: &mut String<A>, half: u128) -> Result<(), AllocError>
+fn push_four_groups<A: Allocator>(text: &mut String<A>, half: u128) -> Result<(), AllocError>
     ensures { OnOk result (string_bytes text.new ≡ string_bytes text.old ++ groups_text half) }
 {
     let first = group_of(half, 0x1_0000_0000_0000);
@@ -226,14 +237,14 @@ fn push_groups<A: Allocator>(text: &mut String<A>, half: u128) -> Result<(), All
     write!(text, "{first:x}:{second:x}:{third:x}:{last:x}")
 }
 
-/// Appends the eight groups of an IPv6 address.
+/// Appends the eight groups of an IPv6 address, in halves of 64 bits.
 #[tactic(auto, unfolding(crate::specs::Texts::ip6_word))]
 fn push_ip6<A: Allocator>(text: &mut String<A>, address: u128) -> Result<(), AllocError>
     ensures { OnOk result (string_bytes text.new ≡ string_bytes text.old ++ ip6_word address) }
 {
-    push_groups(text, address / 0x1_0000_0000_0000_0000)?;
+    push_four_groups(text, address / 0x1_0000_0000_0000_0000)?;
     text.push_str(":")?;
-    push_groups(text, address % 0x1_0000_0000_0000_0000)
+    push_four_groups(text, address % 0x1_0000_0000_0000_0000)
 }
 
 /// Appends the spelling of a token.
@@ -272,7 +283,7 @@ fn push_token<A: Allocator>(
 }
 
 impl Following {
-    /// What the token after this one follows.
+    /// What the token after `token` follows, where `token` itself follows this.
     fn next(self, token: TokenKind) -> Following
         ensures { result ≡ next_after self token }
     {
@@ -284,6 +295,7 @@ impl Following {
     }
 }
 
+/// Whether no blank stands after a token.
 fn joins_next(token: TokenKind) -> bool
     ensures { result ≡ joins_next token }
 {
@@ -296,6 +308,7 @@ fn joins_next(token: TokenKind) -> bool
     )
 }
 
+/// Whether no blank stands before a token.
 fn joins_previous(token: TokenKind) -> bool
     ensures { result ≡ joins_previous token }
 {
@@ -319,7 +332,7 @@ fn gap(token: TokenKind, rest: &[TokenKind]) -> &'static str
     }
 }
 
-/// Appends the text of tokens.
+/// Appends the text of tokens, with blanks between most of them.
 pub(crate) fn push_tokens<A: Allocator>(
     text: &mut String<A>,
     tokens: &[TokenKind],

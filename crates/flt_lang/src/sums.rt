@@ -1,4 +1,4 @@
-//! The counts of an expression, each in one pass over its nodes.
+//! The counts of an expression before it is checked, each in one pass over its nodes.
 
 ghost use Rattle.std.specs.Prelude.{◌≡◌, ◌≤◌, ◌*◌, ◌^◌, sum_by, fold, false};
 ghost use Rattle.flt_ast.specs.Counts.{tests_of, nodes_of, words_of, bound_of};
@@ -13,6 +13,7 @@ use flt_ast::{Expr, Node};
 use flt_words::Operator;
 use std::alloc::Allocator;
 
+/// How many elementary tests nodes count as together.
 fn sum_of_tests(nodes: &[Node]) -> u128
     ensures sum { result ≡ sum_by node_tests nodes.now }
     ensures upper_bound { result ≤ 27 * 2 ^ 64 }
@@ -25,44 +26,47 @@ fn sum_of_tests(nodes: &[Node]) -> u128
     sum
 }
 
-fn sum_of_sizes(nodes: &[Node]) -> u128
+/// How many nodes of arithmetic nodes count as together.
+fn sum_of_arithmetic_nodes(nodes: &[Node]) -> u128
     ensures sum { result ≡ sum_by node_size nodes.now }
     ensures upper_bound { result ≤ 2 * 2 ^ 64 }
 {
     // A u128, since no number of nodes makes it wrap.
     let mut sum: u128 = 0;
     for node in nodes {
-        sum += u128::from(node.size());
+        sum += u128::from(node.arithmetic_nodes());
     }
     sum
 }
 
-/// The greatest number of numbers that wait at once, at least 1.
-fn highest(nodes: &[Node]) -> usize
+/// The most numbers that wait at once to be operands, at least 1.
+fn most_waiting(nodes: &[Node]) -> usize
     ensures { result ≡ (fold climb (0, 1) nodes.now).1 }
 {
     let mut height = 0;
     let mut highest = 1;
     for &node in nodes {
-        highest = highest.max(node.peak(height));
+        highest = highest.max(node.peak_height(height));
         height = node.height_after(height);
     }
     highest
 }
 
+/// Whether a node is the number 0, as it is written.
 fn is_zero(node: Node) -> bool
     ensures { result ≡ is_zero_node node }
 {
     matches!(node, Node::Literal(0))
 }
 
+/// Whether a node divides, or takes a remainder.
 fn is_division(node: Node) -> bool
     ensures { result ≡ is_division_node node }
 {
     matches!(node, Node::Apply(Operator::Divide | Operator::Remainder))
 }
 
-/// Whether a division follows the number 0 directly.
+/// Whether a division follows the number 0 directly: that number is its divisor.
 fn has_divided_zero(nodes: &[Node]) -> bool
     ensures { result ≡ zero_divided false nodes.now }
 {
@@ -86,19 +90,19 @@ pub(crate) fn tests_in<A: Allocator>(expr: &Expr<A>) -> u128
 }
 
 /// How many nodes the arithmetic has.
-#[tactic(auto, using(crate::proofs::Counting::sizes_whole))]
+#[tactic(auto, using(crate::proofs::Counting::arithmetic_nodes_whole))]
 pub(crate) fn nodes_in<A: Allocator>(expr: &Expr<A>) -> u128
     ensures count { result ≡ nodes_of expr.now }
     ensures upper_bound { result ≤ 2 * 2 ^ 64 }
 {
-    sum_of_sizes(&expr.nodes)
+    sum_of_arithmetic_nodes(&expr.nodes)
 }
 
 /// How many words of memory hold what waits while right sides are computed.
 pub(crate) fn words_in<A: Allocator>(expr: &Expr<A>) -> usize
     ensures { result ≡ words_of expr.now }
 {
-    highest(&expr.nodes) - 1
+    most_waiting(&expr.nodes) - 1
 }
 
 /// Whether some divisor is the number 0, as it is written.

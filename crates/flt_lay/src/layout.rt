@@ -1,4 +1,5 @@
-//! Wide code laid out as instructions, from its end to its beginning.
+//! Wide code laid out as instructions, from its end to its beginning, so that all targets of a test
+//! are placed before it is.
 
 ghost use Rattle.std.specs.Prelude.{◌≡◌, ◌+◌, ◌-◌, ◌*◌, ◌^◌, ◌<◌, ◌≤◌, ℕ, List, [], ◌∷◌, length};
 ghost use Rattle.std.specs.Prelude.{IfOk, OnOk, count_by};
@@ -17,10 +18,15 @@ use flt_bpf::wide::Wide;
 use std::alloc::{AllocError, Allocator};
 use std::marker::Model;
 
-/// The greatest offset of a conditional jump.
+/// The greatest offset of a conditional jump, since `jt` and `jf` are a byte each.
 const NEAR: usize = 255;
 
 /// How a test reaches its two targets: a far one by a jump right after the test.
+///
+///     Near       test
+///     YesFar     test (jt 0), ja yes
+///     NoFar      test (jf 0), ja no
+///     BothFar    test (jt 0, jf 1), ja yes, ja no
 #[derive(Clone, Copy)]
 pub enum Reach {
     Near,
@@ -29,7 +35,7 @@ pub enum Reach {
     BothFar,
 }
 
-/// Where a test goes on.
+/// The places where a test goes on if it holds, and if it doesn't.
 #[derive(Clone, Copy)]
 struct Targets {
     yes: usize,
@@ -37,7 +43,12 @@ struct Targets {
 }
 
 /// The code from some wide instruction to the end. A place is named by the number of instructions
-/// from there on.
+/// from there on, which doesn't change as more are put in front:
+///
+///     place         3      2     1      0, the end
+///     instruction   test   ld    ret
+///
+/// From an instruction that is put in front of these, an offset of 0 leads to place 3.
 #[derive(Drop)]
 struct Layout<A: Allocator> {
     backwards: Vec<Insn, A>,
@@ -57,7 +68,7 @@ impl<A: Allocator> Model for Layout<A> {
     } };
 }
 
-/// An instruction with other offsets.
+/// The instruction of a wide one, with the offsets `jt` and `jf` in place of its own.
 fn with_offsets(insn: Wide, jt: u8, jf: u8) -> Insn
     ensures { result ≡ with_offsets insn jt jf }
 {
@@ -87,9 +98,9 @@ impl<A: Allocator> Layout<A> {
         self.backwards.len()
     }
 
-    /// The place of the wide instruction `further` further than the next one; past the last it is
+    /// The place of the wide instruction that is `further` ones past the next; past the last it is
     /// the end.
-    fn target(&self, further: u32) -> usize
+    fn target_place(&self, further: u32) -> usize
         ensures { result ≡ place_at self.now further }
     {
         let (further, count) = (further as usize, self.places.len());
@@ -100,14 +111,14 @@ impl<A: Allocator> Layout<A> {
         }
     }
 
-    /// How many instructions stand in front of a place.
+    /// The offset to a place from an instruction that is put in front: how many it skips.
     fn distance(&self, place: usize) -> usize
         ensures { result ≡ length self.now.code - place }
     {
         self.top().saturating_sub(place)
     }
 
-    /// The same once there is one more instruction in front.
+    /// The same from one that is put in front of one more.
     fn distance_past(&self, place: usize) -> usize
         requires { length self.now.code < 2 ^ 32 }
         ensures { result ≡ length self.now.code + 1 - place }
@@ -115,7 +126,7 @@ impl<A: Allocator> Layout<A> {
         (self.top() + 1).saturating_sub(place)
     }
 
-    /// One more instruction in front.
+    /// Puts an instruction in front.
     fn emit(&mut self, insn: Insn) -> Result<(), AllocError>
         ensures { OnOk result (self.new ≡ record self.old { code = insn ∷ self.old.code }) }
     {
@@ -123,7 +134,7 @@ impl<A: Allocator> Layout<A> {
         Ok(())
     }
 
-    /// A jump to a place.
+    /// Puts a jump to a place in front.
     fn emit_jump(&mut self, to: usize) -> Result<(), AllocError>
         requires { length self.old.code < 2 ^ 32 }
         ensures { OnOk result (self.new ≡ record self.old { code = with_jump to self.old.code }) }
@@ -137,8 +148,8 @@ impl<A: Allocator> Layout<A> {
         })
     }
 
-    /// Which targets are too far for a test that comes next.
-    fn reach(&self, to: Targets) -> Reach
+    /// Which targets are too far for a test that is put in front, as few as can be.
+    fn test_reach(&self, to: Targets) -> Reach
         requires { length self.now.code < 2 ^ 32 }
         ensures { result ≡ test_reach to.yes to.no self.now.code }
     {
@@ -154,14 +165,15 @@ impl<A: Allocator> Layout<A> {
         }
     }
 
-    /// A test that goes on at one of two places.
+    /// Puts a test in front that goes on at one of two places, with the jumps that it needs after
+    /// it.
     #[tactic(auto, unfolding(crate::specs::inside::Layout::with_test))]
     fn emit_test(&mut self, insn: Wide, to: Targets) -> Result<(), AllocError>
         requires { length self.old.code + 3 < 2 ^ 32 }
         ensures { OnOk result
             (self.new ≡ record self.old { code = with_test insn to.yes to.no self.old.code }) }
     {
-        let (jt, jf) = match self.reach(to) {
+        let (jt, jf) = match self.test_reach(to) {
             Reach::Near => (self.distance(to.yes), self.distance(to.no)),
             Reach::YesFar => {
                 self.emit_jump(to.yes)?;
@@ -180,7 +192,7 @@ impl<A: Allocator> Layout<A> {
         self.emit(with_offsets(insn, jt as u8, jf as u8))
     }
 
-    /// A wide instruction stands first from now on.
+    /// The wide instruction that is laid out stands where the code begins now.
     fn place_first(&mut self) -> Result<(), AllocError>
         ensures { OnOk result (self.new ≡ with_entry self.old.code self.old) }
     {
@@ -189,18 +201,18 @@ impl<A: Allocator> Layout<A> {
         Ok(())
     }
 
-    /// One more wide instruction in front.
+    /// Puts one more wide instruction in front, laid out.
     fn put(&mut self, insn: Wide) -> Result<(), AllocError>
         requires { length self.old.code + 3 < 2 ^ 32 }
         ensures { OnOk result (self.new ≡ put insn self.old) }
     {
         match decode(insn.code) {
             Some(Operation::JumpIf(_, _)) => {
-                let (yes, no) = (self.target(insn.yes), self.target(insn.no));
+                let (yes, no) = (self.target_place(insn.yes), self.target_place(insn.no));
                 self.emit_test(insn, Targets { yes, no })?;
             }
             Some(Operation::Jump) => {
-                let to = self.target(insn.k);
+                let to = self.target_place(insn.k);
                 self.emit_jump(to)?;
             }
             _ => self.emit(with_offsets(insn, 0, 0))?,
@@ -208,7 +220,7 @@ impl<A: Allocator> Layout<A> {
         self.place_first()
     }
 
-    /// The instructions in their order.
+    /// The instructions, from the first to the last.
     fn into_insns(self) -> Vec<Insn, A>
         ensures { result.items ≡ self.code }
     {
@@ -222,8 +234,8 @@ impl<A: Allocator> Layout<A> {
 }
 
 impl<A: Allocator + Clone> Layout<A> {
-    /// All of some wide code.
-    fn of(alloc: A, wide: &[Wide]) -> Result<Self, AllocError>
+    /// All of some wide code, laid out from its last instruction to its first.
+    fn of_wide(alloc: A, wide: &[Wide]) -> Result<Self, AllocError>
         requires { length wide.now < 2 ^ 30 }
         ensures { IfOk result (λ layout. layout ≡ placed_code wide.now) }
     {
@@ -256,5 +268,5 @@ pub fn laid_out<A: Allocator + Clone>(alloc: A, wide: &[Wide]) -> Result<Vec<Ins
     ensures valid { IsValidUnlessLong wide.now → IfOk result
         (λ code. length code.items ≤ MOST_INSTRUCTIONS → IsValid code.items) }
 {
-    Ok(Layout::of(alloc, wide)?.into_insns())
+    Ok(Layout::of_wide(alloc, wide)?.into_insns())
 }

@@ -1,4 +1,5 @@
-//! Which numbers a term may be, by what is known of a packet.
+//! Which numbers a term may be, by what is known of a packet: facts say in which pieces its value
+//! is, and outcomes of tests leave some of these.
 
 ghost use Rattle.std.specs.Prelude.{◌≡◌, ℕ, ◌<◌, true, false, List, length, Some, IfSome, IsTrue};
 ghost use Rattle.flt_opt.specs.inside.Facts.{in_piece, in_either};
@@ -28,7 +29,7 @@ pub struct Knowledge<'a> {
     pub learnt: &'a [Learnt],
 }
 
-/// Part of a list of pieces, or nothing where it has no such part.
+/// The part of a list of pieces, or no piece where the list has no such part.
 pub(crate) fn part(pieces: &[Piece], span: Span) -> &[Piece]
     ensures { result.now ≡ part pieces.now span }
 {
@@ -39,7 +40,7 @@ pub(crate) fn part(pieces: &[Piece], span: Span) -> &[Piece]
     }
 }
 
-/// Part of a list of facts, or nothing where it has no such part.
+/// The part of a list of facts, or no fact where the list has no such part.
 pub(crate) fn facts_in(facts: &[Fact], span: Span) -> &[Fact]
     ensures { result.now ≡ part facts.now span }
 {
@@ -50,13 +51,13 @@ pub(crate) fn facts_in(facts: &[Fact], span: Span) -> &[Fact]
     }
 }
 
-/// So few pieces are tried one after the other.
+/// Up to this many pieces are tried one after the other; of more, likely ones are tried first.
 const FEW_PIECES: usize = 3;
 
-/// How many outcomes of tests a walk keeps.
+/// How many outcomes of tests a walk of the old run keeps.
 pub const OUTCOMES: usize = 4;
 
-/// The outcomes of tests as a walk keeps them.
+/// The first outcome, as a walk keeps outcomes: the places of others say nothing yet.
 pub fn kept_outcomes(learnt: &[Learnt]) -> [Learnt; OUTCOMES]
     ensures { (p : List ℕ) (n : ℕ) → AllLearnt p n learnt.now → AllLearnt p n result }
 {
@@ -71,7 +72,7 @@ pub fn kept_outcomes(learnt: &[Learnt]) -> [Learnt; OUTCOMES]
     }
 }
 
-/// The numbers below one.
+/// The numbers below k; of 0 the piece is empty.
 fn before(k: u32) -> Piece
     ensures { result ≡ before k }
 {
@@ -85,14 +86,14 @@ fn before(k: u32) -> Piece
     }
 }
 
-/// One number.
+/// The number k alone.
 fn only(k: u32) -> Piece
     ensures { result ≡ only k }
 {
     Piece { low: k, high: k }
 }
 
-/// The numbers from one on.
+/// The numbers from k on.
 fn starting(k: u32) -> Piece
     ensures { result ≡ starting k }
 {
@@ -102,14 +103,15 @@ fn starting(k: u32) -> Piece
     }
 }
 
-/// The numbers past one, and perhaps the greatest.
+/// The numbers above k. Above the greatest it is the greatest itself, which is one too many.
 fn past(k: u32) -> Piece
     ensures { result ≡ past k }
 {
     starting(k.saturating_add(1))
 }
 
-/// What the outcome of a test of a register with a number shows, where the register holds a term.
+/// What it shows that a test of a register with k holds, or doesn't, where the register holds a
+/// term.
 pub fn outcome(test: Test, k: u32, term: Term, holds: bool) -> Learnt
     ensures { result ≡ outcome test k term holds }
 {
@@ -126,7 +128,7 @@ pub fn outcome(test: Test, k: u32, term: Term, holds: bool) -> Learnt
     Learnt { term, below, above }
 }
 
-/// The numbers in both.
+/// The numbers that are in both pieces.
 fn overlap(one: Piece, other: Piece) -> Piece
     ensures { (v : ℕ) → in_piece v one ≡ true → in_piece v other ≡ true
         → in_piece v result ≡ true }
@@ -137,7 +139,7 @@ fn overlap(one: Piece, other: Piece) -> Piece
     }
 }
 
-/// A piece in which all numbers of two are that overlap or touch, or of which one is empty.
+/// One piece with all numbers of an outcome's two, where these overlap or touch, or one is empty.
 fn one_piece(shown: &Learnt) -> Option<Piece>
     ensures { IfSome result (λ piece. (v : ℕ) → in_either v shown.now ≡ true
         → in_piece v piece ≡ true) }
@@ -157,8 +159,8 @@ fn one_piece(shown: &Learnt) -> Option<Piece>
     }
 }
 
-/// What an outcome and a piece show of a term.
-fn cut(shown: &Learnt, piece: Piece) -> Learnt
+/// What an outcome shows of its term, where that is known to be in a piece.
+fn narrowed_outcome(shown: &Learnt, piece: Piece) -> Learnt
     ensures { (p : List ℕ) (n : ℕ) → LearntHolds p n shown.now
         → ((v : ℕ) → value p n shown.now.term ≡ Some v → in_piece v piece ≡ true)
         → LearntHolds p n result }
@@ -170,7 +172,7 @@ fn cut(shown: &Learnt, piece: Piece) -> Learnt
     }
 }
 
-/// What two outcomes show of one term, if that is the term of both and two pieces tell it.
+/// What two outcomes on one term show together, if two pieces can tell it.
 fn shown_by_both(one: &Learnt, other: &Learnt) -> Option<Learnt>
     ensures { IfSome result (λ both. (p : List ℕ) (n : ℕ) → LearntHolds p n one.now
         → LearntHolds p n other.now → LearntHolds p n both) }
@@ -179,14 +181,14 @@ fn shown_by_both(one: &Learnt, other: &Learnt) -> Option<Learnt>
         return None;
     }
     if let Some(piece) = one_piece(one) {
-        return Some(cut(other, piece));
+        return Some(narrowed_outcome(other, piece));
     }
     let piece = one_piece(other)?;
-    Some(cut(one, piece))
+    Some(narrowed_outcome(one, piece))
 }
 
-/// One more outcome: with another one on its term but the first, that with which the walk began,
-/// or in place of the oldest.
+/// The outcomes with one more: joined with another one on its term, unless that is the first, with
+/// which the walk began; or in place of the oldest.
 pub fn with_newest(learnt: [Learnt; OUTCOMES], shown: Learnt) -> [Learnt; OUTCOMES]
     ensures { (p : List ℕ) (n : ℕ) → LearntHolds p n shown → AllLearnt p n learnt
         → AllLearnt p n result }
@@ -204,7 +206,7 @@ pub fn with_newest(learnt: [Learnt; OUTCOMES], shown: Learnt) -> [Learnt; OUTCOM
     [first, shown, second, third]
 }
 
-/// A term's value may be in a piece, by what tests have shown.
+/// Whether a term's value may be in a piece, by what tests have shown.
 fn may_be(piece: Piece, term: Term, learnt: &[Learnt]) -> bool
     ensures { result ≡ false → NeverIs piece term learnt.now }
 {
@@ -224,8 +226,8 @@ fn may_be(piece: Piece, term: Term, learnt: &[Learnt]) -> bool
     }
 }
 
-/// The index, from another one on, of the piece in which all numbers of a piece are.
-fn place_of(piece: Piece, numbers: &[Piece], from: usize) -> Option<usize>
+/// The index, from `from` on, of the piece of ascending ones in which all numbers of a piece are.
+fn find_enclosing_piece(piece: Piece, numbers: &[Piece], from: usize) -> Option<usize>
     ensures { IfSome result (λ _. IsIn piece numbers.now) }
 {
     for at in from..numbers.len() {
@@ -241,8 +243,8 @@ fn place_of(piece: Piece, numbers: &[Piece], from: usize) -> Option<usize>
     None
 }
 
-/// A term's value is in the numbers if it is in a piece, by what tests have shown. Each part of the
-/// piece is looked for where the one before it was found.
+/// Where in `numbers` the last part of a piece is, if all parts of it that tests leave a term are
+/// in them. Each part is looked for from where the one before it was found.
 pub(crate) fn covered(
     piece: Piece,
     term: Term,
@@ -254,7 +256,7 @@ pub(crate) fn covered(
 {
     match learnt {
         [] if piece.low > piece.high => Some(from),
-        [] => place_of(piece, numbers, from),
+        [] => find_enclosing_piece(piece, numbers, from),
         [first, rest @ ..] => {
             if same_term(first.term, term) {
                 let next = covered(overlap(piece, first.below), term, rest, numbers, from)?;
@@ -266,7 +268,7 @@ pub(crate) fn covered(
     }
 }
 
-/// Where the pieces of the first fact on a term are.
+/// Where the pieces of the first fact on a term are, if there is one.
 pub(crate) fn numbers_of(term: Term, facts: &[Fact]) -> Option<Span>
     ensures { IfSome result (λ span. (pieces : List Piece)
         → HasNumbers term span facts.now pieces) }
@@ -294,7 +296,7 @@ pub(crate) fn numbers_at_most(term: Term) -> Piece
     }
 }
 
-/// The outcome of a test may be, where a term's value is in a piece.
+/// Whether the outcome of a test may be, where the value of its term is in a piece.
 fn may_be_in(piece: Piece, outcome: &Learnt, learnt: &[Learnt]) -> bool
     ensures { result ≡ false → NeverSo piece outcome.now learnt.now }
 {
@@ -302,8 +304,8 @@ fn may_be_in(piece: Piece, outcome: &Learnt, learnt: &[Learnt]) -> bool
         || may_be(overlap(piece, outcome.above), outcome.term, learnt)
 }
 
-/// The outcome may be in the first piece, in the last one, or in that where its numbers begin. Where
-/// it may be at all, it mostly is in one of these.
+/// Whether the outcome may be in the first piece, in the last one, or in that where its numbers
+/// begin. Where it may be at all, it mostly is in one of these.
 fn is_likely(pieces: &[Piece], outcome: &Learnt, learnt: &[Learnt]) -> bool {
     let low = outcome.above.low;
     let from = pieces.partition_point(|piece| piece.high < low);
@@ -317,7 +319,7 @@ fn is_likely(pieces: &[Piece], outcome: &Learnt, learnt: &[Learnt]) -> bool {
     false
 }
 
-/// The outcome may be, where a term's value is in one of the pieces.
+/// Whether the outcome of a test may be, where the value of its term is in one of the pieces.
 fn may_be_among(pieces: &[Piece], outcome: &Learnt, learnt: &[Learnt]) -> bool
     ensures { result ≡ false → NeverAmong pieces.now outcome.now learnt.now }
 {
@@ -332,7 +334,7 @@ fn may_be_among(pieces: &[Piece], outcome: &Learnt, learnt: &[Learnt]) -> bool
     false
 }
 
-/// The outcome of a test may be.
+/// Whether the outcome of a test may be, by all that is known.
 fn is_possible(outcome: &Learnt, knowledge: &Knowledge) -> bool
     ensures { result ≡ false → CannotBe outcome.now knowledge.now.facts.now
         knowledge.now.pieces.now knowledge.now.learnt.now }
@@ -343,7 +345,8 @@ fn is_possible(outcome: &Learnt, knowledge: &Knowledge) -> bool
     }
 }
 
-/// Whether a test of a register with a number holds, where that is known.
+/// Whether a test of a register with k holds, where that is known of the term that the register
+/// holds.
 pub fn decided(test: Test, k: u32, term: Term, knowledge: &Knowledge) -> Option<bool>
     ensures { IfSome result (IsDecided test k term knowledge.now.facts.now
         knowledge.now.pieces.now knowledge.now.learnt.now) }

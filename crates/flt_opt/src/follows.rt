@@ -1,4 +1,5 @@
-//! Whether what is known at one place says all that a note claims of another one.
+//! Whether what is known at one place says all that a note claims of another one: terms that have
+//! to be there, facts, and registers. `wanted` is what is claimed.
 
 ghost use Rattle.std.specs.Prelude.{◌≡◌, ℕ, true, List, IsTrue};
 ghost use Rattle.flt_bpf.specs.declared.machine.State.{State};
@@ -11,7 +12,8 @@ use crate::facts::{Knowledge, Learnt, covered, numbers_at_most, numbers_of, part
 use crate::note::{Both, Fact, Load, Piece, Registers, Span, Term};
 use crate::terms::{is_known, same_term};
 
-/// What has to be there for a term to have a value.
+/// What has to be there for a term to have a value: of a field without its mask, of a header's
+/// length without what is added.
 pub fn source(term: Term) -> Term
     ensures { result ≡ source term }
 {
@@ -27,15 +29,15 @@ pub fn source(term: Term) -> Term
     }
 }
 
-/// A term has a value where another one has.
+/// Whether a term has a value on each packet where the term `held` has one.
 fn comes_with(wanted: Term, held: Term) -> bool
     ensures { IsTrue result → (p : List ℕ) (n : ℕ) → There p n held → There p n wanted }
 {
     same_term(source(held), source(wanted))
 }
 
-/// It has one where these are the registers of a run.
-fn in_registers(wanted: Term, registers: Registers) -> bool
+/// Whether a term has a value, since a run holds in its registers what needs the same bytes.
+fn is_there_by_registers(wanted: Term, registers: Registers) -> bool
     ensures { IsTrue result → (p : List ℕ) (n : ℕ) (s : State) → Hold p n registers s
         → There p n wanted }
 {
@@ -43,16 +45,16 @@ fn in_registers(wanted: Term, registers: Registers) -> bool
         || (is_known(registers.index) && comes_with(wanted, registers.index))
 }
 
-/// It has one where this is known of the registers of both runs.
-fn in_either(wanted: Term, both: &Both) -> bool
+/// Whether a term has a value, by the registers of either run.
+fn is_there_by_both(wanted: Term, both: &Both) -> bool
     ensures { IsTrue result → (p : List ℕ) (n : ℕ) (new old : State) → Agree p n both.now new old
         → There p n wanted }
 {
-    in_registers(wanted, both.new) || in_registers(wanted, both.old)
+    is_there_by_registers(wanted, both.new) || is_there_by_registers(wanted, both.old)
 }
 
-/// It has one where the facts hold.
-fn in_facts(wanted: Term, facts: &[Fact]) -> bool
+/// Whether a term has a value, by some fact.
+fn is_there_by_facts(wanted: Term, facts: &[Fact]) -> bool
     ensures { IsTrue result → (p : List ℕ) (n : ℕ) (pieces : List Piece)
         → AllHold p n pieces facts.now → There p n wanted }
 {
@@ -64,27 +66,27 @@ fn in_facts(wanted: Term, facts: &[Fact]) -> bool
     false
 }
 
-/// It has one on each packet.
+/// Whether a term has a value on each packet.
 fn is_constant(term: Term) -> bool
     ensures { result ≡ is_constant term }
 {
     matches!(term, Term::Number(_) | Term::Length)
 }
 
-/// A term has a value, by what is known.
+/// Whether a term has a value on this packet, by all that is known.
 pub fn is_there(term: Term, facts: &[Fact], both: &Both) -> bool
     ensures { IsTrue result → IsThere term facts.now both.now }
 {
     if is_constant(term) {
         return true;
     }
-    if in_either(term, both) {
+    if is_there_by_both(term, both) {
         return true;
     }
-    in_facts(term, facts)
+    is_there_by_facts(term, facts)
 }
 
-/// The value of a term is in the numbers, where it is in one of the pieces.
+/// Whether a term's value is in `numbers`, where it is in one of the pieces.
 // A piece is looked for from where the one before it was found: both lists ascend.
 fn are_within(pieces: &[Piece], term: Term, learnt: &[Learnt], numbers: &[Piece]) -> bool
     ensures { IsTrue result → AreWithin pieces.now term learnt.now numbers.now }
@@ -99,7 +101,7 @@ fn are_within(pieces: &[Piece], term: Term, learnt: &[Learnt], numbers: &[Piece]
     true
 }
 
-/// The value of a fact's term is in its pieces, if it has one.
+/// Whether the value of a fact's term is in the fact's pieces, if it has one.
 fn numbers_follow(wanted: Fact, knowledge: &Knowledge) -> bool
     ensures { IsTrue result → NumbersFollow wanted knowledge.now.facts.now
         knowledge.now.pieces.now knowledge.now.learnt.now }
@@ -122,13 +124,14 @@ fn numbers_follow(wanted: Fact, knowledge: &Knowledge) -> bool
     }
 }
 
+/// Whether two parts of a list are the same.
 fn same_span(one: Span, other: Span) -> bool
     ensures { IsTrue result → one ≡ other }
 {
     one == other
 }
 
-/// A fact holds, by what is known.
+/// Whether a fact holds, by what is known.
 fn fact_follows(wanted: Fact, knowledge: &Knowledge, both: &Both) -> bool
     ensures { IsTrue result → FactFollows wanted both.now knowledge.now.facts.now
         knowledge.now.pieces.now knowledge.now.learnt.now }
@@ -136,7 +139,7 @@ fn fact_follows(wanted: Fact, knowledge: &Knowledge, both: &Both) -> bool
     is_there(wanted.term, knowledge.facts, both) && numbers_follow(wanted, knowledge)
 }
 
-/// All facts hold, by what is known.
+/// Whether all facts hold, by what is known.
 pub(crate) fn facts_follow(wanted: &[Fact], knowledge: &Knowledge, both: &Both) -> bool
     ensures { IsTrue result → FactsFollow wanted.now both.now knowledge.now.facts.now
         knowledge.now.pieces.now knowledge.now.learnt.now }
@@ -149,7 +152,7 @@ pub(crate) fn facts_follow(wanted: &[Fact], knowledge: &Knowledge, both: &Both) 
     true
 }
 
-/// A register holds what a note says, where it holds a term.
+/// Whether a register that holds the term `known` holds what a note says of it.
 fn term_fits(known: Term, wanted: Term) -> bool
     ensures { IsTrue result → (p : List ℕ) (n number : ℕ) → Holds p n known number
         → Holds p n wanted number }
@@ -157,6 +160,7 @@ fn term_fits(known: Term, wanted: Term) -> bool
     !is_known(wanted) || same_term(known, wanted)
 }
 
+/// Whether both registers of a run hold what a note says of them.
 fn registers_fit(known: Registers, wanted: Registers) -> bool
     ensures { IsTrue result → (p : List ℕ) (n : ℕ) (s : State) → Hold p n known s
         → Hold p n wanted s }
@@ -164,7 +168,7 @@ fn registers_fit(known: Registers, wanted: Registers) -> bool
     term_fits(known.accumulator, wanted.accumulator) && term_fits(known.index, wanted.index)
 }
 
-/// A register is the same in two runs, in which it holds these terms.
+/// Whether a register is the same in two runs, in which it holds these terms.
 fn same_number(new: Term, old: Term) -> bool
     ensures { IsTrue result → (p : List ℕ) (n one other : ℕ) → Holds p n new one
         → Holds p n old other → one ≡ other }
@@ -172,7 +176,7 @@ fn same_number(new: Term, old: Term) -> bool
     is_known(new) && same_term(new, old)
 }
 
-/// A is the same in both runs.
+/// Whether A is the same in both runs, by what is known.
 pub fn same_accumulator(both: &Both) -> bool
     ensures { IsTrue result → (p : List ℕ) (n : ℕ) (new old : State) → Agree p n both.now new old
         → new.accumulator ≡ old.accumulator }
@@ -180,7 +184,7 @@ pub fn same_accumulator(both: &Both) -> bool
     both.same_accumulator || same_number(both.new.accumulator, both.old.accumulator)
 }
 
-/// X is the same in both runs.
+/// Whether X is the same in both runs, by what is known.
 pub fn same_index(both: &Both) -> bool
     ensures { IsTrue result → (p : List ℕ) (n : ℕ) (new old : State) → Agree p n both.now new old
         → new.index ≡ old.index }
@@ -188,8 +192,8 @@ pub fn same_index(both: &Both) -> bool
     both.same_index || same_number(both.new.index, both.old.index)
 }
 
-/// What is known of the registers says all that a note says of them.
-pub(crate) fn fits(known: &Both, wanted: &Both) -> bool
+/// Whether what is known of the registers of both runs says all that a note says of them.
+pub(crate) fn both_fit(known: &Both, wanted: &Both) -> bool
     ensures { IsTrue result → (p : List ℕ) (n : ℕ) (new old : State) → Agree p n known.now new old
         → Agree p n wanted.now new old }
 {
@@ -199,7 +203,7 @@ pub(crate) fn fits(known: &Both, wanted: &Both) -> bool
         && (!wanted.same_index || same_index(known))
 }
 
-/// A term that is known either way.
+/// A term that holds whichever of two holds.
 fn common_term(one: Term, other: Term) -> Term
     ensures one { (p : List ℕ) (n number : ℕ) → Holds p n one number → Holds p n result number }
     ensures other { (p : List ℕ) (n number : ℕ) → Holds p n other number
@@ -212,6 +216,7 @@ fn common_term(one: Term, other: Term) -> Term
     }
 }
 
+/// What is known of a run's registers, whichever of two holds.
 fn common_registers(one: Registers, other: Registers) -> Registers
     ensures one { (p : List ℕ) (n : ℕ) (s : State) → Hold p n one s → Hold p n result s }
     ensures other { (p : List ℕ) (n : ℕ) (s : State) → Hold p n other s → Hold p n result s }
@@ -222,8 +227,8 @@ fn common_registers(one: Registers, other: Registers) -> Registers
     }
 }
 
-/// What is known of the registers either way.
-pub(crate) fn common(one: &Both, other: &Both) -> Both
+/// What is known of the registers of both runs, whichever of two holds.
+pub(crate) fn common_both(one: &Both, other: &Both) -> Both
     ensures one { (p : List ℕ) (n : ℕ) (new old : State) → Agree p n one.now new old
         → Agree p n result new old }
     ensures other { (p : List ℕ) (n : ℕ) (new old : State) → Agree p n other.now new old

@@ -1,4 +1,10 @@
-//! Whether one program may replace another one, as notes on both of them show it.
+//! Whether one program may replace another one, as notes on both of them show it. Whoever makes the
+//! new program (`flt_passes`) makes the notes too; neither is trusted.
+//!
+//! Two runs are followed side by side, the *new* one and the *old* one. `note` has what may be
+//! known of both, `terms` what an instruction makes of what the registers hold, `facts` which
+//! numbers a field may be, `follows` whether one knowledge gives another one, `walk` how far the
+//! old run goes meanwhile, and `validator` looks at the notes one by one.
 #![tactic(auto)]
 
 mod facts;

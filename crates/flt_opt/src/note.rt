@@ -1,4 +1,5 @@
-//! What is known of two programs where a run of one replaces a run of the other.
+//! What is known of two programs where a run of one replaces a run of the other: all of it data,
+//! which claims something, and proves nothing until `validator` has seen it.
 
 use flt_bpf::operation::Width;
 

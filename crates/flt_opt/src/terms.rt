@@ -1,4 +1,5 @@
-//! What the registers hold after an instruction.
+//! What the registers hold after an instruction, as terms over the packet. `k` is the instruction's
+//! number.
 
 ghost use Rattle.std.specs.Prelude.{◌≡◌, IsTrue};
 ghost use Rattle.flt_opt.specs.inside.Terms.{indirect, mask_of, masked, sum, computed, accumulator_after};
@@ -10,21 +11,21 @@ ghost use Rattle.flt_opt.specs.inside.Terms.{after_loads, is_load};
 use crate::note::{Both, Load, Registers, Term};
 use flt_bpf::operation::{AluOperation, Operand, Operation, Register, Source, Test, Width};
 
-/// Something is known of it.
+/// Whether something is known of a register that holds this term.
 pub fn is_known(term: Term) -> bool
     ensures { result ≡ is_known term }
 {
     !matches!(term, Term::Anything)
 }
 
-/// Two terms are the same.
+/// Whether two terms are the same.
 pub fn same_term(one: Term, other: Term) -> bool
     ensures { IsTrue result → one ≡ other }
 {
     one == other
 }
 
-/// A after a load at X and k.
+/// What A holds after a load at X and k.
 fn indirect(width: Width, k: u32, index: Term) -> Term
     ensures { result ≡ indirect width k index }
 {
@@ -45,6 +46,7 @@ fn indirect(width: Width, k: u32, index: Term) -> Term
     }
 }
 
+/// The bits that a mask `k` leaves of those that were left.
 fn mask_of(mask: Option<u32>, k: u32) -> u32
     ensures { result ≡ mask_of mask k }
 {
@@ -54,7 +56,7 @@ fn mask_of(mask: Option<u32>, k: u32) -> u32
     }
 }
 
-/// A term under a mask.
+/// What a term is once a register that holds it is masked with `k`.
 pub fn masked(term: Term, k: u32) -> Term
     ensures { result ≡ masked term k }
 {
@@ -70,7 +72,7 @@ pub fn masked(term: Term, k: u32) -> Term
     }
 }
 
-/// A number and a header's length.
+/// What A and X are together: only a number and a header's length are known as a term.
 fn sum(accumulator: Term, index: Term) -> Term
     ensures { result ≡ sum accumulator index }
 {
@@ -83,6 +85,7 @@ fn sum(accumulator: Term, index: Term) -> Term
     }
 }
 
+/// What A holds after arithmetic; only what passes over IPv4 headers need is known as a term.
 fn computed(operator: AluOperation, operand: Operand, k: u32, registers: Registers) -> Term
     ensures { result ≡ computed operator operand k registers }
 {
@@ -93,7 +96,7 @@ fn computed(operator: AluOperation, operand: Operand, k: u32, registers: Registe
     }
 }
 
-/// A after an operation.
+/// What A holds after an operation that leads on.
 fn accumulator_after(operation: Operation, k: u32, registers: Registers) -> Term
     ensures { result ≡ accumulator_after operation k registers }
 {
@@ -116,7 +119,7 @@ fn accumulator_after(operation: Operation, k: u32, registers: Registers) -> Term
     }
 }
 
-/// X after an operation.
+/// What X holds after an operation that leads on.
 fn index_after(operation: Operation, k: u32, registers: Registers) -> Term
     ensures { result ≡ index_after operation k registers }
 {
@@ -130,7 +133,7 @@ fn index_after(operation: Operation, k: u32, registers: Registers) -> Term
     }
 }
 
-/// What the registers hold after an operation.
+/// What the registers hold after an operation that leads on.
 pub fn after(operation: Operation, k: u32, registers: Registers) -> Registers
     ensures { result ≡ after operation k registers }
 {
@@ -140,7 +143,7 @@ pub fn after(operation: Operation, k: u32, registers: Registers) -> Registers
     }
 }
 
-/// The test of a register with a number that an operation is.
+/// The test of A with the number k that an operation is, if it is one.
 pub fn test_of(operation: Operation) -> Option<Test>
     ensures { result ≡ test_of operation }
 {
@@ -150,14 +153,14 @@ pub fn test_of(operation: Operation) -> Option<Test>
     }
 }
 
-/// An operation skips instructions, whatever the registers hold.
+/// Whether an operation skips instructions, whatever the registers hold.
 pub fn is_jump(operation: Operation) -> bool
     ensures { result ≡ is_jump operation }
 {
     matches!(operation, Operation::Jump)
 }
 
-/// An operation reads A.
+/// Whether what an operation does depends on A.
 pub fn reads_accumulator(operation: Operation) -> bool
     ensures { result ≡ reads_accumulator operation }
 {
@@ -172,7 +175,7 @@ pub fn reads_accumulator(operation: Operation) -> bool
     )
 }
 
-/// It reads X.
+/// Whether what an operation does depends on X.
 pub fn reads_index(operation: Operation) -> bool
     ensures { result ≡ reads_index operation }
 {
@@ -186,7 +189,7 @@ pub fn reads_index(operation: Operation) -> bool
     )
 }
 
-/// It puts something into A.
+/// Whether an operation puts something into A.
 pub fn sets_accumulator(operation: Operation) -> bool
     ensures { result ≡ sets_accumulator operation }
 {
@@ -201,7 +204,7 @@ pub fn sets_accumulator(operation: Operation) -> bool
     )
 }
 
-/// It puts something into X.
+/// Whether an operation puts something into X.
 pub fn sets_index(operation: Operation) -> bool
     ensures { result ≡ sets_index operation }
 {
@@ -211,7 +214,7 @@ pub fn sets_index(operation: Operation) -> bool
     )
 }
 
-/// What is known after both runs did an operation with the same operands.
+/// What is known of both runs after each did an operation with the same operands.
 pub fn after_both(operation: Operation, k: u32, both: Both) -> Both
     ensures { result ≡ after_both operation k both }
 {
@@ -223,7 +226,7 @@ pub fn after_both(operation: Operation, k: u32, both: Both) -> Both
     }
 }
 
-/// What is known after the old run alone did it.
+/// What is known of both runs after the old one alone did an operation.
 pub fn after_old(operation: Operation, k: u32, both: Both) -> Both
     ensures { result ≡ after_old operation k both }
 {
@@ -235,7 +238,7 @@ pub fn after_old(operation: Operation, k: u32, both: Both) -> Both
     }
 }
 
-/// What is known after the new run alone did it.
+/// What is known of both runs after the new one alone did an operation.
 pub fn after_new(operation: Operation, k: u32, both: Both) -> Both
     ensures { result ≡ after_new operation k both }
 {
@@ -247,7 +250,7 @@ pub fn after_new(operation: Operation, k: u32, both: Both) -> Both
     }
 }
 
-/// The term that an operation makes.
+/// The term that an operation makes, in A or X: what has to be there for it to lead on.
 pub fn asked(operation: Operation, k: u32, registers: Registers) -> Term
     ensures { result ≡ asked operation k registers }
 {
@@ -257,7 +260,8 @@ pub fn asked(operation: Operation, k: u32, registers: Registers) -> Term
     }
 }
 
-/// An operation leads on and changes no word, if what it loads is `there`.
+/// Whether an operation leads to the next instruction on each packet and changes no word of memory,
+/// if what it loads is `there`.
 pub fn is_sure(operation: Operation, k: u32, there: bool) -> bool
     ensures { result ≡ is_sure operation k there }
 {
@@ -281,14 +285,15 @@ pub fn is_sure(operation: Operation, k: u32, there: bool) -> bool
     }
 }
 
-/// An operation leads to the next instruction, or fails.
+/// Whether an operation leads to the next instruction, unless the packet ends too early or it
+/// divides by 0.
 pub(crate) fn leads_on(operation: Operation) -> bool
     ensures { result ≡ leads_on operation }
 {
     !matches!(operation, Operation::Jump | Operation::JumpIf(_, _)) && !returns(operation)
 }
 
-/// It returns.
+/// Whether an operation is one of the two returns.
 pub(crate) fn returns(operation: Operation) -> bool
     ensures { result ≡ returns operation }
 {
@@ -298,7 +303,7 @@ pub(crate) fn returns(operation: Operation) -> bool
     )
 }
 
-/// It loads bytes of the packet into A.
+/// Whether an operation loads bytes of the packet into A.
 pub fn is_load(operation: Operation) -> bool
     ensures { result ≡ is_load operation }
 {
@@ -308,7 +313,7 @@ pub fn is_load(operation: Operation) -> bool
     )
 }
 
-/// What is known after both runs loaded the same field.
+/// What is known of both runs after each loaded the same field into A.
 pub fn after_loads(field: Term, both: Both) -> Both
     ensures { result ≡ after_loads field both }
 {

@@ -1,4 +1,11 @@
 //! Whether a program may replace another one: note by note, by four rules.
+//!
+//! - `does_same`: both runs do the same instruction, with the same operands.
+//! - `loads_same`: both load the same field, though X or k differ.
+//! - `tests_bits`: the new one tests bits, for a mask and a test for 0 of the old one.
+//! - `does_own`: the new one does an instruction that can't fail, and the old one waits.
+//!
+//! After each the new run is at the place of another note, once the old run has walked on to it.
 
 ghost use Rattle.std.specs.Prelude.{◌≡◌, ◌≢◌, ◌↔◌, ℕ, ◌+◌, ◌^◌, ◌<◌, List, [], not, Some, All};
 ghost use Rattle.std.specs.Prelude.{IsTrue, slice_get};
@@ -14,7 +21,7 @@ ghost use Rattle.flt_bpf.specs.Machine.{start};
 ghost use Rattle.flt_opt.specs.inside.Facts.{part, IsDecided};
 
 use crate::facts::{Knowledge, Learnt, decided, facts_in, kept_outcomes, outcome};
-use crate::follows::{facts_follow, fits, same_accumulator, same_index};
+use crate::follows::{both_fit, facts_follow, same_accumulator, same_index};
 use crate::note::{Both, Fact, Note, Notes, Registers, Term};
 use crate::terms::{
     after_both, after_loads, after_new, after_old, asked, is_known, is_load, leads_on,
@@ -50,15 +57,21 @@ pub(crate) struct Condition {
     pub operand: Operand,
 }
 
-/// The facts of a note.
+/// The facts that a note claims.
 fn facts_of<'a>(programs: &Programs<'a>, note: &Note) -> &'a [Fact]
     ensures { result.now ≡ part programs.now.notes.facts.now note.now.facts }
 {
     facts_in(programs.notes.facts, note.facts)
 }
 
-/// A way leads to a note, once the old run has walked to its place.
-fn leads_to(programs: &Programs, facts: &[Fact], learnt: &[Learnt], way: &Way, to: usize) -> bool
+/// Whether a way leads to the note with index `to`, once the old run has walked to its place.
+fn leads_to_note(
+    programs: &Programs,
+    facts: &[Fact],
+    learnt: &[Learnt],
+    way: &Way,
+    to: usize,
+) -> bool
     ensures { IsTrue result → LeadsTo programs.now way.now facts.now learnt.now }
 {
     let Some(note) = programs.notes.notes.get(to) else {
@@ -83,10 +96,11 @@ fn leads_to(programs: &Programs, facts: &[Fact], learnt: &[Learnt], way: &Way, t
     let Some(both) = walk(old, facts, pieces, from, note.old, MOST_SPLITS, &mut fuel) else {
         return false;
     };
-    fits(&both, &note.registers) && facts_follow(facts_of(programs, note), &knowledge, &way.both)
+    both_fit(&both, &note.registers)
+        && facts_follow(facts_of(programs, note), &knowledge, &way.both)
 }
 
-/// On a way both runs return 0.
+/// Whether both runs return 0 on a way, the old one if it returns.
 fn both_reject(programs: &Programs, facts: &[Fact], learnt: &[Learnt], way: &Way) -> bool
     ensures { IsTrue result → LeadsTo programs.now way.now facts.now learnt.now }
 {
@@ -104,15 +118,22 @@ fn both_reject(programs: &Programs, facts: &[Fact], learnt: &[Learnt], way: &Way
     rejects(programs.old, facts, pieces, learnt, way.both.old, start)
 }
 
-/// A way leads to a note, or to a rejection in both runs.
-fn leads(programs: &Programs, facts: &[Fact], learnt: &[Learnt], way: &Way, to: usize) -> bool
+/// Whether a way leads to the note with index `to`, or to a rejection in both runs.
+fn leads_to_note_or_rejection(
+    programs: &Programs,
+    facts: &[Fact],
+    learnt: &[Learnt],
+    way: &Way,
+    to: usize,
+) -> bool
     ensures { IsTrue result → LeadsTo programs.now way.now facts.now learnt.now }
 {
-    leads_to(programs, facts, learnt, way, to) || both_reject(programs, facts, learnt, way)
+    leads_to_note(programs, facts, learnt, way, to) || both_reject(programs, facts, learnt, way)
 }
 
-/// The way from a test of the new program at the place of a note, to a place of the old one.
-fn way_from(note: &Note, both: &Both, new: Wide, holds: bool, old: usize) -> Way
+/// The way on a side of a test that the new run does at a note, while the old one is at the place
+/// `old`.
+fn way_from_test(note: &Note, both: &Both, new: Wide, holds: bool, old: usize) -> Way
     requires { note.now.new < 2 ^ 62 }
     ensures { result ≡ record {
       new = note.now.new + 1 + (if holds then new.jt else new.jf);
@@ -128,8 +149,8 @@ fn way_from(note: &Note, both: &Both, new: Wide, holds: bool, old: usize) -> Way
     }
 }
 
-/// A test of the new program has another outcome, by what is known.
-fn never_comes(
+/// Whether a test of the new run never holds, or never fails, by what is known.
+fn never_has_outcome(
     programs: &Programs,
     facts: &[Fact],
     both: &Both,
@@ -151,8 +172,8 @@ fn never_comes(
     }
 }
 
-/// A test of the new program that holds, or doesn't, leads to a note.
-fn branch_leads(
+/// Whether the side of a test of the new run leads to the note that is named for it.
+fn side_leads(
     programs: &Programs,
     note: &Note,
     both: &Both,
@@ -164,22 +185,23 @@ fn branch_leads(
     requires { note.now.new < 2 ^ 62 }
     ensures { IsTrue result → Branches programs.now note.now both.now new condition holds old }
 {
-    let way = way_from(note, both, new, holds, old);
+    let way = way_from_test(note, both, new, holds, old);
     let facts = facts_of(programs, note);
     let to = if holds { note.yes } else { note.no };
     match condition.operand {
         Operand::Constant => {
-            if never_comes(programs, facts, both, new, condition.test, holds) {
+            if never_has_outcome(programs, facts, both, new, condition.test, holds) {
                 return true;
             }
             let learnt = [outcome(condition.test, new.k, both.new.accumulator, holds)];
-            leads(programs, facts, &learnt, &way, to)
+            leads_to_note_or_rejection(programs, facts, &learnt, &way, to)
         }
-        Operand::IndexRegister => leads(programs, facts, &[], &way, to),
+        Operand::IndexRegister => leads_to_note_or_rejection(programs, facts, &[], &way, to),
     }
 }
 
-/// Both ways of a test of the new program lead to notes.
+/// Whether both sides of a test of the new run lead to notes; the old run is at `yes` or at `no`
+/// then.
 fn test_leads(
     programs: &Programs,
     note: &Note,
@@ -194,11 +216,11 @@ fn test_leads(
     requires known { operation_of new.code ≡ Some (JumpIf condition.test condition.operand) }
     ensures { IsTrue result → Tests programs.now note.now both.now new condition yes no }
 {
-    branch_leads(programs, note, both, new, condition, true, yes)
-        && branch_leads(programs, note, both, new, condition, false, no)
+    side_leads(programs, note, both, new, condition, true, yes)
+        && side_leads(programs, note, both, new, condition, false, no)
 }
 
-/// The next instruction of the new program leads to a note, where the old run is at a place.
+/// Whether the next instruction of the new run leads to a note, while the old run is at a place.
 fn step_leads(programs: &Programs, note: &Note, both: Both, old: usize) -> bool
     requires { note.now.new < 2 ^ 62 }
     ensures { IsTrue result → LeadsTo programs.now
@@ -210,10 +232,10 @@ fn step_leads(programs: &Programs, note: &Note, both: Both, old: usize) -> bool
         old,
         both,
     };
-    leads(programs, facts_of(programs, note), &[], &way, note.yes)
+    leads_to_note_or_rejection(programs, facts_of(programs, note), &[], &way, note.yes)
 }
 
-/// Both runs have the same in A and X where an operation reads them.
+/// Whether both runs have the same in A and X where an operation reads them.
 fn operands_agree(operation: Operation, both: &Both) -> bool
     ensures { IsTrue result → OperandsAgree operation both.now }
 {
@@ -221,7 +243,7 @@ fn operands_agree(operation: Operation, both: &Both) -> bool
         && (!reads_index(operation) || same_index(both))
 }
 
-/// The new run does the instruction of the old one.
+/// Whether a note stands since the new run does the instruction of the old one.
 fn does_same(programs: &Programs, note: &Note, new: Wide, old: Wide) -> bool
     requires new_bound { note.now.new < 2 ^ 62 }
     requires old_bound { note.now.old < 2 ^ 62 }
@@ -251,7 +273,8 @@ fn does_same(programs: &Programs, note: &Note, new: Wide, old: Wide) -> bool
     leads_on(operation) && step_leads(programs, note, both, note.old + 1)
 }
 
-/// The new run does an instruction of its own, which can't fail, and the old run waits.
+/// Whether a note stands since the new run does an instruction of its own, which can't fail, and
+/// the old run waits.
 fn does_own(programs: &Programs, note: &Note, new: Wide) -> bool
     requires bound { note.now.new < 2 ^ 62 }
     requires there { slice_get programs.now.new.now note.now.new ≡ Some new }
@@ -282,7 +305,7 @@ fn does_own(programs: &Programs, note: &Note, new: Wide) -> bool
     ) && step_leads(programs, note, both, note.old)
 }
 
-/// Both runs load the same field, by what is in X.
+/// Whether a note stands since both runs load the same field, by what is in X.
 fn loads_same(programs: &Programs, note: &Note, new: Wide, old: Wide) -> bool
     requires new_bound { note.now.new < 2 ^ 62 }
     requires old_bound { note.now.old < 2 ^ 62 }
@@ -307,7 +330,7 @@ fn loads_same(programs: &Programs, note: &Note, new: Wide, old: Wide) -> bool
     step_leads(programs, note, both, note.old + 1)
 }
 
-/// Three instructions are a test of bits, and a mask and a test of what is left for 0.
+/// Whether three instructions are a test of bits, and a mask and a test of what is left for 0.
 fn is_bits(new: Wide, mask: Wide, test: Wide) -> bool
     ensures { IsTrue result → IsBits new mask test }
 {
@@ -317,7 +340,8 @@ fn is_bits(new: Wide, mask: Wide, test: Wide) -> bool
             && (test.k == 0 && mask.k == new.k))
 }
 
-/// The new run tests bits, where the old one has a mask and tests what is left for 0.
+/// Whether a note stands since the new run tests bits, where the old one has a mask and tests what
+/// is left for 0.
 fn tests_bits(programs: &Programs, note: &Note, new: Wide, old: Wide) -> bool
     requires new_bound { note.now.new < 2 ^ 62 }
     requires old_bound { note.now.old < 2 ^ 62 }
@@ -346,8 +370,8 @@ fn tests_bits(programs: &Programs, note: &Note, new: Wide, old: Wide) -> bool
     test_leads(programs, note, &both, new, condition, yes, no)
 }
 
-/// A note stands: from it on both programs return the same, if they do from those further on.
-fn stands(programs: &Programs, note: &Note) -> bool
+/// Whether both programs return the same from a note on, if they do from the notes further on.
+fn note_stands(programs: &Programs, note: &Note) -> bool
     ensures { IsTrue result → IsSound programs.now note.now }
 {
     let Some(new) = programs.new.get(note.new) else {
@@ -368,19 +392,19 @@ fn stands(programs: &Programs, note: &Note) -> bool
     does_own(programs, note, *new)
 }
 
-/// All notes stand.
-fn all_stand(programs: &Programs) -> bool
+/// Whether all notes stand.
+fn all_notes_stand(programs: &Programs) -> bool
     ensures { IsTrue result → AreSound programs.now }
 {
     for note in programs.notes.notes {
-        if !stands(programs, note) {
+        if !note_stands(programs, note) {
             return false;
         }
     }
     true
 }
 
-/// What is known of two runs at their beginning.
+/// What is known of two runs at their beginning: A and X are 0 in both.
 fn known_at_start() -> Both
     ensures { (p : List ℕ) (n : ℕ) → Agree p n result start start }
 {
@@ -396,8 +420,8 @@ fn known_at_start() -> Both
     }
 }
 
-/// The beginning of both programs leads to the first note.
-fn begins(programs: &Programs) -> bool
+/// Whether the beginning of both programs leads to the first note.
+fn beginning_leads(programs: &Programs) -> bool
     ensures { IsTrue result → Begins programs.now }
 {
     let way = Way {
@@ -405,10 +429,10 @@ fn begins(programs: &Programs) -> bool
         old: 0,
         both: known_at_start(),
     };
-    leads(programs, &[], &[], &way, 0)
+    leads_to_note_or_rejection(programs, &[], &[], &way, 0)
 }
 
-/// There is no jump but those of tests.
+/// Whether there is no jump but those of tests (`ja` has the code 5).
 fn has_no_jump(code: &[Wide]) -> bool
     ensures { IsTrue result ↔ All (λ i. i.code ≢ code_of Jump) code.now }
 {
@@ -421,10 +445,10 @@ pub fn replaces(new: &[Wide], old: &[Wide], notes: Notes) -> bool
     ensures { IsTrue result → Replaces new.now old.now }
 {
     let programs = Programs { new, old, notes };
-    if !begins(&programs) {
+    if !beginning_leads(&programs) {
         return false;
     }
-    if !all_stand(&programs) {
+    if !all_notes_stand(&programs) {
         return false;
     }
     has_no_jump(new)

@@ -1,4 +1,8 @@
-//! How far the old run goes by what is known.
+//! How far the old run goes by what is known: to a goal, or to a rejection.
+//!
+//! Where what is known decides a test, the walk takes that side. Where it doesn't, one side has to
+//! lead to the goal, and the walk goes on along the other one: what is known at the goal in the end
+//! is what is known on all ways that met there.
 
 ghost use Rattle.std.specs.Prelude.{◌≡◌, ℕ, List, ◌+◌, ◌^◌, ◌<◌, ◌∷◌, Some, None, IfSome, IsSome};
 ghost use Rattle.std.specs.Prelude.{IsTrue, slice_get};
@@ -11,7 +15,7 @@ ghost use Rattle.flt_opt.specs.inside.Alike.{IsSure, Passes, Reaches, Advances, 
 ghost use Rattle.flt_opt.specs.inside.Alike.{Rejects};
 
 use crate::facts::{Knowledge, Learnt, OUTCOMES, decided, outcome, with_newest};
-use crate::follows::{common, is_there};
+use crate::follows::{common_both, is_there};
 use crate::note::{Both, Fact, Piece, Registers};
 use crate::terms::{after, after_old, asked, is_jump, is_sure, leads_on, test_of};
 use flt_bpf::Wide;
@@ -20,7 +24,7 @@ use flt_bpf::operation::{Operation, Test, decode};
 /// How many instructions a walk passes at most, on all its ways together.
 pub(crate) const MOST_STEPS: u32 = 8192;
 
-/// A run that has these registers goes on after an operation, which changes no word.
+/// Whether a run with these registers goes on after an operation, which changes no word of memory.
 pub(crate) fn goes_on(
     operation: Operation,
     k: u32,
@@ -35,8 +39,9 @@ pub(crate) fn goes_on(
     is_sure(operation, k, there)
 }
 
-/// How many instructions the old run skips after one, and what is known then.
-fn pass(insn: Wide, knowledge: &Knowledge, both: &Both) -> Option<(u32, Both)>
+/// How many instructions the old run skips after one, and what is known of both runs then, if that
+/// is decided.
+fn pass_insn(insn: Wide, knowledge: &Knowledge, both: &Both) -> Option<(u32, Both)>
     ensures { IfSome result (λ r. Passes insn r.0 both.now r.1 knowledge.now.facts.now
         knowledge.now.pieces.now knowledge.now.learnt.now) }
 {
@@ -68,8 +73,8 @@ pub(crate) struct Stage {
     pub met: Option<Both>,
 }
 
-/// What is known of the registers on this way and on those that met.
-fn joined(met: &Option<Both>, known: &Both) -> Both
+/// What is known of both runs at the goal, on the ways that met there and on this one.
+fn known_on_all_ways(met: &Option<Both>, known: &Both) -> Both
     ensures known { (p : List ℕ) (n : ℕ) (new old : State) → Agree p n known.now new old
         → Agree p n result new old }
     ensures met { IfSome met.now (λ other. (p : List ℕ) (n : ℕ) (new old : State)
@@ -77,11 +82,13 @@ fn joined(met: &Option<Both>, known: &Both) -> Both
 {
     match met {
         None => *known,
-        Some(other) => common(other, known),
+        Some(other) => common_both(other, known),
     }
 }
 
-/// What is known once the old run is at a place, if it comes there.
+/// What is known of both runs once the old one is at the goal, if it comes there. `splits` is past
+/// how many undecided tests, one on a side of the other, it may look for the goal, and `fuel` how
+/// many instructions all ways may pass together.
 #[cycle(walking)]
 pub(crate) fn walk(
     old: &[Wide],
@@ -97,7 +104,7 @@ pub(crate) fn walk(
     let mut stage = from;
     'steps: for _ in 0..MOST_STEPS {
         if stage.at == goal {
-            return Some(joined(&stage.met, &stage.known));
+            return Some(known_on_all_ways(&stage.met, &stage.known));
         }
         *fuel = fuel.checked_sub(1)?;
         stage = advance(old, facts, pieces, stage, goal, splits, fuel)?;
@@ -105,7 +112,7 @@ pub(crate) fn walk(
     None
 }
 
-/// The same after one instruction.
+/// Where a walk is after one more instruction, or after a test of which one side led to the goal.
 #[cycle(walking)]
 fn advance(
     old: &[Wide],
@@ -124,7 +131,7 @@ fn advance(
         pieces,
         learnt: &stage.learnt,
     };
-    if let Some((skipped, known)) = pass(insn, &knowledge, &stage.known) {
+    if let Some((skipped, known)) = pass_insn(insn, &knowledge, &stage.known) {
         return Some(Stage {
             at: stage.at + 1 + skipped as usize,
             known,
@@ -135,7 +142,8 @@ fn advance(
     fork(old, facts, pieces, stage, insn, goal, splits, fuel)
 }
 
-/// From a test that isn't decided one way leads to the goal; the walk goes on along the other one.
+/// At a test that isn't decided one side has to lead to the goal; the walk goes on along the other
+/// one.
 #[cycle(walking)]
 fn fork(
     old: &[Wide],
@@ -155,17 +163,17 @@ fn fork(
         return None;
     }
     let test = test_of(decode(insn.code)?)?;
-    let hit = way_of(&stage, insn, test, true);
-    let miss = way_of(&stage, insn, test, false);
+    let hit = side_of_test(&stage, insn, test, true);
+    let miss = side_of_test(&stage, insn, test, false);
     if let Some(one) = walk(old, facts, pieces, hit, goal, splits - 1, fuel) {
-        return Some(met_by(&miss, &stage.met, &one));
+        return Some(with_met(&miss, &stage.met, &one));
     }
     let one = walk(old, facts, pieces, miss, goal, splits - 1, fuel)?;
-    Some(met_by(&hit, &stage.met, &one))
+    Some(with_met(&hit, &stage.met, &one))
 }
 
-/// The way that a test takes which holds, or doesn't.
-fn way_of(stage: &Stage, insn: Wide, test: Test, holds: bool) -> Stage
+/// The walk on the side of a test that holds, or doesn't, with what that shows.
+fn side_of_test(stage: &Stage, insn: Wide, test: Test, holds: bool) -> Stage
     requires { stage.now.at < 2 ^ 62 }
     ensures at { result.at ≡ stage.now.at + 1 + (if holds then insn.jt else insn.jf) }
     ensures known { result.known ≡ stage.now.known }
@@ -184,8 +192,8 @@ fn way_of(stage: &Stage, insn: Wide, test: Test, holds: bool) -> Stage
     }
 }
 
-/// A walk goes on where another way has met the goal.
-fn met_by(stage: &Stage, met: &Option<Both>, one: &Both) -> Stage
+/// The walk where one more way has met the goal.
+fn with_met(stage: &Stage, met: &Option<Both>, one: &Both) -> Stage
     ensures at { result.at ≡ stage.now.at }
     ensures known { result.known ≡ stage.now.known }
     ensures learnt { result.learnt ≡ stage.now.learnt }
@@ -199,13 +207,17 @@ fn met_by(stage: &Stage, met: &Option<Both>, one: &Both) -> Stage
         at: stage.at,
         known: stage.known,
         learnt: stage.learnt,
-        met: Some(joined(met, one)),
+        met: Some(known_on_all_ways(met, one)),
     }
 }
 
-/// How many instructions a run skips after one, and what its registers hold then, if it doesn't
-/// return 0.
-fn drift(insn: Wide, knowledge: &Knowledge, registers: Registers) -> Option<(u32, Registers)>
+/// How many instructions a run skips after one, and what its registers hold then, unless it returns
+/// 0 there.
+fn pass_unless_rejected(
+    insn: Wide,
+    knowledge: &Knowledge,
+    registers: Registers,
+) -> Option<(u32, Registers)>
     ensures { IfSome result (λ r. Drifts insn r.0 registers r.1 knowledge.now.facts.now
         knowledge.now.pieces.now knowledge.now.learnt.now) }
 {
@@ -224,7 +236,7 @@ fn drift(insn: Wide, knowledge: &Knowledge, registers: Registers) -> Option<(u32
     }
 }
 
-/// It returns 0.
+/// Whether an instruction returns 0.
 pub(crate) fn is_rejection(insn: Wide) -> bool
     ensures { IsTrue result → IsRejection insn }
 {
@@ -238,7 +250,7 @@ pub(crate) struct Start {
     pub splits: u32,
 }
 
-/// A run returns 0 from a place on, if it returns.
+/// Whether a run returns 0 from a place on, if it returns.
 #[cycle(rejecting)]
 pub(crate) fn rejects(
     code: &[Wide],
@@ -266,7 +278,7 @@ pub(crate) fn rejects(
         if is_rejection(insn) {
             return true;
         }
-        let Some((skipped, next)) = drift(insn, &knowledge, known) else {
+        let Some((skipped, next)) = pass_unless_rejected(insn, &knowledge, known) else {
             let here = Start {
                 at,
                 splits: start.splits,
@@ -279,7 +291,7 @@ pub(crate) fn rejects(
     false
 }
 
-/// The same from a test on, both ways.
+/// Whether a run returns 0 on both sides of a test that isn't decided.
 #[cycle(rejecting)]
 fn both_ways_reject(
     code: &[Wide],
@@ -322,7 +334,8 @@ fn both_ways_reject(
     one_way_rejects(code, facts, pieces, learnt, registers, no, miss)
 }
 
-/// The same where a test has shown more.
+/// Whether a run returns 0 on a side of a test, which shows more of a term. Four outcomes are kept
+/// at most.
 #[cycle(rejecting)]
 fn one_way_rejects(
     code: &[Wide],

@@ -1,2 +1,2 @@
-pub mod Bettering
 pub mod Improving
+pub mod Laying

@@ -1,2 +1,3 @@
-pub mod Betters
 pub mod Improves
+pub mod Lays
+pub mod inside

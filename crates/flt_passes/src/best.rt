@@ -1,8 +1,10 @@
-//! A plain program optimised and laid out.
+//! Wide code laid out, optimised where that helps.
 
-ghost use Rattle.std.specs.Prelude.{◌≡◌, IfOk, IsTrue};
+ghost use Rattle.std.specs.Prelude.{IfOk, IsTrue, length};
+ghost use Rattle.std.specs.Option.{IfSome};
 ghost use Rattle.flt_bpf.specs.Layout.{HasNoJump};
-ghost use Rattle.flt_passes.specs.Betters.{Betters};
+ghost use Rattle.flt_passes.specs.Lays.{Lays};
+ghost use Rattle.flt_passes.specs.inside.NoLonger.{IsNoLonger};
 
 use crate::optimise::optimised;
 use flt_bpf::{Insn, Wide, check_insns};
@@ -15,31 +17,17 @@ const JUMP: u16 = 5;
 /// As many instructions aren't laid out.
 const TOO_MANY: usize = 0x4000_0000;
 
-/// So few instructions stay as they are: they seldom become fewer, and that takes longer than all
-/// else that makes a program.
-const FEW: usize = 32;
+/// Code of so few instructions stays as it is: they seldom become fewer, and that takes longer than
+/// all else that makes a program.
+const FEW: usize = 31;
 
-/// The same instruction.
-fn wide_insn(insn: Insn) -> Wide
-    ensures { result ≡ insn }
-{
-    Wide {
-        code: insn.code,
-        yes: u32::from(insn.jt),
-        no: u32::from(insn.jf),
-        k: insn.k,
-    }
-}
+/// Code that was written with more instructions than this, and more than twice as many as it has
+/// now, says the same again and again: it becomes much shorter, however few are left.
+const MANY: usize = 43;
 
-/// The same instructions.
-fn wide_of<A: Allocator>(alloc: A, insns: &[Insn]) -> Result<Vec<Wide, A>, AllocError>
-    ensures { IfOk result (λ wide. wide.items ≡ insns.now) }
-{
-    let mut wide = Vec::with_capacity(alloc, insns.len())?;
-    for insn in insns {
-        wide.push(wide_insn(*insn))?;
-    }
-    Ok(wide)
+/// Code that was written with some instructions, of which these are left, stays as it is.
+fn stays(left: usize, written: usize) -> bool {
+    left <= FEW && (written <= MANY || written / 2 <= left)
 }
 
 fn has_no_jump(code: &[Wide]) -> bool
@@ -48,31 +36,52 @@ fn has_no_jump(code: &[Wide]) -> bool
     code.iter().all(|insn| insn.code != JUMP)
 }
 
-/// A program that returns what a plain one returns, and is no longer. It is the plain one where that
-/// has few instructions, and where the optimiser finds no such program.
+/// The code optimised and laid out, if that is valid and has at most `most` instructions.
+fn optimised_insns<A: Allocator + Clone>(
+    alloc: A,
+    plain: Vec<Wide, A>,
+    most: usize,
+) -> Result<Option<Vec<Insn, A>>, AllocError>
+    ensures { IfOk result (λ found.
+        IfSome found (λ insns. IsNoLonger insns.items plain.items most)) }
+{
+    let wide = optimised(alloc.clone()?, plain)?;
+    if wide.len() >= TOO_MANY || !has_no_jump(&wide) {
+        return Ok(None);
+    }
+    let insns = laid_out(alloc, &wide)?;
+    if insns.len() > most {
+        return Ok(None);
+    }
+    match check_insns(&insns) {
+        Ok(()) => Ok(Some(insns)),
+        Err(_) => Ok(None),
+    }
+}
+
+/// A program that returns what wide code returns: the code laid out, or optimised before, where it
+/// has more than a few instructions, or was written with many, and the optimiser finds no longer
+/// program.
 ///
-/// An error is a failed allocation, or an allocator that cannot be cloned.
-#[tactic(auto, using(crate::proofs::Bettering::betters_itself))]
+/// An error is a failed allocation, an allocator that cannot be cloned, or that the code has 2^30
+/// instructions or more.
 pub fn best_of<A: Allocator + Clone>(
     alloc: A,
-    plain: Vec<Insn, A>,
+    plain: Vec<Wide, A>,
+    written: usize,
 ) -> Result<Vec<Insn, A>, AllocError>
-    ensures { IfOk result (λ best. Betters best.items plain.items) }
+    ensures { IfOk result (λ insns. Lays insns.items plain.items) }
 {
-    if plain.len() <= FEW {
-        return Ok(plain);
+    if plain.len() >= TOO_MANY {
+        return Err(AllocError);
     }
-    let wide = wide_of(alloc.clone()?, &plain)?;
-    let wide = optimised(alloc.clone()?, wide)?;
-    if wide.len() >= TOO_MANY || !has_no_jump(&wide) {
-        return Ok(plain);
+    let insns = laid_out(alloc.clone()?, &plain)?;
+    if stays(plain.len(), written) {
+        return Ok(insns);
     }
-    let best = laid_out(alloc, &wide)?;
-    if best.len() > plain.len() {
-        return Ok(plain);
-    }
-    match check_insns(&best) {
-        Ok(()) => Ok(best),
-        Err(_) => Ok(plain),
+    let found = optimised_insns(alloc, plain, insns.len())?;
+    match found {
+        Some(best) => Ok(best),
+        None => Ok(insns),
     }
 }

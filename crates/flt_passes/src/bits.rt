@@ -1,15 +1,17 @@
-//! One instruction, or two, for several that do the same.
+//! The pass `Bits`: one instruction, or two, for several that do the same.
 
 use crate::graph::Node;
-use crate::live::{Live, live_at, lives};
-use crate::order::ordered;
+use crate::live::{Live, live_at, lives_of_graph};
+use crate::order::order_nodes;
 use flt_bpf::operation::{AluOperation, Operand, Operation, Register, Source, Test, Width};
 use std::alloc::{AllocError, Allocator};
 
-fn next(nodes: &[Node], node: Node) -> Option<Node> {
+/// The node after one that isn't a test.
+fn next_node(nodes: &[Node], node: Node) -> Option<Node> {
     nodes.get(node.yes).copied()
 }
 
+/// Whether a node masks A with a constant.
 fn is_mask(node: Node) -> bool {
     matches!(
         node.operation,
@@ -17,6 +19,7 @@ fn is_mask(node: Node) -> bool {
     )
 }
 
+/// Whether a node tests whether A is 0.
 fn is_test_for_zero(node: Node) -> bool {
     matches!(
         node.operation,
@@ -24,29 +27,33 @@ fn is_test_for_zero(node: Node) -> bool {
     ) && node.k == 0
 }
 
-fn is_number(node: Node) -> bool {
+/// Whether a node puts a constant into A.
+fn loads_number(node: Node) -> bool {
     matches!(
         node.operation,
         Operation::Load(Register::Accumulator, Source::Immediate)
     )
 }
 
-fn is_header_length(node: Node) -> bool {
+/// Whether a node puts the length of an IPv4 header into X.
+fn loads_header_length(node: Node) -> bool {
     matches!(node.operation, Operation::LoadHeaderLength)
 }
 
-fn is_sum(node: Node) -> bool {
+/// Whether a node adds X to A.
+fn adds_index(node: Node) -> bool {
     matches!(
         node.operation,
         Operation::Compute(AluOperation::Add, Operand::IndexRegister)
     )
 }
 
-fn is_copy(node: Node) -> bool {
+/// Whether a node copies A to X.
+fn copies_to_index(node: Node) -> bool {
     matches!(node.operation, Operation::CopyToIndex)
 }
 
-/// How wide a load at X is.
+/// How wide a load at X and k is, if a node is one.
 fn indirect_width(node: Node) -> Option<Width> {
     match node.operation {
         Operation::LoadIndirect(width) => Some(width),
@@ -54,9 +61,9 @@ fn indirect_width(node: Node) -> Option<Width> {
     }
 }
 
-/// A test of bits for a mask and a test of what is left for 0, where A isn't read after it.
-fn bits(nodes: &[Node], lives: &[Live], mask: Node) -> Option<Node> {
-    let test = next(nodes, mask)?;
+/// `jset k` for `and k; jeq 0`, where A isn't read after it.
+fn bit_test(nodes: &[Node], lives: &[Live], mask: Node) -> Option<Node> {
+    let test = next_node(nodes, mask)?;
     let is_read = live_at(lives, test.yes).accumulator || live_at(lives, test.no).accumulator;
     if !is_mask(mask) || !is_test_for_zero(test) || is_read {
         return None;
@@ -69,12 +76,11 @@ fn bits(nodes: &[Node], lives: &[Live], mask: Node) -> Option<Node> {
     })
 }
 
-/// A load at a place for a number that goes to X by A and a load at X, where X isn't read
-/// after it.
-fn load(nodes: &[Node], lives: &[Live], number: Node) -> Option<Node> {
-    let copy = next(nodes, number)?;
-    let load = next(nodes, copy)?;
-    if !is_number(number) || !is_copy(copy) || live_at(lives, load.yes).index {
+/// `ld [n + k]` for `ld #n; tax; ld [x + k]`, where X isn't read after it.
+fn fixed_load(nodes: &[Node], lives: &[Live], number: Node) -> Option<Node> {
+    let copy = next_node(nodes, number)?;
+    let load = next_node(nodes, copy)?;
+    if !loads_number(number) || !copies_to_index(copy) || live_at(lives, load.yes).index {
         return None;
     }
     Some(Node {
@@ -84,15 +90,19 @@ fn load(nodes: &[Node], lives: &[Live], number: Node) -> Option<Node> {
     })
 }
 
-/// A header's length and a load after it for a number and that length, whose sum goes to X by A,
-/// and a load at X, where X isn't read after it.
+/// `ldxb 4*([j]&0xf); ld [x + n + k]` for `ld #n; ldxb 4*([j]&0xf); add x; tax; ld [x + k]`, where
+/// X isn't read after it.
 fn header_load(nodes: &[Node], lives: &[Live], number: Node) -> Option<(Node, Node)> {
-    let length = next(nodes, number)?;
-    let sum = next(nodes, length)?;
-    let copy = next(nodes, sum)?;
-    let load = next(nodes, copy)?;
+    let length = next_node(nodes, number)?;
+    let sum = next_node(nodes, length)?;
+    let copy = next_node(nodes, sum)?;
+    let load = next_node(nodes, copy)?;
     indirect_width(load)?;
-    if !is_number(number) || !is_header_length(length) || !is_sum(sum) || !is_copy(copy) {
+    if !loads_number(number)
+        || !loads_header_length(length)
+        || !adds_index(sum)
+        || !copies_to_index(copy)
+    {
         return None;
     }
     if live_at(lives, load.yes).index {
@@ -102,20 +112,20 @@ fn header_load(nodes: &[Node], lives: &[Live], number: Node) -> Option<(Node, No
     Some((length, Node { k, ..load }))
 }
 
-/// A node in place of another one and of those that it joins, if there is one. A node after it is
-/// put last.
-fn joined<A: Allocator>(
+/// The node in place of one and of those after it that it joins, if there is one. Where two nodes
+/// do the same as all, the second is put last.
+fn joined_node<A: Allocator>(
     nodes: &mut Vec<Node, A>,
     lives: &[Live],
     node: Node,
 ) -> Result<Option<Node>, AllocError> {
     if is_mask(node) {
-        return Ok(bits(nodes, lives, node));
+        return Ok(bit_test(nodes, lives, node));
     }
-    if !is_number(node) {
+    if !loads_number(node) {
         return Ok(None);
     }
-    if let Some(load) = load(nodes, lives, node) {
+    if let Some(load) = fixed_load(nodes, lives, node) {
         return Ok(Some(load));
     }
     let Some((length, load)) = header_load(nodes, lives, node) else {
@@ -130,19 +140,22 @@ fn joined<A: Allocator>(
     }))
 }
 
-/// The graph with one node, or two, for several. Its edges lead on.
-pub(crate) fn with_bits<A: Allocator + Clone>(
+/// The graph with one node, or two, for several. Its edges lead to later nodes.
+pub(crate) fn join_instructions<A: Allocator + Clone>(
     alloc: A,
     mut nodes: Vec<Node, A>,
 ) -> Result<Vec<Node, A>, AllocError> {
-    if !nodes.iter().any(|node| is_mask(*node) || is_number(*node)) {
+    if !nodes
+        .iter()
+        .any(|node| is_mask(*node) || loads_number(*node))
+    {
         return Ok(nodes);
     }
-    let lives = lives(alloc.clone()?, &nodes)?;
+    let lives = lives_of_graph(alloc.clone()?, &nodes)?;
     let mut is_changed = false;
     for at in 0..nodes.len() {
         if let Some(node) = nodes.get(at).copied()
-            && let Some(other) = joined(&mut nodes, &lives, node)?
+            && let Some(other) = joined_node(&mut nodes, &lives, node)?
             && let Some(place) = nodes.get_mut(at)
         {
             *place = other;
@@ -152,5 +165,5 @@ pub(crate) fn with_bits<A: Allocator + Clone>(
     if !is_changed {
         return Ok(nodes);
     }
-    ordered(alloc, &nodes, 0)
+    order_nodes(alloc, &nodes, 0)
 }

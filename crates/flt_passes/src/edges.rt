@@ -3,25 +3,29 @@
 use crate::graph::{Flow, Node};
 use std::alloc::{AllocError, Allocator};
 
-fn count<A: Allocator>(counts: &mut Vec<usize, A>, at: usize) {
+/// Counts one more edge to a node.
+fn count_edge<A: Allocator>(counts: &mut Vec<usize, A>, at: usize) {
     if let Some(count) = counts.get_mut(at) {
         *count = count.saturating_add(1);
     }
 }
 
-/// How many edges lead to each node.
-pub(crate) fn edges<A: Allocator>(alloc: A, nodes: &[Node]) -> Result<Vec<usize, A>, AllocError> {
+/// How many edges lead to each node, by its index.
+pub(crate) fn edge_counts<A: Allocator>(
+    alloc: A,
+    nodes: &[Node],
+) -> Result<Vec<usize, A>, AllocError> {
     let mut counts = vec![in alloc; 0; nodes.len()]?;
     for node in nodes {
-        count(&mut counts, node.yes);
+        count_edge(&mut counts, node.yes);
         if node.flow() == Flow::Branches {
-            count(&mut counts, node.no);
+            count_edge(&mut counts, node.no);
         }
     }
     Ok(counts)
 }
 
-/// One edge leads to a node.
+/// Whether exactly one edge leads to a node.
 pub(crate) fn has_one_edge(edges: &[usize], at: usize) -> bool {
     edges.get(at).is_some_and(|count| *count == 1)
 }

@@ -1,12 +1,13 @@
 //! The notes on two programs, one of which a pass made of the other: both are followed from their
-//! beginnings.
+//! beginnings. A note is a draft as long as more ways may lead to it: the places of the new program
+//! are finished one after the other, and ways lead only to later ones.
 
-use crate::graph::following;
+use crate::graph::place_after;
 use crate::known::{Facts, NO_FACTS, facts_after, facts_after_test, facts_in_both};
-use crate::live::{Live, Reads, is_of_use, live_at, lives_in};
+use crate::live::{Live, Reads, is_of_use, live_at, lives_of_code};
 use crate::rules::{Rule, may_be_own, rule_at};
 use crate::sets::pieces_for_all;
-use crate::walk::{Arrival, both_in_both, walked};
+use crate::walk::{Arrival, both_in_both, walk_to_replaced};
 use flt_bpf::Wide;
 use flt_bpf::operation::{Operation, decode};
 use flt_opt::{
@@ -48,6 +49,7 @@ const START: Way = Way {
     facts: NO_FACTS,
 };
 
+/// What the registers of a run hold at its beginning.
 const ZERO: Registers = Registers {
     accumulator: Term::Number(0),
     index: Term::Number(0),
@@ -62,6 +64,7 @@ pub(crate) struct Found<A: Allocator> {
 }
 
 impl<A: Allocator> Found<A> {
+    /// The notes, as `flt_opt` takes them.
     pub(crate) fn notes(&self) -> Notes<'_> {
         Notes {
             notes: &self.notes,
@@ -87,7 +90,7 @@ struct Finder<'a, A: Allocator> {
     firsts: Vec<Option<usize>, A>,
 }
 
-/// A note whose place is kept for a draft.
+/// The note of a draft until it is finished.
 fn draft_note(new: usize, old: usize) -> Note {
     Note {
         new,
@@ -100,7 +103,7 @@ fn draft_note(new: usize, old: usize) -> Note {
 }
 
 impl<A: Allocator + Clone> Finder<'_, A> {
-    /// The draft for a place of each program.
+    /// The index of the draft for a place of each program, if there is one.
     fn draft_at(&self, new: usize, old: usize) -> Option<usize> {
         let mut next = self.firsts.get(new).copied().flatten();
         for _ in 0..self.drafts.len() {
@@ -138,8 +141,9 @@ impl<A: Allocator + Clone> Finder<'_, A> {
         Ok(note)
     }
 
-    /// One more way to a draft. Returns the index of its note.
-    fn join(&mut self, index: usize, way: &Way) -> Result<usize, AllocError> {
+    /// One more way leads to a draft: what holds on all of them is kept. Returns the index of its
+    /// note.
+    fn join_draft(&mut self, index: usize, way: &Way) -> Result<usize, AllocError> {
         let Some(draft) = self.drafts.get_mut(index) else {
             return Ok(0);
         };
@@ -148,16 +152,16 @@ impl<A: Allocator + Clone> Finder<'_, A> {
         Ok(draft.note)
     }
 
-    /// Where the old run is once the new one does its next instruction.
-    fn placed(&self, way: &Way, new: Wide) -> Option<Arrival> {
+    /// Where the old run is once the new one does its next instruction, by some rule.
+    fn old_arrival(&self, way: &Way, new: Wide) -> Option<Arrival> {
         let pieces = &self.found.pieces;
         let facts = &way.facts;
-        let arrival = walked(new, self.old, facts, pieces, &way.old);
+        let arrival = walk_to_replaced(new, self.old, facts, pieces, &way.old);
         let is_own = may_be_own(new, &way.old.both, facts.as_slice());
         arrival.or(is_own.then_some(way.old))
     }
 
-    /// What both runs read that are on a way.
+    /// What the new run and the old one read from where they are on a way.
     fn reads(&self, way: &Way) -> [Reads; 2] {
         let both = &way.old.both;
         [
@@ -172,26 +176,27 @@ impl<A: Allocator + Clone> Finder<'_, A> {
         ]
     }
 
-    /// The index of the note where a way leads, if one is found.
-    fn arrive(&mut self, way: &Way) -> Result<Option<usize>, AllocError> {
+    /// The index of the note where a way leads, a new one if there is none yet. `None`: no rule
+    /// allows one.
+    fn arrive_at_note(&mut self, way: &Way) -> Result<Option<usize>, AllocError> {
         let Some(new) = self.new.get(way.new).copied() else {
             return Ok(None);
         };
-        let Some(old) = self.placed(way, new) else {
+        let Some(old) = self.old_arrival(way, new) else {
             return Ok(None);
         };
         let mut way = Way { old, ..*way };
         let reads = self.reads(&way);
-        way.facts.keep_of_use(&reads);
+        way.facts.keep_useful(&reads);
         match self.draft_at(way.new, old.old) {
             None => self.add_draft(&way).map(Some),
-            Some(index) => self.join(index, &way).map(Some),
+            Some(index) => self.join_draft(index, &way).map(Some),
         }
     }
 }
 
 impl<A: Allocator + Clone> Finder<'_, A> {
-    /// Puts facts into the list of all notes.
+    /// Puts the facts of a note into the list of all.
     fn put_facts(&mut self, facts: &Facts) -> Result<Span, AllocError> {
         let start = self.found.facts.len();
         self.found.facts.extend_from_slice(facts.as_slice())?;
@@ -202,44 +207,45 @@ impl<A: Allocator + Clone> Finder<'_, A> {
     }
 
     /// The place of the old run after an instruction that the new one does by a rule.
-    fn old_after(&self, rule: Rule, old: usize, holds: bool) -> usize {
+    fn old_place_after(&self, rule: Rule, old: usize, holds: bool) -> usize {
         match rule {
             Rule::Own => old,
-            Rule::Same | Rule::Load => self.skipped(old, holds),
-            Rule::Bits => self.skipped(following(old, 0), !holds),
+            Rule::Same | Rule::Load => self.place_after(old, holds),
+            Rule::Bits => self.place_after(place_after(old, 0), !holds),
         }
     }
 
-    fn skipped(&self, at: usize, holds: bool) -> usize {
+    /// The place after an instruction of the old program, on this side if it is a test.
+    fn place_after(&self, at: usize, holds: bool) -> usize {
         let Some(insn) = self.old.get(at) else {
-            return following(at, 0);
+            return place_after(at, 0);
         };
         match decode(insn.code) {
             Some(Operation::JumpIf(_, _)) => {
-                following(at, if holds { insn.yes } else { insn.no })
+                place_after(at, if holds { insn.yes } else { insn.no })
             }
-            _ => following(at, 0),
+            _ => place_after(at, 0),
         }
     }
 
-    /// The way after an instruction that isn't a test.
-    fn way_on(&self, way: &Way, insn: Wide, operation: Operation, rule: Rule) -> Way {
+    /// Both runs after an instruction of the new program that isn't a test.
+    fn way_after(&self, way: &Way, insn: Wide, operation: Operation, rule: Rule) -> Way {
         let both = match rule {
             Rule::Own => after_new(operation, insn.k, way.old.both),
             Rule::Load => after_loads(asked(operation, insn.k, way.old.both.new), way.old.both),
             Rule::Same | Rule::Bits => after_both(operation, insn.k, way.old.both),
         };
         Way {
-            new: following(way.new, 0),
+            new: place_after(way.new, 0),
             old: Arrival {
-                old: self.old_after(rule, way.old.old, true),
+                old: self.old_place_after(rule, way.old.old, true),
                 both,
             },
             facts: facts_after(&way.facts, operation, insn.k, way.old.both.new),
         }
     }
 
-    /// The way on a side of a test.
+    /// Both runs on a side of a test of the new program.
     fn way_on_side(
         &mut self,
         way: &Way,
@@ -249,10 +255,10 @@ impl<A: Allocator + Clone> Finder<'_, A> {
     ) -> Result<Way, AllocError> {
         let both = &way.old.both;
         let mut on_side = Way {
-            new: following(way.new, if holds { insn.yes } else { insn.no }),
+            new: place_after(way.new, if holds { insn.yes } else { insn.no }),
             old: Arrival {
-                old: self.old_after(rule, way.old.old, holds),
-                both: both_after(rule, both),
+                old: self.old_place_after(rule, way.old.old, holds),
+                both: both_after_test(rule, both),
             },
             facts: way.facts,
         };
@@ -266,8 +272,8 @@ impl<A: Allocator + Clone> Finder<'_, A> {
         Ok(on_side)
     }
 
-    /// The index of the note on a side of a test, if it is found.
-    fn led_side(
+    /// The index of the note on a side of a test, if one is found.
+    fn note_on_side(
         &mut self,
         way: &Way,
         insn: Wide,
@@ -275,23 +281,24 @@ impl<A: Allocator + Clone> Finder<'_, A> {
         holds: bool,
     ) -> Result<Option<usize>, AllocError> {
         let on_side = self.way_on_side(way, insn, rule, holds)?;
-        self.arrive(&on_side)
+        self.arrive_at_note(&on_side)
     }
 
-    /// The indices of the notes on both sides of a test, if they are found.
-    fn led_both(
+    /// The indices of the notes where a test holds and where it doesn't, if both are found.
+    fn notes_on_sides(
         &mut self,
         way: &Way,
         insn: Wide,
         rule: Rule,
     ) -> Result<Option<(usize, usize)>, AllocError> {
-        let yes = self.led_side(way, insn, rule, true)?;
-        let no = self.led_side(way, insn, rule, false)?;
+        let yes = self.note_on_side(way, insn, rule, true)?;
+        let no = self.note_on_side(way, insn, rule, false)?;
         Ok(yes.zip(no))
     }
 
-    /// The indices of the notes after an instruction, if they are found.
-    fn led(
+    /// The indices of the notes after an instruction, if they are found: of a test on both sides,
+    /// else twice the same.
+    fn notes_after(
         &mut self,
         way: &Way,
         insn: Wide,
@@ -303,28 +310,28 @@ impl<A: Allocator + Clone> Finder<'_, A> {
             Some(operation @ Operation::JumpIf(_, _)) => {
                 let (test, term) = (test_of(operation), way.old.both.new.accumulator);
                 match way.facts.decide(&self.found.pieces, test, insn.k, term) {
-                    None => self.led_both(way, insn, rule),
+                    None => self.notes_on_sides(way, insn, rule),
                     Some(holds) => {
-                        let note = self.led_side(way, insn, rule, holds)?;
+                        let note = self.note_on_side(way, insn, rule, holds)?;
                         Ok(note.map(|note| (note, note)))
                     }
                 }
             }
             Some(operation) => {
-                let on = self.way_on(way, insn, operation, rule);
-                Ok(self.arrive(&on)?.map(|note| (note, note)))
+                let on = self.way_after(way, insn, operation, rule);
+                Ok(self.arrive_at_note(&on)?.map(|note| (note, note)))
             }
         }
     }
 
-    /// Makes the note of a draft, to which no more ways lead. Returns whether it stands.
-    fn finish(&mut self, draft: &Draft) -> Result<bool, AllocError> {
+    /// Makes the note of a draft, to which no more ways lead. Returns whether it can be one.
+    fn finish_note(&mut self, draft: &Draft) -> Result<bool, AllocError> {
         let way = &draft.way;
         let Some(insn) = self.new.get(way.new).copied() else {
             return Ok(false);
         };
         let rule = rule_at(insn, self.old, way.old.old, &way.old.both).unwrap_or(Rule::Own);
-        let Some((yes, no)) = self.led(way, insn, rule)? else {
+        let Some((yes, no)) = self.notes_after(way, insn, rule)? else {
             return Ok(false);
         };
         let facts = self.put_facts(&way.facts)?;
@@ -341,8 +348,8 @@ impl<A: Allocator + Clone> Finder<'_, A> {
         Ok(true)
     }
 
-    /// Makes the notes for a place of the new program.
-    fn finish_all(&mut self, new: usize) -> Result<bool, AllocError> {
+    /// Makes the notes for a place of the new program. Returns whether all can be ones.
+    fn finish_notes_at(&mut self, new: usize) -> Result<bool, AllocError> {
         let mut next = self.firsts.get(new).copied().flatten();
         for _ in 0..self.drafts.len() {
             let Some(index) = next else {
@@ -351,7 +358,7 @@ impl<A: Allocator + Clone> Finder<'_, A> {
             let Some(draft) = self.drafts.get(index).copied() else {
                 break;
             };
-            if !self.finish(&draft)? {
+            if !self.finish_note(&draft)? {
                 return Ok(false);
             }
             self.free.push(index)?;
@@ -360,13 +367,13 @@ impl<A: Allocator + Clone> Finder<'_, A> {
         Ok(true)
     }
 
-    /// Makes all notes, if they are found.
-    fn find(&mut self) -> Result<bool, AllocError> {
-        if self.arrive(&START)? != Some(0) {
+    /// Makes all notes. Returns whether they are found.
+    fn find_all(&mut self) -> Result<bool, AllocError> {
+        if self.arrive_at_note(&START)? != Some(0) {
             return Ok(false);
         }
         for new in 0..self.new.len() {
-            if !self.finish_all(new)? {
+            if !self.finish_notes_at(new)? {
                 return Ok(false);
             }
         }
@@ -375,7 +382,7 @@ impl<A: Allocator + Clone> Finder<'_, A> {
 }
 
 /// What is known of both runs after a test that the new one does by a rule.
-fn both_after(rule: Rule, both: &Both) -> Both {
+fn both_after_test(rule: Rule, both: &Both) -> Both {
     match rule {
         Rule::Same | Rule::Load | Rule::Own => *both,
         Rule::Bits => Both {
@@ -399,8 +406,8 @@ pub(crate) fn find_notes<A: Allocator + Clone>(
         alloc: alloc.clone()?,
         new,
         old,
-        new_lives: lives_in(alloc.clone()?, new)?,
-        old_lives: lives_in(alloc.clone()?, old)?,
+        new_lives: lives_of_code(alloc.clone()?, new)?,
+        old_lives: lives_of_code(alloc.clone()?, old)?,
         found: Found {
             notes: Vec::new(alloc.clone()?),
             facts: Vec::new(alloc.clone()?),
@@ -410,6 +417,6 @@ pub(crate) fn find_notes<A: Allocator + Clone>(
         free: Vec::new(alloc.clone()?),
         firsts: vec![in alloc; None; new.len()]?,
     };
-    let is_found = finder.find()?;
+    let is_found = finder.find_all()?;
     Ok(is_found.then_some(finder.found))
 }

@@ -1,4 +1,5 @@
-//! How far a run can be taken to have gone already, by what is known of it.
+//! How far a run can be taken to have gone already, by what is known of it: for the passes `Thread`
+//! and `ThreadFar`.
 
 use crate::graph::{Flow, Node};
 use crate::known::{Known, loads};
@@ -10,7 +11,7 @@ use flt_opt::{
 };
 use std::alloc::{AllocError, Allocator};
 
-/// How many nodes are passed at most.
+/// How many nodes are passed at most, on all ways together.
 const FUEL: usize = 32;
 
 /// A run at a node.
@@ -33,7 +34,7 @@ enum Step {
     Either,
 }
 
-/// A run that is followed through a graph, in which all edges lead on.
+/// A run that is followed through a graph, in which all edges lead to later nodes.
 #[derive(Drop)]
 struct Follower<'a, A: Allocator> {
     nodes: &'a [Node],
@@ -47,12 +48,13 @@ struct Follower<'a, A: Allocator> {
     fuel: usize,
 }
 
-/// A register holds the same again.
+/// Whether a register holds what it held first: it was kept, or its term is the same.
 fn holds_again(keeps: bool, now: Term, first: Term) -> bool {
     keeps || is_known(now) && now == first
 }
 
 impl<A: Allocator> Follower<'_, A> {
+    /// All that is known of the packet on this way.
     fn knowledge(&self) -> Knowledge<'_> {
         Knowledge {
             facts: self.known.facts.as_slice(),
@@ -61,8 +63,9 @@ impl<A: Allocator> Follower<'_, A> {
         }
     }
 
-    /// A run may be put where this one is: what is read there is the same.
-    fn fits(&self, way: &Way, node: Node) -> bool {
+    /// Whether a run may be put at the node where this one is: what is read from there on is the
+    /// same.
+    fn may_be_put_at(&self, way: &Way, node: Node) -> bool {
         let (live, first) = (live_at(self.lives, way.at), self.known.registers);
         let accumulator = holds_again(
             way.keeps_accumulator,
@@ -75,7 +78,7 @@ impl<A: Allocator> Follower<'_, A> {
             && (index || !live.index)
     }
 
-    /// What an operation loads is there.
+    /// Whether what an operation loads is there.
     fn is_there(&self, operation: Operation, k: u32, registers: Registers) -> bool {
         let both = Both {
             new: self.known.registers,
@@ -87,7 +90,7 @@ impl<A: Allocator> Follower<'_, A> {
         is_there(term, self.known.facts.as_slice(), &both)
     }
 
-    /// An operation can't fail.
+    /// Whether an operation leads on, on each packet of which this is known.
     fn succeeds(&self, operation: Operation, k: u32, registers: Registers) -> bool {
         is_sure(
             operation,
@@ -96,8 +99,8 @@ impl<A: Allocator> Follower<'_, A> {
         )
     }
 
-    /// After a node that isn't a test.
-    fn following(&self, way: &Way, node: Node) -> Step {
+    /// How the run goes on after a node that isn't a test.
+    fn after_operation(&self, way: &Way, node: Node) -> Step {
         let operation = node.operation;
         let succeeds = self.succeeds(operation, node.k, way.registers);
         if !succeeds && !loads(operation) {
@@ -112,7 +115,7 @@ impl<A: Allocator> Follower<'_, A> {
         })
     }
 
-    /// After a test.
+    /// How the run goes on after a test, where what is known decides it.
     fn after_test(&self, way: &Way, node: Node) -> Step {
         let term = way.registers.accumulator;
         let knowledge = self.knowledge();
@@ -132,10 +135,11 @@ impl<A: Allocator> Follower<'_, A> {
         }
     }
 
+    /// How the run goes on after a node.
     fn step(&self, way: &Way, node: Node) -> Step {
         match node.flow() {
             Flow::Ends => Step::Ends,
-            Flow::Goes => self.following(way, node),
+            Flow::Goes => self.after_operation(way, node),
             Flow::Branches => self.after_test(way, node),
         }
     }
@@ -148,7 +152,7 @@ impl<A: Allocator> Follower<'_, A> {
                 return Ok(None);
             };
             self.fuel = self.fuel.saturating_sub(1);
-            if self.fits(&way, node) {
+            if self.may_be_put_at(&way, node) {
                 self.trail.push(way.at)?;
             }
             match self.step(&way, node) {
@@ -160,7 +164,8 @@ impl<A: Allocator> Follower<'_, A> {
         Ok(None)
     }
 
-    /// Keeps, of the places from one index to another one, those that are among the places after.
+    /// Keeps, of the trail from `first` to before `second`, the nodes that are on its rest too:
+    /// those of both sides of a test.
     fn keep_common(&mut self, first: usize, second: usize) {
         let mut kept = first;
         for at in first..second {
@@ -216,14 +221,14 @@ impl<A: Allocator> Follower<'_, A> {
 
 impl<A: Allocator> Follower<'_, A> {
     /// The farthest node where a run may go on in place of one, as far as all tests are decided.
-    fn straight(&self, from: Way) -> usize {
+    fn farthest_decided(&self, from: Way) -> usize {
         let mut way = from;
         let mut farthest = from.at;
         for _ in 0..FUEL {
             let Some(node) = self.nodes.get(way.at).copied() else {
                 break;
             };
-            if self.fits(&way, node) {
+            if self.may_be_put_at(&way, node) {
                 farthest = way.at;
             }
             match self.step(&way, node) {
@@ -235,9 +240,10 @@ impl<A: Allocator> Follower<'_, A> {
     }
 }
 
-/// The farthest node where a run may go on instead of one, by what is known of it. Some tests
-/// that aren't decided are passed, one on a side of the other.
-pub(crate) fn followed<A: Allocator + Clone>(
+/// The farthest node where a run may go on in place of `from`, by what is known of it. Past
+/// `splits` tests that aren't decided it goes one on a side of the other, where both sides come
+/// together.
+pub(crate) fn farthest_place<A: Allocator + Clone>(
     alloc: A,
     nodes: &[Node],
     lives: &[Live],
@@ -263,7 +269,7 @@ pub(crate) fn followed<A: Allocator + Clone>(
         may_fail: false,
     };
     if splits == 0 {
-        return Ok(follower.straight(way));
+        return Ok(follower.farthest_decided(way));
     }
     follower.follow_all(way, splits)?;
     Ok(follower.trail.last().copied().unwrap_or(from))

@@ -1,14 +1,17 @@
-//! Chains of tests whether fields are numbers, field by field.
+//! The pass `Gather`: chains of tests whether fields are numbers, field by field.
+//!
+//!     before:  ld a; jeq 1; ld b; jeq 1; ld a; jeq 2; ld b; jeq 2
+//!     after:   ld a; jeq 1; ld b; jeq 1; jeq 2; ld a; jeq 2
 
-use crate::edges::{edges, has_one_edge};
+use crate::edges::{edge_counts, has_one_edge};
 use crate::graph::Node;
 use crate::held::{Field, Held, field_of, held_at};
-use crate::live::{Live, live_at, lives};
-use crate::order::ordered;
+use crate::live::{Live, live_at, lives_of_graph};
+use crate::order::order_nodes;
 use flt_bpf::operation::{Operand, Operation, Test, decode};
 use std::alloc::{AllocError, Allocator};
 
-/// The fewest tests that are put in another order.
+/// The fewest tests that are worth another order.
 const LEAST: usize = 3;
 
 /// A test of a chain: whether a field is a number.
@@ -40,6 +43,7 @@ struct Sorted<A: Allocator> {
     links: Vec<Link, A>,
 }
 
+/// Whether a node tests whether A is a number.
 fn is_equality(node: Node) -> bool {
     matches!(
         node.operation,
@@ -60,28 +64,34 @@ struct Gathering<A: Allocator> {
 }
 
 impl<A: Allocator + Clone> Gathering<A> {
-    /// The test of a number with an index, if it goes to a target where it holds.
-    fn test_to(&self, at: usize, target: usize) -> Option<Node> {
+    /// The node `at`, if it tests whether A is a number, and leads to `target` where it is.
+    fn test_with_target(&self, at: usize, target: usize) -> Option<Node> {
         let node = self.nodes.get(at).copied()?;
         (is_equality(node) && node.yes == target).then_some(node)
     }
 
-    /// The field and the index of the next test of a chain, from where it goes on.
-    fn next_of(&self, at: usize, target: usize, field: Field) -> Option<(Field, usize)> {
+    /// The next test of a chain, from where that goes on, and the field that it tests. `field` is
+    /// in A.
+    fn next_link(&self, at: usize, target: usize, field: Field) -> Option<(Field, usize)> {
         if !has_one_edge(&self.edges, at) {
             return None;
         }
-        if self.test_to(at, target).is_some() {
+        if self.test_with_target(at, target).is_some() {
             return Some((field, at));
         }
         let load = self.nodes.get(at).copied()?;
         let loaded = field_of(load)?;
-        self.test_to(load.yes, target)?;
+        self.test_with_target(load.yes, target)?;
         has_one_edge(&self.edges, load.yes).then_some((loaded, load.yes))
     }
 
-    /// Puts a test after a chain.
-    fn add(&mut self, chain: &mut Chain<A>, test: usize, field: Field) -> Result<(), AllocError> {
+    /// Puts a test at the end of a chain.
+    fn add_link(
+        &mut self,
+        chain: &mut Chain<A>,
+        test: usize,
+        field: Field,
+    ) -> Result<(), AllocError> {
         let Some(node) = self.nodes.get(test).copied() else {
             return Ok(());
         };
@@ -116,21 +126,21 @@ impl<A: Allocator + Clone> Gathering<A> {
             exit: head,
             fields: 0,
         };
-        self.add(&mut chain, head, field)?;
+        self.add_link(&mut chain, head, field)?;
         let mut field = field;
         for _ in 0..self.nodes.len() {
-            let Some((loaded, test)) = self.next_of(chain.exit, target, field) else {
+            let Some((loaded, test)) = self.next_link(chain.exit, target, field) else {
                 break;
             };
-            self.add(&mut chain, test, loaded)?;
+            self.add_link(&mut chain, test, loaded)?;
             field = loaded;
         }
         Ok(chain)
     }
 }
 
-/// How often the field changes from one test to the next.
-fn switches(links: &[Link]) -> usize {
+/// How often the field changes from one test to the next: how many loads they need.
+fn field_changes(links: &[Link]) -> usize {
     links
         .iter()
         .zip(links.iter().skip(1))
@@ -138,9 +148,9 @@ fn switches(links: &[Link]) -> usize {
         .count()
 }
 
-/// The tests of a chain in order, from the first one of the field that is met last on: this field
-/// comes first.
-fn in_order<A: Allocator + Clone>(
+/// The tests of a chain from the first one of its newest field on, field by field, that field
+/// first. Those in front stay. `None`: it would save no load.
+fn sorted_by_field<A: Allocator + Clone>(
     alloc: A,
     chain: &Chain<A>,
 ) -> Result<Option<Sorted<A>>, AllocError> {
@@ -159,22 +169,22 @@ fn in_order<A: Allocator + Clone>(
     } else {
         link.rank.saturating_add(1)
     })?;
-    if switches(&links) >= switches(rest) {
+    if field_changes(&links) >= field_changes(rest) {
         return Ok(None);
     }
     Ok(Some(Sorted { last, links }))
 }
 
 impl<A: Allocator + Clone> Gathering<A> {
-    /// A node more. Returns its index.
-    fn push(&mut self, node: Node) -> Result<usize, AllocError> {
+    /// Puts a node last. Returns its index.
+    fn push_node(&mut self, node: Node) -> Result<usize, AllocError> {
         let at = self.nodes.len();
         self.nodes.push(node)?;
         Ok(at)
     }
 
-    /// A test of a field that is loaded first unless A holds it. Returns where that begins.
-    fn put(
+    /// Puts a test last, and a load of its field unless A holds it. Returns where they begin.
+    fn put_test(
         &mut self,
         chain: &Chain<A>,
         link: &Link,
@@ -183,7 +193,7 @@ impl<A: Allocator + Clone> Gathering<A> {
     ) -> Result<usize, AllocError> {
         let operation = Operation::JumpIf(Test::Equal, Operand::Constant);
         let yes = chain.target;
-        let test = self.push(Node {
+        let test = self.push_node(Node {
             operation,
             k: link.number,
             yes,
@@ -195,7 +205,7 @@ impl<A: Allocator + Clone> Gathering<A> {
         let Some(operation) = decode(link.field.code) else {
             return Ok(test);
         };
-        self.push(Node {
+        self.push_node(Node {
             operation,
             k: link.field.k,
             yes: test,
@@ -203,13 +213,13 @@ impl<A: Allocator + Clone> Gathering<A> {
         })
     }
 
-    /// Puts the tests in order after the last one in front of them.
-    fn replace(&mut self, chain: &Chain<A>, sorted: &Sorted<A>) -> Result<(), AllocError> {
+    /// Lets the last test in front lead to the tests in their new order.
+    fn replace_tests(&mut self, chain: &Chain<A>, sorted: &Sorted<A>) -> Result<(), AllocError> {
         let mut next = chain.exit;
         for (at, link) in sorted.links.iter().enumerate().rev() {
             let before = at.checked_sub(1).and_then(|at| sorted.links.get(at));
             let held = before.map_or(sorted.last.field, |link| link.field);
-            next = self.put(chain, link, held, next)?;
+            next = self.put_test(chain, link, held, next)?;
         }
         if let Some(test) = self.nodes.get_mut(sorted.last.test) {
             test.no = next;
@@ -217,7 +227,8 @@ impl<A: Allocator + Clone> Gathering<A> {
         Ok(())
     }
 
-    /// A holds at the end of a chain what it held, or isn't read there.
+    /// Whether A holds at the end of a chain what it held there before, or isn't read from there
+    /// on.
     fn ends_alike(&self, chain: &Chain<A>, sorted: &Sorted<A>) -> bool {
         let field = chain.links.last().map(|link| link.field);
         let new_field = sorted.links.last().map(|link| link.field);
@@ -225,7 +236,7 @@ impl<A: Allocator + Clone> Gathering<A> {
     }
 
     /// Puts the chain in order that begins at a node, if one does.
-    fn gather(&mut self, head: usize) -> Result<(), AllocError> {
+    fn gather_chain(&mut self, head: usize) -> Result<(), AllocError> {
         let Some(node) = self.nodes.get(head).copied() else {
             return Ok(());
         };
@@ -237,18 +248,18 @@ impl<A: Allocator + Clone> Gathering<A> {
             return Ok(());
         }
         let chain = self.chain_from(head, node.yes, field)?;
-        if let Some(sorted) = in_order(self.alloc.clone()?, &chain)?
+        if let Some(sorted) = sorted_by_field(self.alloc.clone()?, &chain)?
             && self.ends_alike(&chain, &sorted)
         {
-            self.replace(&chain, &sorted)?;
+            self.replace_tests(&chain, &sorted)?;
         }
         Ok(())
     }
 }
 
 /// The graph with its chains of tests field by field, as far as no load comes before another one
-/// that was in front of it. Its edges lead on.
-pub(crate) fn gathered<A: Allocator + Clone>(
+/// that was in front of it. Its edges lead to later nodes.
+pub(crate) fn gather_tests<A: Allocator + Clone>(
     alloc: A,
     nodes: Vec<Node, A>,
 ) -> Result<Vec<Node, A>, AllocError> {
@@ -258,17 +269,17 @@ pub(crate) fn gathered<A: Allocator + Clone>(
     let count = nodes.len();
     let mut gathering = Gathering {
         alloc: alloc.clone()?,
-        lives: lives(alloc.clone()?, &nodes)?,
-        edges: edges(alloc.clone()?, &nodes)?,
+        lives: lives_of_graph(alloc.clone()?, &nodes)?,
+        edges: edge_counts(alloc.clone()?, &nodes)?,
         held: held_at(alloc.clone()?, &nodes)?,
         done: vec![in alloc.clone()?; false; count]?,
         nodes,
     };
     for head in 0..count {
-        gathering.gather(head)?;
+        gathering.gather_chain(head)?;
     }
     if gathering.nodes.len() == count {
         return Ok(gathering.nodes);
     }
-    ordered(alloc, &gathering.nodes, 0)
+    order_nodes(alloc, &gathering.nodes, 0)
 }

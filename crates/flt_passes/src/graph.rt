@@ -1,11 +1,12 @@
-//! Code as a graph: its instructions, each with those where a run goes on.
+//! Code as a graph: its instructions, each with those where a run goes on. A node is named by its
+//! index; in code as in a graph a run only goes to later ones.
 
 use flt_bpf::Wide;
 use flt_bpf::operation::{Operation, Test, decode};
 use flt_opt::{is_jump, test_of};
 use std::alloc::{AllocError, Allocator};
 
-/// No node.
+/// The index of no node.
 pub(crate) const NOWHERE: usize = usize::MAX;
 
 /// How a run goes on after an instruction.
@@ -28,20 +29,20 @@ fn flow_of(operation: Operation) -> Flow {
     }
 }
 
-/// An instruction always skips others.
-fn jumps(code: u16) -> bool {
+/// Whether a code is that of a jump, which always skips others.
+fn is_jump_code(code: u16) -> bool {
     decode(code).is_some_and(|operation| is_jump(operation))
 }
 
-/// For each instruction of some code the number of nodes from where a run reaches one by it, past
-/// jumps, to the end.
-fn places_of<A: Allocator>(alloc: A, code: &[Wide]) -> Result<Vec<usize, A>, AllocError> {
+/// For each instruction of some code, how many nodes there are from the one on that a run reaches
+/// by it, to the end: past a jump it is the node where that leads.
+fn places_from_end<A: Allocator>(alloc: A, code: &[Wide]) -> Result<Vec<usize, A>, AllocError> {
     let mut places = vec![in alloc; 0; code.len()]?;
     let mut count: usize = 0;
     for (at, insn) in code.iter().enumerate().rev() {
         let mut place = count.saturating_add(1);
-        if jumps(insn.code) {
-            place = places.get(following(at, insn.k)).copied().unwrap_or(0);
+        if is_jump_code(insn.code) {
+            place = places.get(place_after(at, insn.k)).copied().unwrap_or(0);
         } else {
             count = place;
         }
@@ -52,7 +53,7 @@ fn places_of<A: Allocator>(alloc: A, code: &[Wide]) -> Result<Vec<usize, A>, All
     Ok(places)
 }
 
-/// The indices of the nodes where runs come by the instructions of some code.
+/// The indices of the nodes that runs reach by the instructions of some code.
 #[derive(Drop)]
 struct Indices<'a> {
     places: &'a [usize],
@@ -64,16 +65,17 @@ impl Indices<'_> {
         self.places.first().copied().unwrap_or(0)
     }
 
-    fn index(&self, at: usize) -> usize {
+    /// The index of the node that a run reaches by the instruction `at`, or `NOWHERE`.
+    fn index_of(&self, at: usize) -> usize {
         match self.places.get(at) {
             Some(place) if *place > 0 => self.count().checked_sub(*place).unwrap_or(NOWHERE),
             _ => NOWHERE,
         }
     }
 
-    /// The same, `skipped` instructions after the next one.
-    fn following(&self, at: usize, skipped: u32) -> usize {
-        self.index(following(at, skipped))
+    /// The index of the node that a run reaches `skipped` instructions after the one next to `at`.
+    fn index_after(&self, at: usize, skipped: u32) -> usize {
+        self.index_of(place_after(at, skipped))
     }
 }
 
@@ -88,8 +90,9 @@ pub(crate) struct Node {
     pub no: usize,
 }
 
-/// The index `skipped` instructions after the next one.
-pub(crate) fn following(at: usize, skipped: u32) -> usize {
+/// The place of the instruction where a run goes on that skips `skipped` ones after the one at a
+/// place.
+pub(crate) fn place_after(at: usize, skipped: u32) -> usize {
     at.saturating_add(1).saturating_add(skipped as usize)
 }
 
@@ -98,10 +101,10 @@ impl Node {
     fn new(at: usize, insn: Wide, operation: Operation, indices: &Indices) -> Node {
         let (yes, no) = match flow_of(operation) {
             Flow::Ends => (NOWHERE, NOWHERE),
-            Flow::Goes => (indices.following(at, 0), indices.following(at, 0)),
+            Flow::Goes => (indices.index_after(at, 0), indices.index_after(at, 0)),
             Flow::Branches => (
-                indices.following(at, insn.yes),
-                indices.following(at, insn.no),
+                indices.index_after(at, insn.yes),
+                indices.index_after(at, insn.no),
             ),
         };
         Node {
@@ -112,35 +115,36 @@ impl Node {
         }
     }
 
-    /// What it asks of A and a number, if it is a test of that kind.
+    /// The test of A with the number k that it is, if it is one.
     pub(crate) fn test(&self) -> Option<Test> {
         test_of(self.operation)
     }
 
+    /// How a run goes on after it.
     pub(crate) fn flow(&self) -> Flow {
         flow_of(self.operation)
     }
 
-    /// It returns 0.
+    /// Whether it returns 0.
     pub(crate) fn rejects(&self) -> bool {
         matches!(self.operation, Operation::ReturnConstant) && self.k == 0
     }
 }
 
-/// The graph of some code, unless an instruction has an unknown code. A run begins at its first node.
-/// A jump is no node: what leads to it leads on to where it goes.
+/// The graph of some code, or `None` where an instruction has an unknown code. A run begins at the
+/// first node. A jump is no node: what leads to it leads on to where it goes.
 pub(crate) fn nodes_of<A: Allocator + Clone>(
     alloc: A,
     code: &[Wide],
 ) -> Result<Option<Vec<Node, A>>, AllocError> {
-    let places = places_of(alloc.clone()?, code)?;
+    let places = places_from_end(alloc.clone()?, code)?;
     let indices = Indices { places: &places };
     let mut nodes = Vec::with_capacity(alloc, indices.count())?;
     for (at, insn) in code.iter().enumerate() {
         let Some(operation) = decode(insn.code) else {
             return Ok(None);
         };
-        if !is_jump(operation) && indices.index(at) < indices.count() {
+        if !is_jump(operation) && indices.index_of(at) < indices.count() {
             nodes.push(Node::new(at, *insn, operation, &indices))?;
         }
     }

@@ -1,11 +1,17 @@
-//! Ranges of numbers that are searched by halves.
+//! Ranges of numbers that are searched by halves: tests "at least" that end in tests "equal".
 
 use crate::graph::Node;
-use crate::ranges::{Range, numbers_in};
+use crate::ranges::{Range, count_single_numbers};
 use flt_bpf::operation::{Operand, Operation, Test};
 use std::alloc::{AllocError, Allocator};
 
-/// A test of a number with a constant.
+/// What a difference of one between the weights of two halves costs.
+const DIFFERENCE_COST: usize = 10;
+
+/// What it costs that a half begins with a range of several numbers.
+const WIDE_COST: usize = 6;
+
+/// The node of a test of A with the constant k.
 pub(crate) fn test_node(test: Test, k: u32, yes: usize, no: usize) -> Node {
     Node {
         operation: Operation::JumpIf(test, Operand::Constant),
@@ -15,7 +21,7 @@ pub(crate) fn test_node(test: Test, k: u32, yes: usize, no: usize) -> Node {
     }
 }
 
-/// The one test that leads to the ranges, if one is enough.
+/// The one test that leads to all of the ranges, if one is enough.
 fn one_test(ranges: &[Range]) -> Option<Node> {
     match ranges {
         [first, last] if first.is_one_number() => {
@@ -32,8 +38,8 @@ fn one_test(ranges: &[Range]) -> Option<Node> {
     }
 }
 
-/// How much a search of `count` ranges costs, `numbers` of which are one number.
-fn weight(numbers: usize, count: usize) -> usize {
+/// About how many tests a search of `count` ranges takes, of which `numbers` are one number alone.
+fn search_weight(numbers: usize, count: usize) -> usize {
     if numbers > 0 {
         numbers
     } else {
@@ -41,22 +47,26 @@ fn weight(numbers: usize, count: usize) -> usize {
     }
 }
 
-/// How bad it is to part ranges in front of one of them.
-fn cost(below: usize, above: usize, range: &Range) -> usize {
-    let odd = if range.is_one_number() { 0 } else { 6 };
-    below.abs_diff(above).saturating_mul(10).saturating_add(odd)
+/// How bad it is to part ranges in front of `range`, with these weights on both sides: ten times by
+/// how much they differ, and a little more where the range isn't one number alone.
+fn split_cost(below: usize, above: usize, range: &Range) -> usize {
+    let wide = if range.is_one_number() { 0 } else { WIDE_COST };
+    below
+        .abs_diff(above)
+        .saturating_mul(DIFFERENCE_COST)
+        .saturating_add(wide)
 }
 
-/// The index of the range in front of which the ranges fall into halves.
-fn middle(ranges: &[Range]) -> usize {
-    let all = numbers_in(ranges);
+/// The index of the range in front of which the ranges fall into halves best.
+fn split_place(ranges: &[Range]) -> usize {
+    let all = count_single_numbers(ranges);
     let (mut below, mut best, mut least) = (0usize, 1, usize::MAX);
     for (at, range) in ranges.iter().enumerate() {
         if at > 0 {
-            let low = weight(below, at);
+            let low = search_weight(below, at);
             let rest = ranges.len().saturating_sub(at);
-            let high = weight(all.saturating_sub(below), rest);
-            let cost = cost(low, high, range);
+            let high = search_weight(all.saturating_sub(below), rest);
+            let cost = split_cost(low, high, range);
             if cost < least {
                 (best, least) = (at, cost);
             }
@@ -68,26 +78,26 @@ fn middle(ranges: &[Range]) -> usize {
     best
 }
 
-/// A node more. Returns its index.
-fn push<A: Allocator>(nodes: &mut Vec<Node, A>, node: Node) -> Result<usize, AllocError> {
+/// Puts a node last. Returns its index.
+fn push_node<A: Allocator>(nodes: &mut Vec<Node, A>, node: Node) -> Result<usize, AllocError> {
     let at = nodes.len();
     nodes.push(node)?;
     Ok(at)
 }
 
-/// Puts nodes that search the ranges after the others. Returns where the search begins.
+/// Puts the nodes of a search of the ranges last. Returns the index of the one where it begins.
 pub(crate) fn put_search<A: Allocator>(
     nodes: &mut Vec<Node, A>,
     ranges: &[Range],
 ) -> Result<usize, AllocError> {
     if let Some(node) = one_test(ranges) {
-        return push(nodes, node);
+        return push_node(nodes, node);
     }
     let (below, above) = match ranges {
         [] => return Ok(0),
         [only] => return Ok(only.exit),
         _ => {
-            let at = middle(ranges);
+            let at = split_place(ranges);
             if at == 0 || at >= ranges.len() {
                 return Ok(0);
             }
@@ -99,5 +109,5 @@ pub(crate) fn put_search<A: Allocator>(
     };
     let yes = put_search(nodes, above)?;
     let no = put_search(nodes, below)?;
-    push(nodes, test_node(Test::AtLeast, first.low, yes, no))
+    push_node(nodes, test_node(Test::AtLeast, first.low, yes, no))
 }

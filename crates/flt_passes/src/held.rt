@@ -1,4 +1,4 @@
-//! Which load A comes from.
+//! Which load A comes from, where a run reaches a node.
 
 use crate::graph::{Flow, Node};
 use flt_bpf::operation::Operation;
@@ -21,7 +21,7 @@ pub(crate) enum Held {
     Anything,
 }
 
-/// The field that a node loads into A.
+/// The field that a node loads into A, if it does.
 pub(crate) fn field_of(node: Node) -> Option<Field> {
     match node.operation {
         Operation::LoadAbsolute(_) | Operation::LoadIndirect(_) => Some(Field {
@@ -32,7 +32,8 @@ pub(crate) fn field_of(node: Node) -> Option<Field> {
     }
 }
 
-fn in_both(one: Held, other: Held) -> Held {
+/// What A holds on both of two ways.
+fn held_in_both(one: Held, other: Held) -> Held {
     if one == Held::Unreached || one == other {
         other
     } else {
@@ -40,8 +41,8 @@ fn in_both(one: Held, other: Held) -> Held {
     }
 }
 
-/// What A holds after a node.
-fn following(held: Held, node: Node) -> Held {
+/// What A holds after a node, where it held this in front of it.
+fn held_after(held: Held, node: Node) -> Held {
     match field_of(node) {
         Some(field) => Held::Field(field),
         None if node.flow() == Flow::Branches => held,
@@ -49,21 +50,22 @@ fn following(held: Held, node: Node) -> Held {
     }
 }
 
-fn arrive<A: Allocator>(held: &mut Vec<Held, A>, at: usize, came: Held) {
+/// One more way leads to a node, on which A holds `came`.
+fn join_held<A: Allocator>(held: &mut Vec<Held, A>, at: usize, came: Held) {
     if let Some(here) = held.get_mut(at) {
-        *here = in_both(*here, came);
+        *here = held_in_both(*here, came);
     }
 }
 
-/// What A holds where a run reaches each node. All edges lead on.
+/// What A holds where a run reaches each node. All edges lead to later nodes.
 pub(crate) fn held_at<A: Allocator>(alloc: A, nodes: &[Node]) -> Result<Vec<Held, A>, AllocError> {
     let mut held = vec![in alloc; Held::Unreached; nodes.len()]?;
-    arrive(&mut held, 0, Held::Anything);
+    join_held(&mut held, 0, Held::Anything);
     for (at, node) in nodes.iter().enumerate() {
         let came = held.get(at).copied().unwrap_or(Held::Anything);
-        let on = following(came, *node);
-        arrive(&mut held, node.yes, on);
-        arrive(&mut held, node.no, on);
+        let on = held_after(came, *node);
+        join_held(&mut held, node.yes, on);
+        join_held(&mut held, node.no, on);
     }
     Ok(held)
 }

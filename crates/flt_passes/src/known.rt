@@ -1,8 +1,9 @@
-//! What is known of a run where it reaches a node.
+//! What is known of a run where it reaches a node: what its registers hold, and facts of the
+//! packet.
 
 use crate::graph::Node;
 use crate::live::{Reads, is_of_use};
-use crate::sets::{ALL, narrowed, united};
+use crate::sets::{ALL, narrow_set, unite_sets};
 use flt_bpf::operation::{Operation, Test};
 use flt_opt::{
     Both, Fact, Knowledge, Learnt, Piece, Registers, Span, Term, after, asked, decided, is_known,
@@ -13,24 +14,27 @@ use std::alloc::{AllocError, Allocator};
 /// The most facts that are known at once. The oldest one goes.
 const MOST_FACTS: usize = 8;
 
+/// An entry of a list of facts that is not used.
 const NO_FACT: Fact = Fact {
     term: Term::Anything,
     pieces: ALL,
 };
 
-/// Some facts, each on another term.
+/// A few facts, each on another term, the oldest first.
 #[derive(Clone, Copy)]
 pub(crate) struct Facts {
     list: [Fact; MOST_FACTS],
     len: usize,
 }
 
+/// Nothing is known of the packet.
 pub(crate) const NO_FACTS: Facts = Facts {
     list: [NO_FACT; MOST_FACTS],
     len: 0,
 };
 
 impl Facts {
+    /// The facts, the oldest first.
     pub(crate) fn as_slice(&self) -> &[Fact] {
         match self.list.get(..self.len) {
             Some(facts) => facts,
@@ -38,13 +42,14 @@ impl Facts {
         }
     }
 
-    /// The numbers that a term may be, if a fact says that it is there.
+    /// The set of numbers that a term may be, if a fact says that it is there.
     pub(crate) fn numbers(&self, term: Term) -> Option<Span> {
         let fact = self.as_slice().iter().find(|fact| fact.term == term)?;
         Some(fact.pieces)
     }
 
-    /// Whether a test of a register that holds a term holds, where the facts tell.
+    /// Whether a test of a register with k holds, where the facts tell it of the term that the
+    /// register holds.
     pub(crate) fn decide(
         &self,
         pieces: &[Piece],
@@ -63,7 +68,7 @@ impl Facts {
         decided(test?, k, term, &knowledge)
     }
 
-    /// Something may be known of a term's numbers.
+    /// Whether something may be known of a term's numbers; a quick test before a thorough one.
     fn may_tell(&self, term: Term) -> bool {
         let is_bounded = match term {
             Term::Anything => return false,
@@ -79,20 +84,21 @@ impl Facts {
                 .any(|fact| source(fact.term) == field)
     }
 
-    /// One more fact, on a term that no other one is on.
-    fn push(&mut self, fact: Fact) {
+    /// Puts a fact last, on a term that no other one is on, if there is room.
+    fn push_fact(&mut self, fact: Fact) {
         if let Some(place) = self.list.get_mut(self.len) {
             *place = fact;
             self.len = self.len.saturating_add(1);
         }
     }
 
+    /// Whether there is no fact.
     pub(crate) fn is_empty(&self) -> bool {
         self.len == 0
     }
 
-    /// Drops the facts that are of no use where a run reads so much and A holds a term.
-    pub(crate) fn keep_of_use(&mut self, reads: &[Reads]) {
+    /// Drops the facts that are of no use to runs that read no more than this.
+    pub(crate) fn keep_useful(&mut self, reads: &[Reads]) {
         let mut kept: usize = 0;
         for at in 0..self.len {
             if let Some(fact) = self.list.get(at).copied()
@@ -107,23 +113,23 @@ impl Facts {
     }
 
     /// The facts with this one, in place of another one on its term, or of the oldest one.
-    fn with(&self, fact: Fact) -> Facts {
+    fn with_fact(&self, fact: Fact) -> Facts {
         let mut facts = *self;
         let same = self
             .as_slice()
             .iter()
             .position(|other| other.term == fact.term);
         match same {
-            Some(at) => facts.remove(at),
-            None if self.len >= MOST_FACTS => facts.remove(0),
+            Some(at) => facts.remove_fact(at),
+            None if self.len >= MOST_FACTS => facts.remove_fact(0),
             None => {}
         }
-        facts.push(fact);
+        facts.push_fact(fact);
         facts
     }
 
     /// Drops the fact with an index.
-    fn remove(&mut self, at: usize) {
+    fn remove_fact(&mut self, at: usize) {
         for next in at.saturating_add(1)..self.len {
             if let Some(fact) = self.list.get(next).copied()
                 && let Some(place) = self.list.get_mut(next.saturating_sub(1))
@@ -135,16 +141,16 @@ impl Facts {
     }
 }
 
-/// What both say of a term.
-fn in_both(one: Term, other: Term) -> Term {
+/// The term that a register holds on both of two ways.
+fn term_in_both(one: Term, other: Term) -> Term {
     if one == other { one } else { Term::Anything }
 }
 
-/// What both say of a run's registers.
+/// What the registers hold on both of two ways.
 pub(crate) fn registers_in_both(one: Registers, other: Registers) -> Registers {
     Registers {
-        accumulator: in_both(one.accumulator, other.accumulator),
-        index: in_both(one.index, other.index),
+        accumulator: term_in_both(one.accumulator, other.accumulator),
+        index: term_in_both(one.index, other.index),
     }
 }
 
@@ -157,14 +163,14 @@ pub(crate) fn facts_in_both<A: Allocator>(
     let mut facts = NO_FACTS;
     for fact in one.as_slice() {
         if let Some(numbers) = other.numbers(fact.term) {
-            let pieces = united(pieces, fact.pieces, numbers)?;
-            facts.push(Fact { pieces, ..*fact });
+            let pieces = unite_sets(pieces, fact.pieces, numbers)?;
+            facts.push_fact(Fact { pieces, ..*fact });
         }
     }
     Ok(facts)
 }
 
-/// The facts after a test with this outcome.
+/// The facts after a test that has shown this.
 pub(crate) fn facts_after_test<A: Allocator>(
     pieces: &mut Vec<Piece, A>,
     facts: &Facts,
@@ -175,11 +181,11 @@ pub(crate) fn facts_after_test<A: Allocator>(
         return Ok(*facts);
     }
     let numbers = facts.numbers(term).unwrap_or(ALL);
-    let pieces = narrowed(pieces, numbers, learnt)?;
-    Ok(facts.with(Fact { term, pieces }))
+    let pieces = narrow_set(pieces, numbers, learnt)?;
+    Ok(facts.with_fact(Fact { term, pieces }))
 }
 
-/// An operation loads from the packet.
+/// Whether an operation loads from the packet.
 pub(crate) fn loads(operation: Operation) -> bool {
     matches!(
         operation,
@@ -187,14 +193,14 @@ pub(crate) fn loads(operation: Operation) -> bool {
     )
 }
 
-/// The facts after an operation: what it loads is there.
+/// The facts after an operation that led on: what it loaded is there.
 pub(crate) fn facts_after(facts: &Facts, operation: Operation, k: u32, before: Registers) -> Facts {
     let term = asked(operation, k, before);
     if !loads(operation) || !is_known(term) {
         return *facts;
     }
     let pieces = facts.numbers(term).unwrap_or(ALL);
-    facts.with(Fact { term, pieces })
+    facts.with_fact(Fact { term, pieces })
 }
 
 /// What is known of a run: what its registers hold, and facts of the packet.
@@ -227,14 +233,15 @@ impl Known {
     }
 
     /// What is known after a node that is no test.
-    pub(crate) fn following(&self, node: Node) -> Known {
+    pub(crate) fn after_node(&self, node: Node) -> Known {
         Known {
             registers: after(node.operation, node.k, self.registers),
             facts: facts_after(&self.facts, node.operation, node.k, self.registers),
         }
     }
 
-    /// What a node makes that is no test is known, and so is that it's there.
+    /// Whether all that a node does, which is no test, is known before: what it makes, and that it
+    /// is there.
     pub(crate) fn tells_of(&self, node: Node) -> bool {
         let term = asked(node.operation, node.k, self.registers);
         if !loads(node.operation) {
@@ -249,8 +256,8 @@ impl Known {
         is_there(term, self.facts.as_slice(), &both)
     }
 
-    /// What is known after a test with this outcome.
-    pub(crate) fn with<A: Allocator>(
+    /// What is known after a test that has shown this.
+    pub(crate) fn after_test<A: Allocator>(
         &self,
         learnt: &Learnt,
         pieces: &mut Vec<Piece, A>,

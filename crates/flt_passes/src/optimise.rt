@@ -11,7 +11,7 @@ use flt_bpf::Wide;
 use flt_opt::replaces;
 use std::alloc::{AllocError, Allocator};
 
-/// How often all passes are made, unless nothing changes before.
+/// How often all passes are made, unless nothing changes any more.
 const TURNS: usize = 4;
 
 /// The passes of the first turn, in the order in which they are made.
@@ -42,8 +42,9 @@ pub struct Improved<A: Allocator> {
     pub changes: usize,
 }
 
-/// New code is seen to return what old code returns.
-fn is_replaced<A: Allocator + Clone>(
+/// Whether new code is seen to return what old code returns: notes are found, and `flt_opt` accepts
+/// them.
+fn is_seen_to_replace<A: Allocator + Clone>(
     alloc: A,
     old: &[Wide],
     new: &[Wide],
@@ -56,12 +57,13 @@ fn is_replaced<A: Allocator + Clone>(
     }
 }
 
+/// Whether two instructions are the same.
 fn is_same_insn(one: &Wide, other: &Wide) -> bool {
     one.code == other.code && one.k == other.k && one.yes == other.yes && one.no == other.no
 }
 
-/// The instructions are the same.
-fn is_same(one: &[Wide], other: &[Wide]) -> bool {
+/// Whether two lists of instructions are the same.
+fn is_same_code(one: &[Wide], other: &[Wide]) -> bool {
     one.len() == other.len()
         && one
             .iter()
@@ -69,8 +71,8 @@ fn is_same(one: &[Wide], other: &[Wide]) -> bool {
             .all(|(insn, other)| is_same_insn(insn, other))
 }
 
-/// What passes make of code, if it is of use.
-fn useful<A: Allocator + Clone>(
+/// What passes make of code, if it is other code and no longer.
+fn useful_code<A: Allocator + Clone>(
     alloc: A,
     code: &[Wide],
     passes: &[Pass],
@@ -78,11 +80,12 @@ fn useful<A: Allocator + Clone>(
     let Some(new) = passed(alloc, code, passes)? else {
         return Ok(None);
     };
-    let is_useful = new.len() <= code.len() && !is_same(&new, code);
+    let is_useful = new.len() <= code.len() && !is_same_code(&new, code);
     Ok(is_useful.then_some(new))
 }
 
-/// Code after these passes, if they make something of use that is seen to do the same.
+/// Code after all of these passes at once, if they make something of use that is seen to do the
+/// same.
 fn after_passes<A: Allocator + Clone>(
     alloc: A,
     from: Improved<A>,
@@ -95,14 +98,14 @@ fn after_passes<A: Allocator + Clone>(
         refusals,
         changes,
     } = from;
-    let Some(new) = useful(alloc.clone()?, &code, passes)? else {
+    let Some(new) = useful_code(alloc.clone()?, &code, passes)? else {
         return Ok(Improved {
             code,
             refusals,
             changes,
         });
     };
-    if is_replaced(alloc, &code, &new)? {
+    if is_seen_to_replace(alloc, &code, &new)? {
         return Ok(Improved {
             code: new,
             refusals,
@@ -116,7 +119,7 @@ fn after_passes<A: Allocator + Clone>(
     })
 }
 
-/// Code after these passes, one after the other.
+/// Code after these passes one by one: each result is compared, and taken or not.
 #[tactic(auto, using(crate::proofs::Improving::improves_over))]
 fn after_each<A: Allocator + Clone>(
     alloc: A,

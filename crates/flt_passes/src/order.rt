@@ -1,4 +1,5 @@
-//! The nodes of a graph in an order in which all edges lead on.
+//! The nodes of a graph in an order in which all edges lead to later nodes: each pass asks for it,
+//! and restores it.
 
 use crate::graph::{NOWHERE, Node};
 use std::alloc::{AllocError, Allocator};
@@ -25,13 +26,15 @@ struct Search<'a, A: Allocator> {
 }
 
 impl<A: Allocator> Search<'_, A> {
+    /// Marks how far the search is with a node.
     fn mark(&mut self, at: usize, mark: Mark) {
         if let Some(place) = self.marks.get_mut(at) {
             *place = mark;
         }
     }
 
-    /// The side of a test that doesn't hold comes first, so the other one is nearer to the test.
+    /// Begins with a node. The side where a test doesn't hold is searched first, so the other one
+    /// is nearer to the test in the new order.
     fn enter(&mut self, at: usize) -> Result<(), AllocError> {
         self.mark(at, Mark::Entered);
         if let Some(node) = self.nodes.get(at) {
@@ -41,13 +44,14 @@ impl<A: Allocator> Search<'_, A> {
         Ok(())
     }
 
-    /// All after a node is searched.
+    /// Ends with a node: all after it is searched.
     fn leave(&mut self, at: usize) {
         self.mark(at, Mark::Left(self.left));
         self.left = self.left.saturating_add(1);
         self.work.pop();
     }
 
+    /// Searches all that a run reaches from the entry on.
     fn search(&mut self, entry: usize) -> Result<(), AllocError> {
         self.work.push(entry)?;
         let steps = self.nodes.len().saturating_mul(4).saturating_add(1);
@@ -66,7 +70,7 @@ impl<A: Allocator> Search<'_, A> {
         Ok(())
     }
 
-    /// Where a node goes in the new order.
+    /// The index of a node in the new order, or `NOWHERE` where no run reaches it.
     fn place(&self, at: usize) -> usize {
         match self.marks.get(at) {
             Some(Mark::Left(from_end)) => { self.left.saturating_sub(1).saturating_sub(*from_end) }
@@ -75,13 +79,14 @@ impl<A: Allocator> Search<'_, A> {
     }
 }
 
-/// A list's entry for a node, or nowhere.
+/// The entry of a list for a node, or `NOWHERE`.
 pub(crate) fn entry_at(list: &[usize], at: usize) -> usize {
     list.get(at).copied().unwrap_or(NOWHERE)
 }
 
-/// The graph that runs from an entry reach, in an order in which all edges lead on.
-pub(crate) fn ordered<A: Allocator + Clone>(
+/// The nodes that runs from an entry reach, in an order in which all edges lead to later nodes (a
+/// topological order by a search in depth).
+pub(crate) fn order_nodes<A: Allocator + Clone>(
     alloc: A,
     nodes: &[Node],
     entry: usize,

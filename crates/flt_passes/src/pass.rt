@@ -1,16 +1,16 @@
-//! A pass over code.
+//! The passes by name, and code after some of them.
 
-use crate::bits::with_bits;
-use crate::gather::gathered;
+use crate::bits::join_instructions;
+use crate::gather::gather_tests;
 use crate::graph::{Node, nodes_of};
-use crate::search::with_searches;
-use crate::share::shared;
-use crate::thread::threaded;
-use crate::write::written;
+use crate::search::search_tests;
+use crate::share::share_nodes;
+use crate::thread::thread_edges;
+use crate::write::write_code;
 use flt_bpf::Wide;
 use std::alloc::{AllocError, Allocator};
 
-/// How many tests that aren't decided are passed, one on a side of the other.
+/// How many tests that aren't decided `ThreadFar` passes, one on a side of the other.
 const MOST_SPLITS: usize = 2;
 
 /// What is done to code.
@@ -30,23 +30,24 @@ pub enum Pass {
     Share,
 }
 
-/// What a pass makes of a graph whose edges lead on.
-fn after<A: Allocator + Clone>(
+/// What a pass makes of a graph, in which all edges lead to later nodes.
+fn after_pass<A: Allocator + Clone>(
     alloc: A,
     nodes: Vec<Node, A>,
     pass: Pass,
 ) -> Result<Vec<Node, A>, AllocError> {
     match pass {
-        Pass::Thread => threaded(alloc, nodes, 0),
-        Pass::ThreadFar => threaded(alloc, nodes, MOST_SPLITS),
-        Pass::Gather => gathered(alloc, nodes),
-        Pass::Bits => with_bits(alloc, nodes),
-        Pass::Search => with_searches(alloc, nodes),
-        Pass::Share => shared(alloc, nodes),
+        Pass::Thread => thread_edges(alloc, nodes, 0),
+        Pass::ThreadFar => thread_edges(alloc, nodes, MOST_SPLITS),
+        Pass::Gather => gather_tests(alloc, nodes),
+        Pass::Bits => join_instructions(alloc, nodes),
+        Pass::Search => search_tests(alloc, nodes),
+        Pass::Share => share_nodes(alloc, nodes),
     }
 }
 
-/// What passes make of code, one after the other, if they make something.
+/// What passes make of code, one after the other. `None`: an instruction has an unknown code, or
+/// the result would be more than twice as long.
 pub fn passed<A: Allocator + Clone>(
     alloc: A,
     code: &[Wide],
@@ -56,8 +57,8 @@ pub fn passed<A: Allocator + Clone>(
         return Ok(None);
     };
     for pass in passes {
-        nodes = after(alloc.clone()?, nodes, *pass)?;
+        nodes = after_pass(alloc.clone()?, nodes, *pass)?;
     }
     let most = code.len().saturating_mul(2);
-    written(alloc, &nodes, most)
+    write_code(alloc, &nodes, most)
 }

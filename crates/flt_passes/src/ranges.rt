@@ -13,13 +13,14 @@ pub(crate) struct Range {
 }
 
 impl Range {
+    /// Whether it has one number alone.
     pub(crate) fn is_one_number(&self) -> bool {
         self.low == self.high
     }
 }
 
-/// Where a test of a number with a constant leads.
-pub(crate) fn side(node: Node, test: Test, number: u32) -> usize {
+/// The index of the node where a test of a number with the constant k leads.
+pub(crate) fn side_of_test(node: Node, test: Test, number: u32) -> usize {
     let holds = match test {
         Test::Equal => number == node.k,
         Test::Greater => number > node.k,
@@ -29,8 +30,9 @@ pub(crate) fn side(node: Node, test: Test, number: u32) -> usize {
     if holds { node.yes } else { node.no }
 }
 
-/// Puts the numbers up to one after the ranges.
-pub(crate) fn extend<A: Allocator>(
+/// Puts the numbers after the last range, up to `high`, at the end of the ranges: they lead to
+/// `exit`.
+pub(crate) fn extend_ranges<A: Allocator>(
     ranges: &mut Vec<Range, A>,
     high: u32,
     exit: usize,
@@ -49,7 +51,7 @@ pub(crate) fn extend<A: Allocator>(
     Ok(())
 }
 
-/// How many of the ranges are one number.
-pub(crate) fn numbers_in(ranges: &[Range]) -> usize {
+/// How many of the ranges are one number alone.
+pub(crate) fn count_single_numbers(ranges: &[Range]) -> usize {
     ranges.iter().filter(|range| range.is_one_number()).count()
 }

@@ -21,13 +21,13 @@ pub(crate) enum Rule {
     Own,
 }
 
-/// Both runs have the same in A and X where an operation reads them.
+/// Whether both runs have the same in A and X where an operation reads them.
 fn operands_agree(operation: Operation, both: &Both) -> bool {
     (!reads_accumulator(operation) || same_accumulator(both))
         && (!reads_index(operation) || same_index(both))
 }
 
-/// Both load the same field, as what is in their registers says.
+/// Whether both instructions load the same field, as what is in their registers says.
 fn loads_same(new: Wide, old: Wide, both: &Both) -> bool {
     let (Some(operation), Some(old_operation)) = (decode(new.code), decode(old.code)) else {
         return false;
@@ -39,14 +39,16 @@ fn loads_same(new: Wide, old: Wide, both: &Both) -> bool {
         && field == asked(old_operation, old.k, both.old)
 }
 
+/// Whether both instructions are the same, with the same operands. Where tests lead is not
+/// compared.
 fn does_same(new: Wide, old: Wide, both: &Both) -> bool {
     new.code == old.code
         && new.k == old.k
         && decode(new.code).is_some_and(|operation| operands_agree(operation, both))
 }
 
-/// The old code has a mask and a test for 0 in place of a test of bits.
-fn does_bits(new: Wide, old: Wide, following: Option<Wide>, both: &Both) -> bool {
+/// Whether the new code tests bits where the old one has a mask and a test for 0.
+fn tests_bits(new: Wide, old: Wide, following: Option<Wide>, both: &Both) -> bool {
     let is_bits = matches!(
         decode(new.code),
         Some(Operation::JumpIf(Test::AnyBit, Operand::Constant))
@@ -65,7 +67,8 @@ fn does_bits(new: Wide, old: Wide, following: Option<Wide>, both: &Both) -> bool
     is_bits && is_mask && is_test && new.k == old.k && same_accumulator(both)
 }
 
-/// The rule by which an instruction replaces the one of the old code at a place.
+/// The rule by which an instruction of new code replaces the one of the old code at a place, if one
+/// does.
 pub(crate) fn rule_at(new: Wide, old: &[Wide], at: usize, both: &Both) -> Option<Rule> {
     let insn = *old.get(at)?;
     if does_same(new, insn, both) {
@@ -75,13 +78,13 @@ pub(crate) fn rule_at(new: Wide, old: &[Wide], at: usize, both: &Both) -> Option
         return Some(Rule::Load);
     }
     let following = old.get(at.saturating_add(1)).copied();
-    if does_bits(new, insn, following, both) {
+    if tests_bits(new, insn, following, both) {
         return Some(Rule::Bits);
     }
     None
 }
 
-/// An instruction may be the new code's own: it can't fail, and changes no word.
+/// Whether an instruction may be the new code's own: it can't fail, and changes no word of memory.
 pub(crate) fn may_be_own(new: Wide, both: &Both, facts: &[Fact]) -> bool {
     match decode(new.code) {
         None => false,

@@ -1,17 +1,17 @@
-//! Tests of one register, as a search by halves.
+//! The pass `Search`: tests of A with numbers, one after the other, become a search by halves.
 
-use crate::edges::{edges, has_one_edge};
+use crate::edges::{edge_counts, has_one_edge};
 use crate::graph::{NOWHERE, Node};
 use crate::halves::{put_search, test_node};
-use crate::order::{entry_at, ordered};
-use crate::ranges::{Range, extend, numbers_in, side};
+use crate::order::{entry_at, order_nodes};
+use crate::ranges::{Range, count_single_numbers, extend_ranges, side_of_test};
 use flt_bpf::operation::Test;
 use std::alloc::{AllocError, Allocator};
 
-/// The fewest tests that are searched.
+/// The fewest tests that are worth a search.
 const LEAST: usize = 4;
 
-/// The fewest numbers that are searched even where they lead to more than two nodes.
+/// The fewest numbers that are worth a search where they lead to more than two nodes.
 const LEAST_APART: usize = 8;
 
 /// A graph whose tests become searches.
@@ -39,8 +39,8 @@ struct Chain<A: Allocator> {
     rest: usize,
 }
 
-/// What a test asks, if a search may be made of it.
-fn searched(node: Node) -> Option<Test> {
+/// What a test asks, if it may be part of a search: not a test of bits.
+fn searchable_test(node: Node) -> Option<Test> {
     match node.test() {
         Some(test @ (Test::Equal | Test::Greater | Test::AtLeast)) => Some(test),
         _ => None,
@@ -48,22 +48,26 @@ fn searched(node: Node) -> Option<Test> {
 }
 
 impl<A: Allocator + Clone> Searching<A> {
+    /// The node with an index, if there is one.
     fn node(&self, at: usize) -> Option<Node> {
         self.nodes.get(at).copied()
     }
 
-    fn is_in(&self, head: usize, at: usize) -> bool {
+    /// Whether a node is in the region of a first test.
+    fn is_in_region(&self, head: usize, at: usize) -> bool {
         entry_at(&self.heads, at) == head
     }
 
-    /// Takes a test in, if it is one.
-    fn enter(
+    /// Takes a node into the region of a first test, if it is a test.
+    fn enter_test(
         &mut self,
         head: usize,
         at: usize,
         work: &mut Vec<usize, A>,
     ) -> Result<(), AllocError> {
-        let is_test = self.node(at).is_some_and(|node| searched(node).is_some());
+        let is_test = self
+            .node(at)
+            .is_some_and(|node| searchable_test(node).is_some());
         if is_test && let Some(place) = self.heads.get_mut(at) {
             *place = head;
             work.push(at)?;
@@ -71,11 +75,11 @@ impl<A: Allocator + Clone> Searching<A> {
         Ok(())
     }
 
-    /// The tests that a run reaches from a first one on, with nothing between.
-    fn region(&mut self, head: usize) -> Result<Vec<usize, A>, AllocError> {
+    /// The region of a first test: the tests that a run reaches from it with nothing between.
+    fn region_from(&mut self, head: usize) -> Result<Vec<usize, A>, AllocError> {
         let mut region = Vec::new(self.alloc.clone()?);
         let mut work = Vec::new(self.alloc.clone()?);
-        self.enter(head, head, &mut work)?;
+        self.enter_test(head, head, &mut work)?;
         for _ in 0..self.nodes.len() {
             let Some(at) = work.pop() else {
                 break;
@@ -85,31 +89,34 @@ impl<A: Allocator + Clone> Searching<A> {
                 break;
             };
             for next in [node.yes, node.no] {
-                if has_one_edge(&self.edges, next) && !self.is_in(head, next) {
-                    self.enter(head, next, &mut work)?;
+                if has_one_edge(&self.edges, next) && !self.is_in_region(head, next) {
+                    self.enter_test(head, next, &mut work)?;
                 }
             }
         }
         Ok(region)
     }
 
-    /// Where a number leads.
-    fn exit(&self, head: usize, number: u32) -> usize {
+    /// The node where a number leads, out of the region of a first test.
+    fn exit_of(&self, head: usize, number: u32) -> usize {
         let mut at = head;
         for _ in 0..self.nodes.len() {
-            if !self.is_in(head, at) {
+            if !self.is_in_region(head, at) {
                 break;
             }
-            let Some((node, test)) = self.node(at).and_then(|node| Some((node, searched(node)?)))
+            let Some((node, test)) = self
+                .node(at)
+                .and_then(|node| Some((node, searchable_test(node)?)))
             else {
                 break;
             };
-            at = side(node, test, number);
+            at = side_of_test(node, test, number);
         }
         at
     }
 
-    /// The numbers from which on a test may lead elsewhere.
+    /// The numbers at which a range may begin: each number that is tested, and the one after it.
+    /// They ascend.
     fn cuts(&self, region: &[usize]) -> Result<Vec<u32, A>, AllocError> {
         let mut cuts = Vec::new(self.alloc.clone()?);
         for at in region {
@@ -122,29 +129,29 @@ impl<A: Allocator + Clone> Searching<A> {
         Ok(cuts)
     }
 
-    /// Where all numbers lead.
-    fn ranges(&self, head: usize, region: &[usize]) -> Result<Vec<Range, A>, AllocError> {
+    /// All numbers as ranges, by where they lead out of a region.
+    fn ranges_of_region(&self, head: usize, region: &[usize]) -> Result<Vec<Range, A>, AllocError> {
         let mut ranges = Vec::new(self.alloc.clone()?);
         let mut low = 0;
         for cut in &self.cuts(region)? {
             if *cut > low {
-                extend(&mut ranges, *cut - 1, self.exit(head, low))?;
+                extend_ranges(&mut ranges, *cut - 1, self.exit_of(head, low))?;
                 low = *cut;
             }
         }
-        extend(&mut ranges, u32::MAX, self.exit(head, low))?;
+        extend_ranges(&mut ranges, u32::MAX, self.exit_of(head, low))?;
         Ok(ranges)
     }
 
-    /// The numbers that tests ask for, one after the other, and where they lead.
-    fn chain(&self, head: usize) -> Result<Chain<A>, AllocError> {
+    /// The chain of tests for one number each with which a region begins.
+    fn chain_from(&self, head: usize) -> Result<Chain<A>, AllocError> {
         let mut exits = Vec::new(self.alloc.clone()?);
         let mut at = head;
         for _ in 0..self.nodes.len() {
             let Some(node) = self.node(at) else {
                 break;
             };
-            if !self.is_in(head, at) || !matches!(node.test(), Some(Test::Equal)) {
+            if !self.is_in_region(head, at) || !matches!(node.test(), Some(Test::Equal)) {
                 break;
             }
             exits.push(Exit {
@@ -156,8 +163,8 @@ impl<A: Allocator + Clone> Searching<A> {
         Ok(Chain { exits, rest: at })
     }
 
-    /// Where all numbers lead, of tests for one number each.
-    fn chain_ranges(&self, chain: &Chain<A>) -> Result<Vec<Range, A>, AllocError> {
+    /// All numbers as ranges, by where a chain of tests for one number each leads.
+    fn ranges_of_chain(&self, chain: &Chain<A>) -> Result<Vec<Range, A>, AllocError> {
         let rest = chain.rest;
         let mut exits = Vec::from_slice(self.alloc.clone()?, &chain.exits)?;
         exits.sort_by_key(|exit| exit.number)?;
@@ -167,28 +174,28 @@ impl<A: Allocator + Clone> Searching<A> {
         for exit in &exits {
             if exit.number >= low && !is_full {
                 if exit.number > low {
-                    extend(&mut ranges, exit.number - 1, rest)?;
+                    extend_ranges(&mut ranges, exit.number - 1, rest)?;
                 }
-                extend(&mut ranges, exit.number, exit.exit)?;
+                extend_ranges(&mut ranges, exit.number, exit.exit)?;
                 is_full = exit.number == u32::MAX;
                 low = exit.number.saturating_add(1);
             }
         }
         if !is_full {
-            extend(&mut ranges, u32::MAX, rest)?;
+            extend_ranges(&mut ranges, u32::MAX, rest)?;
         }
         Ok(ranges)
     }
 }
 
-/// Where the ranges that aren't one number lead, if that is one node.
-fn rest_of(ranges: &[Range]) -> Option<usize> {
+/// The one node where the ranges of several numbers lead, if it is one.
+fn common_exit_of_wide_ranges(ranges: &[Range]) -> Option<usize> {
     let mut wide = ranges.iter().filter(|range| !range.is_one_number());
     let rest = wide.next()?.exit;
     wide.all(|range| range.exit == rest).then_some(rest)
 }
 
-/// The ranges lead to more than two nodes.
+/// Whether the ranges lead to more than two nodes.
 fn lead_apart(ranges: &[Range]) -> bool {
     let Some(one) = ranges.first().map(|range| range.exit) else {
         return false;
@@ -205,7 +212,7 @@ fn lead_apart(ranges: &[Range]) -> bool {
         .any(|range| range.exit != one && range.exit != other)
 }
 
-/// A number leads elsewhere than those beside it.
+/// Whether a number is a range alone: it leads elsewhere than those beside it.
 fn is_alone(ranges: &[Range], number: u32) -> bool {
     ranges
         .iter()
@@ -214,7 +221,7 @@ fn is_alone(ranges: &[Range], number: u32) -> bool {
 
 impl<A: Allocator + Clone> Searching<A> {
     /// Those numbers of a chain that lead elsewhere than the ones beside them, each once.
-    fn firsts(&self, chain: &Chain<A>, ranges: &[Range]) -> Result<Vec<Exit, A>, AllocError> {
+    fn first_exits(&self, chain: &Chain<A>, ranges: &[Range]) -> Result<Vec<Exit, A>, AllocError> {
         let mut firsts: Vec<Exit, A> = Vec::new(self.alloc.clone()?);
         for exit in &chain.exits {
             let is_new = firsts.iter().all(|first| first.number != exit.number);
@@ -225,8 +232,8 @@ impl<A: Allocator + Clone> Searching<A> {
         Ok(firsts)
     }
 
-    /// Puts a few tests for one number each. Returns where they begin.
-    fn put_few(&mut self, firsts: &[Exit], rest: usize) -> Result<usize, AllocError> {
+    /// Puts a chain of tests for one number each last. Returns where it begins.
+    fn put_chain(&mut self, firsts: &[Exit], rest: usize) -> Result<usize, AllocError> {
         let mut next = rest;
         for first in firsts.iter().rev() {
             let node = test_node(Test::Equal, first.number, first.exit, next);
@@ -236,15 +243,19 @@ impl<A: Allocator + Clone> Searching<A> {
         Ok(next)
     }
 
-    /// Puts what asks for the ranges. Returns where it begins, if something was put.
-    fn put(&mut self, chain: &Chain<A>, ranges: &[Range]) -> Result<Option<usize>, AllocError> {
-        let numbers = numbers_in(ranges);
-        if let Some(rest) = rest_of(ranges)
+    /// Puts what leads to the ranges last. Returns where it begins, if something was put.
+    fn put_tests(
+        &mut self,
+        chain: &Chain<A>,
+        ranges: &[Range],
+    ) -> Result<Option<usize>, AllocError> {
+        let numbers = count_single_numbers(ranges);
+        if let Some(rest) = common_exit_of_wide_ranges(ranges)
             && numbers < LEAST
         {
-            let firsts = self.firsts(chain, ranges)?;
+            let firsts = self.first_exits(chain, ranges)?;
             if firsts.len() == numbers {
-                return self.put_few(&firsts, rest).map(Some);
+                return self.put_chain(&firsts, rest).map(Some);
             }
         }
         if lead_apart(ranges) && numbers < LEAST_APART {
@@ -253,17 +264,21 @@ impl<A: Allocator + Clone> Searching<A> {
         put_search(&mut self.nodes, ranges).map(Some)
     }
 
-    /// Searches by halves in place of the tests that begin at a first one.
-    fn replace(&mut self, head: usize, region: &[usize]) -> Result<(), AllocError> {
-        let chain = self.chain(head)?;
+    /// Puts a search in place of a region, where it has fewer tests, or is much quicker.
+    fn replace_region(&mut self, head: usize, region: &[usize]) -> Result<(), AllocError> {
+        let chain = self.chain_from(head)?;
         let ranges = if chain.exits.len() == region.len() {
-            self.chain_ranges(&chain)?
+            self.ranges_of_chain(&chain)?
         } else {
-            self.ranges(head, region)?
+            self.ranges_of_region(head, region)?
         };
         let count = self.nodes.len();
-        let most = if numbers_in(&ranges) < LEAST { 1 } else { 2 };
-        let put = self.put(&chain, &ranges)?;
+        let most = if count_single_numbers(&ranges) < LEAST {
+            1
+        } else {
+            2
+        };
+        let put = self.put_tests(&chain, &ranges)?;
         let made = self.nodes.len().saturating_sub(count);
         if let Some(at) = put
             && let Some(node) = self.node(at)
@@ -276,28 +291,31 @@ impl<A: Allocator + Clone> Searching<A> {
         Ok(())
     }
 
-    /// Searches the tests that begin at a node, if they are enough.
-    fn search(&mut self, head: usize) -> Result<(), AllocError> {
-        let is_test = self.node(head).is_some_and(|node| searched(node).is_some());
+    /// Puts a search in place of the region that begins at a node, if it has enough tests.
+    fn search_from(&mut self, head: usize) -> Result<(), AllocError> {
+        let is_test = self
+            .node(head)
+            .is_some_and(|node| searchable_test(node).is_some());
         if !is_test || entry_at(&self.heads, head) != NOWHERE {
             return Ok(());
         }
-        let region = self.region(head)?;
+        let region = self.region_from(head)?;
         if region.len() < LEAST {
             return Ok(());
         }
-        self.replace(head, &region)
+        self.replace_region(head, &region)
     }
 }
 
-/// The graph with searches by halves in place of tests of one register. Its edges lead on.
-pub(crate) fn with_searches<A: Allocator + Clone>(
+/// The graph with searches by halves in place of tests of one register. Its edges lead to later
+/// nodes.
+pub(crate) fn search_tests<A: Allocator + Clone>(
     alloc: A,
     nodes: Vec<Node, A>,
 ) -> Result<Vec<Node, A>, AllocError> {
     if nodes
         .iter()
-        .filter(|node| searched(**node).is_some())
+        .filter(|node| searchable_test(**node).is_some())
         .count()
         < LEAST
     {
@@ -306,15 +324,15 @@ pub(crate) fn with_searches<A: Allocator + Clone>(
     let count = nodes.len();
     let mut searching = Searching {
         alloc: alloc.clone()?,
-        edges: edges(alloc.clone()?, &nodes)?,
+        edges: edge_counts(alloc.clone()?, &nodes)?,
         heads: vec![in alloc.clone()?; NOWHERE; count]?,
         nodes,
     };
     for head in 0..count {
-        searching.search(head)?;
+        searching.search_from(head)?;
     }
     if searching.nodes.len() == count {
         return Ok(searching.nodes);
     }
-    ordered(alloc, &searching.nodes, 0)
+    order_nodes(alloc, &searching.nodes, 0)
 }

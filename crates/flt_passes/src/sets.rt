@@ -3,13 +3,13 @@
 use flt_opt::{Learnt, Piece, Span};
 use std::alloc::{AllocError, Allocator};
 
-/// Where the set of all numbers is.
+/// The set of all numbers, in a list that `pieces_for_all` made.
 pub(crate) const ALL: Span = Span { start: 0, end: 1 };
 
-/// A set that would have more pieces is one piece.
+/// A set that would have more pieces becomes one piece, with all numbers between.
 const MOST_PIECES: usize = 64;
 
-/// A list with the set of all numbers.
+/// A new list of pieces, with the set of all numbers alone.
 pub(crate) fn pieces_for_all<A: Allocator>(alloc: A) -> Result<Vec<Piece, A>, AllocError> {
     let all = Piece {
         low: 0,
@@ -18,7 +18,7 @@ pub(crate) fn pieces_for_all<A: Allocator>(alloc: A) -> Result<Vec<Piece, A>, Al
     Ok(vec![in alloc; all]?)
 }
 
-/// The piece of a set with an index of the list.
+/// The piece with an index of the list, if it is one of a set.
 fn piece_at(pieces: &[Piece], span: Span, at: usize) -> Option<Piece> {
     if at < span.end {
         pieces.get(at).copied()
@@ -27,11 +27,12 @@ fn piece_at(pieces: &[Piece], span: Span, at: usize) -> Option<Piece> {
     }
 }
 
-fn len(span: Span) -> usize {
+/// How many pieces a set has.
+fn piece_count(span: Span) -> usize {
     span.end.saturating_sub(span.start)
 }
 
-/// The numbers in both.
+/// The numbers that are in both pieces.
 fn overlap(one: Piece, other: Piece) -> Piece {
     Piece {
         low: one.low.max(other.low),
@@ -39,8 +40,9 @@ fn overlap(one: Piece, other: Piece) -> Piece {
     }
 }
 
-/// The list ends with the set that begins at an index; a piece after all of its pieces joins it.
-fn add<A: Allocator>(
+/// Adds a piece to the set with which the list ends, from `start` on: it joins the last one that it
+/// touches.
+fn add_piece<A: Allocator>(
     pieces: &mut Vec<Piece, A>,
     start: usize,
     piece: Piece,
@@ -59,8 +61,8 @@ fn add<A: Allocator>(
     Ok(())
 }
 
-/// The last set of the list, which begins at an index; one piece where it would have too many.
-fn last_set<A: Allocator>(pieces: &mut Vec<Piece, A>, start: usize) -> Result<Span, AllocError> {
+/// The set with which the list ends, from `start` on; one piece where it would have too many.
+fn finish_set<A: Allocator>(pieces: &mut Vec<Piece, A>, start: usize) -> Result<Span, AllocError> {
     if pieces.len().saturating_sub(start) > MOST_PIECES
         && let (Some(first), Some(last)) = (pieces.get(start).copied(), pieces.last().copied())
     {
@@ -76,8 +78,9 @@ fn last_set<A: Allocator>(pieces: &mut Vec<Piece, A>, start: usize) -> Result<Sp
     })
 }
 
-/// Those numbers of a set that the outcome of a test leaves.
-pub(crate) fn narrowed<A: Allocator>(
+/// The set of those numbers of a set that the outcome of a test leaves. It is put last into the
+/// list.
+pub(crate) fn narrow_set<A: Allocator>(
     pieces: &mut Vec<Piece, A>,
     numbers: Span,
     learnt: &Learnt,
@@ -85,15 +88,15 @@ pub(crate) fn narrowed<A: Allocator>(
     let start = pieces.len();
     for at in numbers.start..numbers.end {
         if let Some(piece) = pieces.get(at).copied() {
-            add(pieces, start, overlap(piece, learnt.below))?;
-            add(pieces, start, overlap(piece, learnt.above))?;
+            add_piece(pieces, start, overlap(piece, learnt.below))?;
+            add_piece(pieces, start, overlap(piece, learnt.above))?;
         }
     }
-    last_set(pieces, start)
+    finish_set(pieces, start)
 }
 
-/// The numbers of both sets.
-pub(crate) fn united<A: Allocator>(
+/// The set of the numbers of two sets. It is put last into the list, unless both are the same.
+pub(crate) fn unite_sets<A: Allocator>(
     pieces: &mut Vec<Piece, A>,
     one: Span,
     other: Span,
@@ -103,20 +106,20 @@ pub(crate) fn united<A: Allocator>(
     }
     let start = pieces.len();
     let (mut next, mut next_other) = (one.start, other.start);
-    for _ in 0..len(one).saturating_add(len(other)) {
+    for _ in 0..piece_count(one).saturating_add(piece_count(other)) {
         let first = piece_at(pieces, one, next);
         let second = piece_at(pieces, other, next_other);
         match (first, second) {
             (Some(piece), second) if second.is_none_or(|second| piece.low <= second.low) => {
                 next = next.saturating_add(1);
-                add(pieces, start, piece)?;
+                add_piece(pieces, start, piece)?;
             }
             (_, Some(piece)) => {
                 next_other = next_other.saturating_add(1);
-                add(pieces, start, piece)?;
+                add_piece(pieces, start, piece)?;
             }
             _ => break,
         }
     }
-    last_set(pieces, start)
+    finish_set(pieces, start)
 }

@@ -1,17 +1,18 @@
-//! One node for those that do the same.
+//! The pass `Share`: one node for those that do the same in several places.
 
 use crate::graph::{NOWHERE, Node};
-use crate::order::{entry_at, ordered};
+use crate::order::{entry_at, order_nodes};
 use std::alloc::{AllocError, Allocator};
 use std::collections::HashMap;
 
-/// What a node does. Those are equal that do the same.
+/// What a node does and where it leads, as numbers that are equal for nodes that do the same.
 #[derive(Clone, Copy, PartialEq, Eq, Hash)]
 struct Deeds {
     does: u64,
     leads: u64,
 }
 
+/// What a node does: its code and k, and its two edges.
 fn deeds_of(node: Node) -> Deeds {
     Deeds {
         does: u64::from(node.operation.code()) << 32 | u64::from(node.k),
@@ -19,8 +20,8 @@ fn deeds_of(node: Node) -> Deeds {
     }
 }
 
-/// A node whose edges lead to what replaces their targets.
-fn turned(node: Node, stands: &[usize]) -> Node {
+/// A node whose edges lead to what its targets are replaced by.
+fn with_shared_targets(node: Node, stands: &[usize]) -> Node {
     Node {
         yes: entry_at(stands, node.yes),
         no: entry_at(stands, node.no),
@@ -28,8 +29,8 @@ fn turned(node: Node, stands: &[usize]) -> Node {
     }
 }
 
-/// The graph with one node for those that do the same. Its edges lead on.
-pub(crate) fn shared<A: Allocator + Clone>(
+/// The graph with one node for those that do the same. Its edges lead to later nodes.
+pub(crate) fn share_nodes<A: Allocator + Clone>(
     alloc: A,
     mut nodes: Vec<Node, A>,
 ) -> Result<Vec<Node, A>, AllocError> {
@@ -40,7 +41,7 @@ pub(crate) fn shared<A: Allocator + Clone>(
         let Some(place) = nodes.get_mut(at) else {
             break;
         };
-        let node = turned(*place, &stands);
+        let node = with_shared_targets(*place, &stands);
         *place = node;
         let mut stand = at;
         match seen.get(&deeds_of(node)) {
@@ -59,5 +60,5 @@ pub(crate) fn shared<A: Allocator + Clone>(
     if !is_changed {
         return Ok(nodes);
     }
-    ordered(alloc, &nodes, entry_at(&stands, 0))
+    order_nodes(alloc, &nodes, entry_at(&stands, 0))
 }

@@ -1,15 +1,16 @@
-//! Each edge goes on as far as what is known on every way to it decides.
+//! The passes `Thread` and `ThreadFar`: each edge goes on as far as what is known on every way to
+//! it decides (jump threading).
 
-use crate::follow::followed;
+use crate::follow::farthest_place;
 use crate::graph::{Flow, NOWHERE, Node};
 use crate::known::{AT_START, Known};
-use crate::live::{Live, Reads, is_of_use, live_at, lives};
-use crate::order::{entry_at, ordered};
+use crate::live::{Live, Reads, is_of_use, live_at, lives_of_graph};
+use crate::order::{entry_at, order_nodes};
 use crate::sets::pieces_for_all;
 use flt_opt::{Piece, outcome};
 use std::alloc::{AllocError, Allocator};
 
-/// A graph from whose first node on all edges are led on.
+/// A graph whose edges are led on, from its first node to its last.
 #[derive(Drop)]
 struct Threading<A: Allocator> {
     alloc: A,
@@ -28,20 +29,20 @@ struct Threading<A: Allocator> {
 }
 
 impl<A: Allocator + Clone> Threading<A> {
-    /// A run ends at a node, or there is none.
-    fn ends(&self, at: usize) -> bool {
+    /// Whether a run ends at a node, or there is none.
+    fn ends_at(&self, at: usize) -> bool {
         self.nodes
             .get(at)
             .is_none_or(|node| node.flow() == Flow::Ends)
     }
 
-    /// A run reaches a node with this knowledge.
+    /// One more run reaches a node, of which this is known.
     fn arrive(&mut self, at: usize, mut known: Known) -> Result<(), AllocError> {
-        if self.ends(at) {
+        if self.ends_at(at) {
             return Ok(());
         }
         let reads = self.reads(&known, at);
-        known.facts.keep_of_use(&reads);
+        known.facts.keep_useful(&reads);
         let slot = entry_at(&self.slots, at);
         match self.waiting.get_mut(slot) {
             None => self.wait(at, known),
@@ -52,7 +53,7 @@ impl<A: Allocator + Clone> Threading<A> {
         }
     }
 
-    /// A node waits with this knowledge.
+    /// The node waits until it is led on, with what is known of the first run that reaches it.
     fn wait(&mut self, at: usize, known: Known) -> Result<(), AllocError> {
         let slot = match self.free.pop() {
             Some(slot) => slot,
@@ -68,7 +69,7 @@ impl<A: Allocator + Clone> Threading<A> {
         Ok(())
     }
 
-    /// What is known at a node, if a run comes there. It waits no more.
+    /// What is known of all runs that reach a node, if one does. It waits no more.
     fn take(&mut self, at: usize) -> Result<Option<Known>, AllocError> {
         let slot = entry_at(&self.slots, at);
         let Some(known) = self.waiting.get(slot).copied() else {
@@ -78,18 +79,18 @@ impl<A: Allocator + Clone> Threading<A> {
         Ok(Some(known))
     }
 
-    /// What a run reads that goes on at a node.
+    /// What a run reads from a node on.
     fn reads(&self, known: &Known, at: usize) -> [Reads; 1] {
         let (live, accumulator) = (live_at(&self.lives, at), known.registers.accumulator);
         [Reads { live, accumulator }]
     }
 
-    /// Where a run with this knowledge goes on in place of a node.
-    fn led(&self, known: &Known, to: usize) -> Result<usize, AllocError> {
+    /// The node where a run of which this is known goes on in place of `to`.
+    fn led_to(&self, known: &Known, to: usize) -> Result<usize, AllocError> {
         if known.facts.is_empty() {
             return Ok(to);
         }
-        followed(
+        farthest_place(
             self.alloc.clone()?,
             &self.nodes,
             &self.lives,
@@ -100,7 +101,8 @@ impl<A: Allocator + Clone> Threading<A> {
         )
     }
 
-    /// A run with this knowledge may go on following a node that is no test.
+    /// Whether a run of which this is known may go on past a node: a test, or one that does nothing
+    /// new.
     fn may_pass(&self, known: &Known, at: usize) -> bool {
         let Some(node) = self.nodes.get(at) else {
             return false;
@@ -108,16 +110,16 @@ impl<A: Allocator + Clone> Threading<A> {
         node.flow() != Flow::Goes || known.tells_of(*node)
     }
 
-    /// Leads on from where a run begins. Returns where.
+    /// Leads the beginning of all runs on. Returns where they begin.
     fn lead_start(&mut self, known: &Known, to: usize) -> Result<usize, AllocError> {
-        let to = self.led(known, to)?;
+        let to = self.led_to(known, to)?;
         self.arrive(to, *known)?;
         Ok(to)
     }
 }
 
 impl<A: Allocator + Clone> Threading<A> {
-    /// Whether a test can hold, and whether it can fail.
+    /// Whether a test can hold, and whether it can fail, by what is known.
     fn outcomes(&self, known: &Known, node: Node) -> (bool, bool) {
         let term = known.registers.accumulator;
         match known.facts.decide(&self.pieces, node.test(), node.k, term) {
@@ -126,7 +128,7 @@ impl<A: Allocator + Clone> Threading<A> {
         }
     }
 
-    /// What is known on a side of a test.
+    /// What is known on the side of a test.
     fn known_on_side(
         &mut self,
         known: &Known,
@@ -135,29 +137,29 @@ impl<A: Allocator + Clone> Threading<A> {
     ) -> Result<Known, AllocError> {
         let reads = self.reads(known, if holds { node.yes } else { node.no });
         let mut on_side = *known;
-        on_side.facts.keep_of_use(&reads);
+        on_side.facts.keep_useful(&reads);
         if let Some(test) = node.test() {
             let learnt = outcome(test, node.k, known.registers.accumulator, holds);
             if is_of_use(learnt.term, &reads) {
-                return on_side.with(&learnt, &mut self.pieces);
+                return on_side.after_test(&learnt, &mut self.pieces);
             }
         }
         Ok(on_side)
     }
 
-    /// Leads a side of a test on. Returns where.
+    /// Leads the side of a test on. Returns where it leads.
     fn lead_side(&mut self, known: &Known, node: Node, holds: bool) -> Result<usize, AllocError> {
         let to = if holds { node.yes } else { node.no };
-        if self.ends(to) {
+        if self.ends_at(to) {
             return Ok(to);
         }
         let on_side = self.known_on_side(known, node, holds)?;
-        let to = self.led(&on_side, to)?;
+        let to = self.led_to(&on_side, to)?;
         self.arrive(to, on_side)?;
         Ok(to)
     }
 
-    /// Leads both sides of a test on, where a run with this knowledge reaches it.
+    /// Leads both sides of a test on, by what is known where runs reach it.
     fn lead_test(&mut self, at: usize, node: Node, known: &Known) -> Result<(), AllocError> {
         let (can_hold, can_fail) = self.outcomes(known, node);
         let (mut yes, mut no) = (node.yes, node.no);
@@ -175,7 +177,7 @@ impl<A: Allocator + Clone> Threading<A> {
         Ok(())
     }
 
-    /// Turns the edges of a node to other ones.
+    /// Turns the edges of a node to other nodes.
     fn turn(&mut self, at: usize, node: Node, yes: usize, no: usize) {
         if let Some(place) = self.nodes.get_mut(at)
             && (yes != node.yes || no != node.no)
@@ -185,14 +187,14 @@ impl<A: Allocator + Clone> Threading<A> {
         }
     }
 
-    /// Leads the edge of a node on that isn't a test, where a run with this knowledge goes on from it. What
-    /// just goes on must be next, and may have to stand there once more: no edge is led to it.
+    /// Leads on the edge of a node that isn't a test. No edge is led to a node that is none either,
+    /// since that would have to stand there once more.
     fn lead_on(&mut self, at: usize, node: Node, mut known: Known) -> Result<(), AllocError> {
         let reads = self.reads(&known, node.yes);
-        known.facts.keep_of_use(&reads);
+        known.facts.keep_useful(&reads);
         let mut to = node.yes;
-        if !self.ends(to) && self.may_pass(&known, to) {
-            to = self.led(&known, to)?;
+        if !self.ends_at(to) && self.may_pass(&known, to) {
+            to = self.led_to(&known, to)?;
         }
         if self
             .nodes
@@ -215,12 +217,12 @@ impl<A: Allocator + Clone> Threading<A> {
         };
         match node.flow() {
             Flow::Ends => Ok(()),
-            Flow::Goes => self.lead_on(at, node, known.following(node)),
+            Flow::Goes => self.lead_on(at, node, known.after_node(node)),
             Flow::Branches => self.lead_test(at, node, &known),
         }
     }
 
-    /// Leads all edges on. Returns where a run begins.
+    /// Leads all edges on. Returns the node where runs begin.
     fn lead_all(&mut self) -> Result<usize, AllocError> {
         let entry = self.lead_start(&AT_START, 0)?;
         for at in 0..self.nodes.len() {
@@ -230,16 +232,16 @@ impl<A: Allocator + Clone> Threading<A> {
     }
 }
 
-/// The graph with each edge led on past what is decided, and past some tests that aren't. Its
-/// edges lead on.
-pub(crate) fn threaded<A: Allocator + Clone>(
+/// The graph with each edge led on past what is decided, and past `splits` tests that aren't, one
+/// on a side of the other. Its edges lead to later nodes.
+pub(crate) fn thread_edges<A: Allocator + Clone>(
     alloc: A,
     nodes: Vec<Node, A>,
     splits: usize,
 ) -> Result<Vec<Node, A>, AllocError> {
     let mut threading = Threading {
         alloc: alloc.clone()?,
-        lives: lives(alloc.clone()?, &nodes)?,
+        lives: lives_of_graph(alloc.clone()?, &nodes)?,
         pieces: pieces_for_all(alloc.clone()?)?,
         waiting: Vec::new(alloc.clone()?),
         slots: vec![in alloc.clone()?; NOWHERE; nodes.len()]?,
@@ -252,5 +254,5 @@ pub(crate) fn threaded<A: Allocator + Clone>(
     if entry == 0 && !threading.is_changed {
         return Ok(threading.nodes);
     }
-    ordered(alloc, &threading.nodes, entry)
+    order_nodes(alloc, &threading.nodes, entry)
 }

@@ -1,6 +1,7 @@
-//! The old run on its way to where the new one is, by what is known.
+//! The old run on its way to what the next instruction of the new one replaces, by what is known.
+//! It is the search for what `flt_opt::walk` then checks.
 
-use crate::graph::following;
+use crate::graph::place_after;
 use crate::known::{Facts, loads, registers_in_both};
 use crate::rules::rule_at;
 use flt_bpf::Wide;
@@ -11,10 +12,10 @@ use flt_opt::{
 };
 use std::alloc::Allocator;
 
-/// How many instructions are passed at most.
+/// How many instructions are passed at most, on all ways together.
 const FUEL: usize = 2048;
 
-/// How many tests that aren't decided are passed, one on a side of the other.
+/// How many tests that aren't decided are passed at most, one on a side of the other.
 const SPLITS: usize = 12;
 
 /// The same on the way to a test, which may as well be the new code's own.
@@ -23,8 +24,8 @@ const FEW_SPLITS: usize = 3;
 /// How many instructions are passed on that way from a test on that isn't decided.
 const LITTLE_FUEL: usize = 64;
 
-/// On which sides of the first tests a goal is looked for: a bit for a test, from the last one. Then
-/// it goes on along the side that comes last.
+/// On which sides of the first tests a goal is looked for: a bit for a test, from the last one.
+/// Then it goes on along the side that comes last.
 const SIDES: [u8; 8] = [7, 0, 5, 2, 1, 6, 3, 4];
 
 /// How many bits these have.
@@ -78,6 +79,8 @@ pub(crate) fn both_in_both(one: &Both, other: &Both) -> Both {
 }
 
 impl<A: Allocator> Walker<'_, A> {
+    /// Whether the old run is where it has to come: some rule allows the new code's instruction
+    /// there.
     fn is_goal(&self, way: &Way, insn: Wide) -> bool {
         let rejects = matches!(decode(insn.code), Some(Operation::ReturnConstant)) && insn.k == 0;
         let here = &way.here;
@@ -86,8 +89,8 @@ impl<A: Allocator> Walker<'_, A> {
             && rule_at(self.new, self.old, here.old, &here.both).is_some()
     }
 
-    /// After an operation that is no test.
-    fn following(&self, way: &Way, operation: Operation, k: u32) -> Step {
+    /// How the old run goes on after an operation that is no test.
+    fn after_operation(&self, way: &Way, operation: Operation, k: u32) -> Step {
         let here = &way.here;
         let term = asked(operation, k, here.both.old);
         let there = loads(operation) && is_there(term, self.facts.as_slice(), &here.both);
@@ -97,7 +100,7 @@ impl<A: Allocator> Walker<'_, A> {
         }
         Step::To(Way {
             here: Arrival {
-                old: following(here.old, 0),
+                old: place_after(here.old, 0),
                 both: after_old(operation, k, here.both),
             },
             may_fail: way.may_fail || !succeeds,
@@ -105,16 +108,17 @@ impl<A: Allocator> Walker<'_, A> {
         })
     }
 
-    /// A way on a side of a test.
+    /// The way on the side of a test.
     fn on_side(&self, way: &Way, insn: Wide, holds: bool) -> Way {
         let skipped = if holds { insn.yes } else { insn.no };
         let here = Arrival {
-            old: following(way.here.old, skipped),
+            old: place_after(way.here.old, skipped),
             ..way.here
         };
         Way { here, ..*way }
     }
 
+    /// How the old run goes on after a test, where what is known decides it.
     fn after_test(&self, way: &Way, insn: Wide, operation: Operation) -> Step {
         let knowledge = Knowledge {
             facts: self.facts.as_slice(),
@@ -130,18 +134,19 @@ impl<A: Allocator> Walker<'_, A> {
         }
     }
 
+    /// How the old run goes on after an instruction.
     fn step(&self, way: &Way, insn: Wide) -> Step {
         match decode(insn.code) {
             None | Some(Operation::ReturnConstant | Operation::ReturnAccumulator) => Step::Ends,
             Some(operation @ Operation::JumpIf(_, _)) => self.after_test(way, insn, operation),
             Some(Operation::Jump) => Step::To(Way {
                 here: Arrival {
-                    old: following(way.here.old, insn.k),
+                    old: place_after(way.here.old, insn.k),
                     ..way.here
                 },
                 ..*way
             }),
-            Some(operation) => self.following(way, operation, insn.k),
+            Some(operation) => self.after_operation(way, operation, insn.k),
         }
     }
 
@@ -163,7 +168,7 @@ impl<A: Allocator> Walker<'_, A> {
         None
     }
 
-    /// A way on a side of a test that isn't decided, with what the test shows there.
+    /// The way on the side of a test that isn't decided, with what the test shows there.
     fn learn(&self, way: &Way, holds: bool) -> Way {
         let Some(insn) = self.old.get(way.here.old).copied() else {
             return *way;
@@ -181,7 +186,8 @@ impl<A: Allocator> Walker<'_, A> {
         }
     }
 
-    /// The first place from a test on that may be the goal, on these sides of the next ones.
+    /// The first place from a test on that may be the goal, on the sides of the next tests that the
+    /// bits of `sides` tell.
     fn find_goal(&mut self, from: Way, sides: u8) -> Option<usize> {
         let mut way = from;
         let mut tests = 0;
@@ -197,13 +203,13 @@ impl<A: Allocator> Walker<'_, A> {
         None
     }
 
-    /// The new code's instruction is a test.
+    /// Whether the new code's instruction is a test.
     fn is_to_test(&self) -> bool {
         matches!(decode(self.new.code), Some(Operation::JumpIf(_, _)))
     }
 
-    /// Walks from a test on to a place that is found on the sides of the next ones.
-    fn go_somewhere(&mut self, way: Way) -> Option<Arrival> {
+    /// Walks from a test on to one of the places that may be the goal.
+    fn walk_to_some_goal(&mut self, way: Way) -> Option<Arrival> {
         let mut missed = None;
         let mut splits = SPLITS;
         if self.is_to_test() {
@@ -278,8 +284,8 @@ fn met_by(met: Option<Arrival>, one: &Arrival) -> Arrival {
     }
 }
 
-/// Where the old run reaches what an instruction of the new code replaces.
-pub(crate) fn walked<A: Allocator>(
+/// Where the old run reaches what an instruction of the new code replaces, if it does.
+pub(crate) fn walk_to_replaced<A: Allocator>(
     new: Wide,
     old: &[Wide],
     facts: &Facts,
@@ -306,5 +312,5 @@ pub(crate) fn walked<A: Allocator>(
     if is_goal {
         return Some(way.here);
     }
-    walker.go_somewhere(way)
+    walker.walk_to_some_goal(way)
 }

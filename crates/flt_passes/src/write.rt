@@ -1,4 +1,5 @@
-//! The code of a graph.
+//! The code of a graph, from its end to its beginning. What isn't a test needs the node next to it,
+//! where it goes on: where that stands elsewhere, it is written once more.
 
 use crate::graph::{Flow, NOWHERE, Node};
 use crate::order::entry_at;
@@ -16,7 +17,8 @@ struct Writer<'a, A: Allocator> {
     most: usize,
 }
 
-/// How many instructions stand between two places.
+/// How many instructions stand between two places, which count from the end; `None` if `to` isn't
+/// placed.
 fn distance(from: usize, to: usize) -> Option<u32> {
     if to == 0 || from < to {
         return None;
@@ -25,19 +27,22 @@ fn distance(from: usize, to: usize) -> Option<u32> {
 }
 
 impl<A: Allocator + Clone> Writer<'_, A> {
+    /// The node with an index, if there is one.
     fn node(&self, at: usize) -> Option<Node> {
         self.nodes.get(at).copied()
     }
 
+    /// The place of a node, from the end, or 0 where it has none yet.
     fn place(&self, at: usize) -> usize {
         self.places.get(at).copied().unwrap_or(0)
     }
 
+    /// Whether a node stands first in the code so far.
     fn is_next(&self, at: usize) -> bool {
         self.place(at) == self.backwards.len() && self.place(at) != 0
     }
 
-    /// A node's instruction, where the code that is there can go on after it.
+    /// The instruction of a node, where the code so far has what it goes on to.
     fn insn(&self, node: Node) -> Option<Wide> {
         let top = self.backwards.len();
         let (yes, no) = match node.flow() {
@@ -57,8 +62,8 @@ impl<A: Allocator + Clone> Writer<'_, A> {
         })
     }
 
-    /// Puts a node's instruction in front, where it can stand there.
-    fn put(&mut self, at: usize) -> Result<(), AllocError> {
+    /// Puts the instruction of a node in front, where it can stand there.
+    fn put_node(&mut self, at: usize) -> Result<(), AllocError> {
         let insn = self.node(at).and_then(|node| self.insn(node));
         let mut place = 0;
         if let Some(insn) = insn
@@ -73,7 +78,7 @@ impl<A: Allocator + Clone> Writer<'_, A> {
         Ok(())
     }
 
-    /// The nodes from one on to the first that doesn't just go on.
+    /// The nodes from one on up to the first that is a test or a return.
     fn tail(&self, from: usize, alloc: A) -> Result<Vec<usize, A>, AllocError> {
         let mut tail = Vec::new(alloc);
         let mut at = from;
@@ -90,7 +95,7 @@ impl<A: Allocator + Clone> Writer<'_, A> {
         Ok(tail)
     }
 
-    /// Puts a node's instruction in front, and in between once more those that have to be next.
+    /// Puts the instruction of a node in front, and between once more those that have to be next.
     fn put_before(&mut self, at: usize, alloc: A) -> Result<(), AllocError> {
         if let Some(node) = self.node(at)
             && node.flow() == Flow::Goes
@@ -98,14 +103,14 @@ impl<A: Allocator + Clone> Writer<'_, A> {
         {
             let tail = self.tail(node.yes, alloc)?;
             for again in tail.iter().rev() {
-                self.put(*again)?;
+                self.put_node(*again)?;
             }
         }
-        self.put(at)
+        self.put_node(at)
     }
 }
 
-/// For each node the last one that just goes on there.
+/// For each node the last one that leads to it and is no test, or `NOWHERE`.
 fn last_before<A: Allocator>(alloc: A, nodes: &[Node]) -> Result<Vec<usize, A>, AllocError> {
     let mut before = vec![in alloc; NOWHERE; nodes.len()]?;
     for (at, node) in nodes.iter().enumerate() {
@@ -119,8 +124,8 @@ fn last_before<A: Allocator>(alloc: A, nodes: &[Node]) -> Result<Vec<usize, A>, 
 }
 
 impl<A: Allocator + Clone> Writer<'_, A> {
-    /// Puts the instructions that just go on to a node in front of it, one before the other.
-    fn put_those_before(
+    /// Puts the nodes that lead to one and are no tests in front of it, one before the other.
+    fn put_nodes_before(
         &mut self,
         at: usize,
         before: &[usize],
@@ -140,19 +145,21 @@ impl<A: Allocator + Clone> Writer<'_, A> {
         Ok(())
     }
 
+    /// Puts all nodes, from the last to the first.
     fn put_all(&mut self, before: &[usize], alloc: A) -> Result<(), AllocError> {
         for at in (0..self.nodes.len()).rev() {
             if self.place(at) == 0 {
                 self.put_before(at, alloc.clone()?)?;
-                self.put_those_before(at, before, alloc.clone()?)?;
+                self.put_nodes_before(at, before, alloc.clone()?)?;
             }
         }
         Ok(())
     }
 }
 
-/// The code of a graph, whose edges lead on, if it has at most `most` instructions.
-pub(crate) fn written<A: Allocator + Clone>(
+/// The code of a graph whose edges lead to later nodes, or `None` where it would have more than
+/// `most` instructions.
+pub(crate) fn write_code<A: Allocator + Clone>(
     alloc: A,
     nodes: &[Node],
     most: usize,

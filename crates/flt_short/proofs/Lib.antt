@@ -1,4 +1,6 @@
 pub mod Basics
-pub mod Reloads
-pub mod Passing
+pub mod Flow
+pub mod Knowing
+pub mod Walks
+pub mod Threading
 pub mod Likeness

@@ -1,6 +1,6 @@
 -- Code that is alike has the answers of the old code, and a run of it meets no more instructions.
 use Rattle.std.proofs.Common.{◌≡◌, ℕ, zero, suc, ◌+◌, ◌-◌, ◌%◌, ◌^◌, ◌<◌, ◌≤◌, List, [], ◌∷◌, length, drop, Bool, true, false, Option, Some, None, refl, sym, ap, ◌∙◌, subst, arith}
-use Rattle.std.specs.Prelude.{◌≢◌, All, ◌==◌, nat_lt, nat_le, ◌&&◌, ◌||◌, not, if◌then◌else◌, slice_get, slice_set, bit_and}
+use Rattle.std.specs.Prelude.{◌≢◌, All, count_by, ◌==◌, nat_lt, nat_le, ◌&&◌, ◌||◌, not, if◌then◌else◌, slice_get, slice_set, bit_and}
 use Rattle.std.specs.Option.{option_map}
 use Rattle.std.proofs.lemmas.Bool.Decides.{nat_tests}
 use Rattle.std.proofs.lemmas.Option.{slice_get_within, get_or_from_slice_get}
@@ -18,12 +18,13 @@ use Rattle.flt_bpf.specs.declared.operation.Width.TheVariants.{Word, HalfWord, B
 use Rattle.flt_bpf.specs.Instructions.{code_of, operation_of}
 use Rattle.flt_bpf.specs.Machine.{Next, Goes, Ends, Lost, step, does, does_if_known, into, word_into, into_word, test_holds, field, compute, header_length, Answered, run_from, progress_after, step_if_there, machine, start}
 use Rattle.flt_short.specs.declared.alike.Landing.{Landing}
-use Rattle.flt_bpf.specs.Valid.{IsValid}
-use Rattle.flt_bpf.specs.Layout.{JUMP}
+use Rattle.flt_bpf.specs.Check.{IsValidUnlessLong}
+use Rattle.flt_bpf.specs.Layout.{JUMP, is_branch}
 use Rattle.flt_short.specs.Alike.{Shortens}
 use Rattle.flt_short.specs.inside.Alike.{MASK, EQUAL, reads_accumulator, reads_index, implies, landing_fits_at, landing_fits, goes_on, same_step, one_test, ANY_BIT, direct_code, is_number, direct_load, is_indirect, adds_header, loads_alike, header_load, code_from, stands_at, stands, are_alike, begins}
 use Rattle.flt_bpf.specs.Answer.{answer_of, answer_after}
-use Rattle.flt_bpf.proofs.Suffix.{answer_drop, machine_answers}
+use Rattle.flt_bpf.proofs.Checking.{parts}
+use Rattle.flt_bpf.proofs.Suffix.{answer_drop, machine_answers, valid_if_short}
 use Rattle.flt_short.proofs.Basics.{both_true}
 use Rattle.flt_short.proofs.Basics.{tail}
 
@@ -549,8 +550,8 @@ module _ (p : List ℕ) (n : ℕ) where
       here c is ls l i (all_land c is ls (omega arith) q.1) some (code_from c l.place) refl (or_right (l.place == 0) (stands_at (code_from c l.place) l i is ls) none here_q)
 
   -- a run's answer and count are those of the code
-  record Met (prog : List Insn) (s : State) (place count a m : ℕ) : Type 0 where
-    answer : answer_of (drop place prog) p n 0 s ≡ Some a
+  pub record Met (prog : List Insn) (s : State) (place count a m : ℕ) : Type 0 where
+    pub answer : answer_of (drop place prog) p n 0 s ≡ Some a
     steps : m ≡ count + steps_of (drop place prog) p n 0 s
 
   met_next : (prog : List Insn) (left place count : ℕ) (s : State) (a m : ℕ) → ((k : ℕ) (u : State) → run_from prog p n left (place + 1 + k) u (count + 1) ≡ Answered a m → Met prog u (place + 1 + k) (count + 1) a m) → (i : Insn) (o : Next) → slice_get prog place ≡ Some i → step i p n s ≡ o → progress_after (run_from prog p n left) place count o ≡ Answered a m → Met prog s place count a m
@@ -583,7 +584,7 @@ module _ (p : List ℕ) (n : ℕ) where
   met_there prog left place count s a m later None g f = cc
   met_there prog left place count s a m later (Some i) g f = met_next prog left place count s a m later i (step i p n s) g refl f
 
-  met_of : (prog : List Insn) (left place count : ℕ) (s : State) (a m : ℕ) → run_from prog p n left place s count ≡ Answered a m → Met prog s place count a m
+  pub met_of : (prog : List Insn) (left place count : ℕ) (s : State) (a m : ℕ) → run_from prog p n left place s count ≡ Answered a m → Met prog s place count a m
   met_of prog zero place count s a m e = cc
   met_of prog (suc left) place count s a m e =
       met_there prog left place count s a m (λ k u f. met_of prog left (place + 1 + k) (count + 1) u a m f) (slice_get prog place) refl e
@@ -618,11 +619,12 @@ module _ (p : List ℕ) (n : ℕ) where
       let inside = c.upper_bound in
       record { met = c.met; answered = c.answered; upper_bound = omega arith; inside = omega arith }
 
-pub replaced : (new old : List Insn) (ls : List Landing) → length new ≤ length old → length ls ≡ length old → begins ls (length new) ≡ true → are_alike new old ls ≡ true → All (λ i. i.code ≢ JUMP) new → IsValid new → Shortens new old
-replaced new old ls short same b e free valid =
+pub replaced : (new old : List Insn) (ls : List Landing) → length new ≤ length old → length ls ≡ length old → begins ls (length new) ≡ true → are_alike new old ls ≡ true → count_by (λ i. is_branch (operation_of i.code)) new ≤ count_by (λ i. is_branch (operation_of i.code)) old → All (λ i. i.code ≢ JUMP) new → IsValidUnlessLong new → Shortens new old
+replaced new old ls short same b e few free valid =
     record {
       shorter = short;
-      valid = λ v. valid;
+      fewer = few;
+      valid = λ v. valid_if_short new valid (omega (arith, short, (parts old v).short));
       runs = λ p n answer count m. let r = shortened p n new old ls answer count same b e m in record { count = r.met; answered = r.answered; upper_bound = r.upper_bound; inside = r.inside };
       needed = λ h. record { each = λ place jump g j. absurd (free place jump (slice_get_within new place jump g) (ap (λ i. i.code) (get_or_from_slice_get new place jump jump g) ∙ j)) };
       no_jump = λ h. free;
@@ -633,6 +635,7 @@ pub itself : (old : List Insn) → Shortens old old
 itself old =
     record {
       shorter = omega arith;
+      fewer = omega arith;
       valid = λ v. v;
       runs = λ p n answer count m. let k = met_of p n old (length old) 0 0 start answer count m in let steps = k.steps in let c = machine_answers old p n answer k.answer in let r = met_of p n old (length old) 0 0 start answer c.met c.answered in let again = r.steps in let upper_bound = c.upper_bound in record { count = c.met; answered = c.answered; upper_bound = omega arith; inside = omega arith };
       needed = λ h. h;

@@ -1,10 +1,11 @@
 -- How the instructions of a program replace those of another one that does the same with more of
 -- them.
-use Rattle.std.specs.Prelude.{◌≡◌, ℕ, ◌≤◌, List, length}
+use Rattle.std.specs.Prelude.{◌≡◌, ℕ, ◌≤◌, List, length, count_by}
 use Rattle.flt_bpf.specs.declared.insn.Insn.{Insn}
 use Rattle.flt_bpf.specs.Machine.{machine, Answered}
 use Rattle.flt_bpf.specs.Valid.{IsValid}
-use Rattle.flt_bpf.specs.Layout.{HasNoJump, JumpsAreNeeded}
+use Rattle.flt_bpf.specs.Instructions.{operation_of}
+use Rattle.flt_bpf.specs.Layout.{is_branch, HasNoJump, JumpsAreNeeded}
 
 -- a run reaches this answer in at most this many instructions
 pub record Comes (prog : List Insn) (p : List ℕ) (n answer most : ℕ) : Type 0 where
@@ -13,10 +14,12 @@ pub record Comes (prog : List Insn) (p : List ℕ) (n answer most : ℕ) : Type 
   pub upper_bound : count ≤ most
   pub inside : count ≤ length prog
 
--- a program in place of an old one: it is no longer, and on each packet it gives the same answer in
--- no more instructions
+-- a program in place of an old one: it is no longer, has no more tests, and on each packet it gives
+-- the same answer in no more instructions
 pub record Shortens (new old : List Insn) : Type 0 where
   pub shorter : length new ≤ length old
+  pub fewer : count_by (λ i. is_branch (operation_of i.code)) new
+      ≤ count_by (λ i. is_branch (operation_of i.code)) old
   pub valid : IsValid old → IsValid new
   pub runs : (p : List ℕ) (n answer count : ℕ)
       → machine old p n (length old) ≡ Answered answer count → Comes new p n answer count

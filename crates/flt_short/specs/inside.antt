@@ -1,3 +1,4 @@
 -- What no promise rests on: it helps the crate's own functions and proofs, and those of crates beside it.
 pub mod Alike
-pub mod Reload
+pub mod Facts
+pub mod Threads

@@ -11,9 +11,9 @@ ghost use Rattle.flt_short.specs.inside.Alike.{is_indirect, adds_header, loads_a
 ghost use Rattle.flt_short.specs.inside.Alike.{stands, are_alike, begins, MASK, EQUAL, ANY_BIT};
 ghost use Rattle.flt_bpf.specs.Layout.{JUMP};
 
-use flt_bpf::insn::Insn;
+use crate::valid::{are_valid, count_tests};
+use flt_bpf::Wide;
 use flt_bpf::operation::{AluOperation, Operand, Operation, Register, Source, Test, decode};
-use flt_bpf::program::check_insns;
 
 /// Where a new program does what the old one does from an instruction on, and what is read there
 /// before something else is put into it: so much is the same in both.
@@ -118,9 +118,9 @@ fn fits(following: &[Landing], way: Way, accumulator: bool, index: bool) -> bool
 /// Both programs go on alike after an instruction that both have.
 fn goes_on(
     operation: Operation,
-    new: Insn,
+    new: Wide,
     landing: Landing,
-    old: Insn,
+    old: Wide,
     following: &[Landing],
 ) -> bool
     ensures { result ≡ goes_on operation new landing old following.now }
@@ -134,13 +134,13 @@ fn goes_on(
         Operation::Jump => false,
         Operation::JumpIf(_, _) => {
             let yes = Way {
-                old: usize::from(old.jt),
-                new: usize::from(new.jt),
+                old: old.yes as usize,
+                new: new.yes as usize,
                 place,
             };
             let no = Way {
-                old: usize::from(old.jf),
-                new: usize::from(new.jf),
+                old: old.no as usize,
+                new: new.no as usize,
                 place,
             };
             fits(following, yes, accumulator, index) && fits(following, no, accumulator, index)
@@ -161,7 +161,7 @@ fn goes_on(
 
 /// The instruction of the new program is that of the old one.
 #[tactic(auto, unfolding(crate::specs::inside::Alike::same_step))]
-fn same_step(new: Insn, landing: Landing, old: Insn, following: &[Landing]) -> bool
+fn same_step(new: Wide, landing: Landing, old: Wide, following: &[Landing]) -> bool
     ensures { result ≡ same_step (operation_of old.code) new landing old following.now }
 {
     match decode(old.code) {
@@ -176,7 +176,7 @@ fn same_step(new: Insn, landing: Landing, old: Insn, following: &[Landing]) -> b
 }
 
 /// A test of bits means a mask, and a test of whether what is left is 0.
-fn tests_bits(new: Insn, mask: Insn, test: Insn) -> bool
+fn tests_bits(new: Wide, mask: Wide, test: Wide) -> bool
     ensures { result ≡ ((mask.code == MASK && test.code == EQUAL)
         && (test.k == 0 && (new.code == ANY_BIT && mask.k == new.k))) }
 {
@@ -189,7 +189,7 @@ fn tests_bits(new: Insn, mask: Insn, test: Insn) -> bool
 
 /// It is one test of bits for a mask and a test of what is left for 0.
 #[tactic(auto, unfolding(crate::specs::inside::Alike::one_test))]
-fn one_test(new: Insn, landing: Landing, old: Insn, after: &[Insn], following: &[Landing]) -> bool
+fn one_test(new: Wide, landing: Landing, old: Wide, after: &[Wide], following: &[Landing]) -> bool
     ensures { result ≡ one_test new landing old after.now following.now }
 {
     match after {
@@ -197,13 +197,13 @@ fn one_test(new: Insn, landing: Landing, old: Insn, after: &[Insn], following: &
         [test, ..] => {
             let place = landing.place;
             let zero = Way {
-                old: 1 + usize::from(test.jt),
-                new: usize::from(new.jf),
+                old: 1 + test.yes as usize,
+                new: new.no as usize,
                 place,
             };
             let other = Way {
-                old: 1 + usize::from(test.jf),
-                new: usize::from(new.jt),
+                old: 1 + test.no as usize,
+                new: new.yes as usize,
                 place,
             };
             tests_bits(new, old, *test)
@@ -227,10 +227,10 @@ fn is_direct(indirect: u16, code: u16) -> bool
 /// It is one load for a number that goes to X by A, and a load at X.
 #[tactic(auto, unfolding(crate::specs::inside::Alike::direct_load))]
 fn direct_load(
-    new: Insn,
+    new: Wide,
     landing: Landing,
-    old: Insn,
-    after: &[Insn],
+    old: Wide,
+    after: &[Wide],
     following: &[Landing],
 ) -> bool
     ensures { result ≡ direct_load new landing old after.now following.now }
@@ -253,7 +253,7 @@ fn direct_load(
 }
 
 /// A number and the header length are added in A, and the sum goes to X.
-pub fn adds_header(number: Insn, length: Insn, add: Insn, to_index: Insn) -> bool
+pub fn adds_header(number: Wide, length: Wide, add: Wide, to_index: Wide) -> bool
     ensures { result ≡ adds_header number length add to_index }
 {
     (number.code == Operation::Load(Register::Accumulator, Source::Immediate).code()
@@ -263,7 +263,7 @@ pub fn adds_header(number: Insn, length: Insn, add: Insn, to_index: Insn) -> boo
 }
 
 /// Two loads are the same header's length, and as many bytes past X.
-fn loads_alike(old_length: Insn, new_length: Insn, old_load: Insn, new_load: Insn) -> bool
+fn loads_alike(old_length: Wide, new_length: Wide, old_load: Wide, new_load: Wide) -> bool
     ensures { result ≡ loads_alike old_length new_length old_load new_load }
 {
     (old_length.code == new_length.code && old_length.k == new_length.k)
@@ -281,10 +281,10 @@ pub fn is_indirect(code: u16) -> bool
 /// goes to X by A, and a load at X.
 #[tactic(auto, unfolding(crate::specs::inside::Alike::header_load))]
 fn header_load(
-    new: &[Insn],
+    new: &[Wide],
     landing: Landing,
-    old: Insn,
-    after: &[Insn],
+    old: Wide,
+    after: &[Wide],
     following: &[Landing],
 ) -> bool
     ensures { result ≡ header_load new.now landing old after.now following.now }
@@ -306,7 +306,7 @@ fn header_load(
 }
 
 /// The code does at a landing, if it is one, what an instruction and those after it do.
-fn stands(code: &[Insn], landing: Landing, old: Insn, after: &[Insn], following: &[Landing]) -> bool
+fn stands(code: &[Wide], landing: Landing, old: Wide, after: &[Wide], following: &[Landing]) -> bool
     ensures { result ≡ stands code.now landing old after.now following.now }
 {
     if landing.place == 0 {
@@ -329,7 +329,7 @@ fn stands(code: &[Insn], landing: Landing, old: Insn, after: &[Insn], following:
 }
 
 /// The code does at each landing what the old code does there.
-fn are_alike(code: &[Insn], old: &[Insn], landings: &[Landing]) -> bool
+fn are_alike(code: &[Wide], old: &[Wide], landings: &[Landing]) -> bool
     requires { length landings.now ≡ length old.now }
     ensures { result ≡ are_alike code.now old.now landings.now }
 {
@@ -355,15 +355,15 @@ fn begins(landings: &[Landing], len: usize) -> bool
     }
 }
 
-fn has_no_jump(code: &[Insn]) -> bool
+fn has_no_jump(code: &[Wide]) -> bool
     ensures { IsTrue result ↔ All (λ i. i.code ≢ JUMP) code.now }
 {
     code.iter().all(|insn| insn.code != 5)
 }
 
-/// A program may replace an old one: it does the same by its landings, is valid and no longer,
-/// and has no jump.
-pub fn replaces(code: &[Insn], old: &[Insn], landings: &[Landing]) -> bool
+/// A program may replace an old one: it does the same by its landings, breaks no rule, has no more
+/// instructions and no more tests, and has no jump.
+pub fn replaces(code: &[Wide], old: &[Wide], landings: &[Landing]) -> bool
     ensures { IsTrue result → Shortens code.now old.now }
 {
     if code.len() > old.len() || landings.len() != old.len() {
@@ -372,5 +372,8 @@ pub fn replaces(code: &[Insn], old: &[Insn], landings: &[Landing]) -> bool
     if !begins(landings, code.len()) || !are_alike(code, old, landings) {
         return false;
     }
-    has_no_jump(code) && check_insns(code).is_ok()
+    if count_tests(code) > count_tests(old) {
+        return false;
+    }
+    has_no_jump(code) && are_valid(code)
 }

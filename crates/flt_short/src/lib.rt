@@ -1,10 +1,12 @@
-//! A program of fewer instructions for another one: jumps go past loads of what is in A already,
+//! Code of fewer instructions for other code: tests go on as far as what is known there decides,
 //! and one instruction replaces several that do the same.
 #![tactic(auto)]
 
 mod alike;
-mod reload;
+mod facts;
 mod shorten;
+mod thread;
+mod valid;
 
-pub use reload::pass_loads;
 pub use shorten::shortened;
+pub use thread::threaded;

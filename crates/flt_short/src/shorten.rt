@@ -1,4 +1,4 @@
-//! The same program with fewer instructions: those that no run reaches are left out, a block that
+//! The same code with fewer instructions: those that no run reaches are left out, a block that
 //! is there already isn't emitted again, and one instruction replaces several that do the same.
 
 ghost use Rattle.std.specs.Prelude.{IfOk};
@@ -9,12 +9,15 @@ use crate::alike::{
     Landing, adds_header, is_indirect, reads_accumulator, reads_index, replaces, sets_accumulator,
     sets_index,
 };
-use flt_bpf::insn::Insn;
+use flt_bpf::Wide;
 use flt_bpf::operation::{AluOperation, Operand, Operation, Register, Source, Test, decode};
 use std::alloc::{AllocError, Allocator};
 
-/// The greatest offset of a conditional jump.
-const NEAR: usize = 255;
+/// How far from the beginning a test is looked for that is there already.
+const NEAREST: usize = 256;
+
+/// In longer code tests aren't shared, since the optimiser makes less of it then.
+const MERGED: usize = 256;
 
 const NOWHERE: Landing = Landing {
     place: 0,
@@ -23,10 +26,10 @@ const NOWHERE: Landing = Landing {
 };
 
 /// Where no instruction stands yet.
-const EMPTY: Insn = Insn {
+const EMPTY: Wide = Wide {
     code: 0,
-    jt: 0,
-    jf: 0,
+    yes: 0,
+    no: 0,
     k: 0,
 };
 
@@ -55,44 +58,42 @@ fn following(at: usize, offset: usize) -> usize {
 }
 
 /// The run doesn't just go on at the next instruction.
-fn ends_block(insn: Insn) -> bool {
+fn ends_block(insn: Wide) -> bool {
     matches!(
         decode(insn.code),
         Some(Operation::JumpIf(_, _) | Operation::ReturnConstant | Operation::ReturnAccumulator)
     )
 }
 
-/// A conditional jump with these offsets, if it reaches so far.
-fn reaching(insn: Insn, yes: usize, no: usize) -> Option<Insn> {
-    if yes <= NEAR && no <= NEAR {
-        let (jt, jf) = (yes as u8, no as u8);
-        Some(Insn { jt, jf, ..insn })
-    } else {
-        None
+/// A test with these offsets, if they are so few.
+fn reaching(insn: Wide, yes: usize, no: usize) -> Option<Wide> {
+    match (u32::try_from(yes), u32::try_from(no)) {
+        (Ok(yes), Ok(no)) => Some(Wide { yes, no, ..insn }),
+        _ => None,
     }
 }
 
 /// An instruction put `farther` instructions earlier, if its offsets reach so far.
-fn in_front(insn: Insn, farther: usize) -> Option<Insn> {
+fn in_front(insn: Wide, farther: usize) -> Option<Wide> {
     match decode(insn.code) {
         Some(Operation::JumpIf(_, _)) => reaching(
             insn,
-            farther.saturating_add(usize::from(insn.jt)),
-            farther.saturating_add(usize::from(insn.jf)),
+            farther.saturating_add(insn.yes as usize),
+            farther.saturating_add(insn.no as usize),
         ),
         _ => Some(insn),
     }
 }
 
 /// They are a mask, and a test of what is left for 0.
-fn is_mask(mask: Insn, test: Insn) -> bool {
+fn is_mask(mask: Wide, test: Wide) -> bool {
     mask.code == Operation::Compute(AluOperation::And, Operand::Constant).code()
         && test.code == Operation::JumpIf(Test::Equal, Operand::Constant).code()
         && test.k == 0
 }
 
 /// They are a number in A that goes to X.
-fn is_copied(number: Insn, copy: Insn) -> bool {
+fn is_copied(number: Wide, copy: Wide) -> bool {
     number.code == Operation::Load(Register::Accumulator, Source::Immediate).code()
         && copy.code == Operation::CopyToIndex.code()
 }
@@ -109,25 +110,26 @@ fn direct_code(indirect: u16) -> Option<u16> {
 /// too far, an instruction lands nowhere, and then neither do those that go on there.
 #[derive(Drop)]
 struct Shortening<'a> {
-    insns: &'a [Insn],
+    insns: &'a [Wide],
     landings: &'a mut [Landing],
     /// The new code, from its last instruction to its first. It has room for as many as the old
     /// one; a program that needs more isn't taken.
-    backwards: &'a mut [Insn],
+    backwards: &'a mut [Wide],
     len: usize,
+    /// A test that is there already isn't put again.
     merges: bool,
 }
 
 impl Shortening<'_> {
     /// One more instruction, in front of the others.
-    fn push(&mut self, insn: Insn) {
+    fn push(&mut self, insn: Wide) {
         if let Some(free) = self.backwards.get_mut(self.len) {
             *free = insn;
             self.len = self.len.saturating_add(1);
         }
     }
 
-    fn insn_at(&self, at: usize) -> Option<Insn> {
+    fn insn_at(&self, at: usize) -> Option<Wide> {
         self.insns.get(at).copied()
     }
 
@@ -159,8 +161,8 @@ impl Shortening<'_> {
             if self.landing_at(at).place > 0 {
                 match decode(insn.code) {
                     Some(Operation::JumpIf(_, _)) => {
-                        self.reach(following(at, usize::from(insn.jt)));
-                        self.reach(following(at, usize::from(insn.jf)));
+                        self.reach(following(at, insn.yes as usize));
+                        self.reach(following(at, insn.no as usize));
                     }
                     Some(Operation::ReturnConstant | Operation::ReturnAccumulator) => {}
                     _ => self.reach(following(at, 0)),
@@ -170,7 +172,7 @@ impl Shortening<'_> {
     }
 
     /// The instructions from a place on.
-    fn insns_from(&self, at: usize) -> &[Insn] {
+    fn insns_from(&self, at: usize) -> &[Wide] {
         match self.insns.get(at..) {
             Some(insns) => insns,
             None => &[],
@@ -178,28 +180,28 @@ impl Shortening<'_> {
     }
 
     /// One test of bits for the mask at a place, if a test for 0 is next and A isn't read after.
-    fn bits_at(&self, at: usize) -> Option<Insn> {
+    fn bits_at(&self, at: usize) -> Option<Wide> {
         let [mask, test, ..] = self.insns_from(at) else {
             return None;
         };
         if !is_mask(*mask, *test) {
             return None;
         }
-        let zero = self.landing_at(following(at, 1 + usize::from(test.jt)));
-        let other = self.landing_at(following(at, 1 + usize::from(test.jf)));
+        let zero = self.landing_at(following(at, 1 + test.yes as usize));
+        let other = self.landing_at(following(at, 1 + test.no as usize));
         if zero.accumulator || other.accumulator {
             return None;
         }
-        Some(Insn {
+        Some(Wide {
             code: Operation::JumpIf(Test::AnyBit, Operand::Constant).code(),
-            jt: test.jf,
-            jf: test.jt,
+            yes: test.no,
+            no: test.yes,
             k: mask.k,
         })
     }
 
     /// One load for the number at a place, if it is only added to the place of a load.
-    fn load_at(&self, at: usize) -> Option<Insn> {
+    fn load_at(&self, at: usize) -> Option<Wide> {
         let [number, copy, load, ..] = self.insns_from(at) else {
             return None;
         };
@@ -208,12 +210,12 @@ impl Shortening<'_> {
         }
         let code = direct_code(load.code)?;
         let k = number.k.wrapping_add(load.k);
-        Some(Insn { code, k, ..*load })
+        Some(Wide { code, k, ..*load })
     }
 
     /// The header length and a load after it for the number at a place, if it is only added to the
     /// header length for the place of a load.
-    fn header_load_at(&self, at: usize) -> Option<(Insn, Insn)> {
+    fn header_load_at(&self, at: usize) -> Option<(Wide, Wide)> {
         let [number, length, add, copy, load, ..] = self.insns_from(at) else {
             return None;
         };
@@ -224,7 +226,7 @@ impl Shortening<'_> {
             return None;
         }
         let k = number.k.wrapping_add(load.k);
-        Some((*length, Insn { k, ..*load }))
+        Some((*length, Wide { k, ..*load }))
     }
 
     /// An instruction loads a number into A.
@@ -248,28 +250,48 @@ impl Shortening<'_> {
             || (1..=4).any(|before| self.is_joined_by(at, before))
     }
 
-    /// The place of such a test with such targets, if there is one.
-    fn same_test(&self, insn: Insn, yes: usize, no: usize) -> Option<usize> {
-        let high = self.len.min(yes.min(no).saturating_add(NEAR + 1));
-        for at in (yes.max(no)..high).rev() {
-            if let Some(other) = self.backwards.get(at) {
-                let leads_there = usize::from(other.jt) == at.saturating_sub(yes)
-                    && usize::from(other.jf) == at.saturating_sub(no);
-                if leads_there && other.code == insn.code && other.k == insn.k {
-                    return Some(following(at, 0));
+    /// A test with such targets stands right in front of a place.
+    fn leads_to(&self, at: usize, yes: usize, no: usize) -> bool {
+        self.backwards.get(at).is_some_and(|other| {
+            other.yes as usize == at.saturating_sub(yes)
+                && other.no as usize == at.saturating_sub(no)
+        })
+    }
+
+    /// The instruction of the old code in front of one stands right in front of a place.
+    fn is_front_at(&self, place: usize, at: usize) -> bool {
+        match self.insn_at(at.wrapping_sub(1)) {
+            None => false,
+            Some(front) => self.is_at(place, front),
+        }
+    }
+
+    /// The place of such a test with such targets, if there is one. One after the instruction that
+    /// is in front of this one comes first, since that one is shared too.
+    fn same_test(&self, at: usize, insn: Wide, yes: usize, no: usize) -> Option<usize> {
+        let low = yes.max(no).max(self.len.saturating_sub(NEAREST));
+        let mut found = None;
+        for place in (low..self.len).rev() {
+            if self.is_at(place, insn) && self.leads_to(place, yes, no) {
+                let test = following(place, 0);
+                if self.is_front_at(test, at) {
+                    return Some(test);
+                }
+                if found.is_none() {
+                    found = Some(test);
                 }
             }
         }
-        None
+        found
     }
 
     /// The place of a test with such targets, which is put there if it can't share one.
-    fn place_test(&mut self, insn: Insn, yes: usize, no: usize) -> Option<usize> {
+    fn place_test(&mut self, at: usize, insn: Wide, yes: usize, no: usize) -> Option<usize> {
         if yes == 0 || no == 0 {
             return None;
         }
         if self.merges {
-            if let Some(place) = self.same_test(insn, yes, no) {
+            if let Some(place) = self.same_test(at, insn, yes, no) {
                 return Some(place);
             }
         }
@@ -280,10 +302,10 @@ impl Shortening<'_> {
     }
 
     /// A test, whose targets are this far past the instruction `last` of the old code.
-    fn emit_test(&mut self, at: usize, insn: Insn, last: usize) {
-        let yes = self.landing_at(following(last, usize::from(insn.jt)));
-        let no = self.landing_at(following(last, usize::from(insn.jf)));
-        let place = self.place_test(insn, yes.place, no.place);
+    fn emit_test(&mut self, at: usize, insn: Wide, last: usize) {
+        let yes = self.landing_at(following(last, insn.yes as usize));
+        let no = self.landing_at(following(last, insn.no as usize));
+        let place = self.place_test(at, insn, yes.place, no.place);
         if let (Some(operation), Some(place)) = (decode(insn.code), place) {
             self.land(at, landing_before(operation, place, next_of_test(yes, no)));
         }
@@ -326,15 +348,15 @@ impl Shortening<'_> {
         }
     }
 
-    /// The code has an instruction right in front of a place.
-    fn is_at(&self, place: usize, insn: Insn) -> bool {
+    /// The code has such an instruction, a test with any targets, right in front of a place.
+    fn is_at(&self, place: usize, insn: Wide) -> bool {
         self.backwards
             .get(place)
-            .is_some_and(|other| *other == insn)
+            .is_some_and(|other| other.code == insn.code && other.k == insn.k)
     }
 
     /// Another instruction, after which the run goes on where one of the old code lands.
-    fn emit_plain(&mut self, at: usize, insn: Insn, next: usize) {
+    fn emit_plain(&mut self, at: usize, insn: Wide, next: usize) {
         let landing = self.landing_at(next);
         let Some(operation) = decode(insn.code) else {
             return;
@@ -356,7 +378,7 @@ impl Shortening<'_> {
     }
 
     /// An instruction of the old code that no other one joins.
-    fn emit_alone(&mut self, at: usize, insn: Insn) {
+    fn emit_alone(&mut self, at: usize, insn: Wide) {
         match decode(insn.code) {
             Some(Operation::JumpIf(_, _)) => self.emit_test(at, insn, at),
             Some(operation @ (Operation::ReturnConstant | Operation::ReturnAccumulator)) => {
@@ -402,65 +424,43 @@ impl Shortening<'_> {
 
 /// Shortens the code into the space given for it, from its last instruction on. Returns how many
 /// instructions the new one has.
-fn shorten(
-    insns: &[Insn],
-    landings: &mut [Landing],
-    backwards: &mut [Insn],
-    merges: bool,
-) -> usize {
+fn shorten(insns: &[Wide], landings: &mut [Landing], backwards: &mut [Wide]) -> usize {
     let mut shortening = Shortening {
         insns,
         landings,
         backwards,
         len: 0,
-        merges,
+        merges: insns.len() <= MERGED,
     };
     shortening.read_all()
 }
 
-/// The shorter program, made in the space given for it, if it replaces the old one.
+/// The shorter code, made in the space given for it, if it replaces the old one.
 fn replacement<A: Allocator>(
-    insns: &[Insn],
+    insns: &[Wide],
     landings: &mut [Landing],
-    mut backwards: Vec<Insn, A>,
-    merges: bool,
-) -> Option<Vec<Insn, A>>
+    mut backwards: Vec<Wide, A>,
+) -> Option<Vec<Wide, A>>
     ensures { IfSome result (λ short. Shortens short.items insns.now) }
 {
-    let len = shorten(insns, landings, &mut backwards, merges);
+    let len = shorten(insns, landings, &mut backwards);
     backwards.truncate(len);
     backwards.reverse();
     replaces(&backwards, insns, landings).then_some(backwards)
 }
 
-/// The shorter program, if what was made replaces the old one.
-fn attempt<A: Allocator + Clone>(
+/// Code that replaces the old one: it gives the same answers, in no more instructions. Where it
+/// can't be made, as for code with a jump (`ja`), it is the old code.
+pub fn shortened<A: Allocator + Clone>(
     alloc: A,
-    insns: &[Insn],
-    merges: bool,
-) -> Result<Option<Vec<Insn, A>>, AllocError>
-    ensures { IfOk result
-        (λ outcome. IfSome outcome (λ short. Shortens short.items insns.now)) }
+    insns: Vec<Wide, A>,
+) -> Result<Vec<Wide, A>, AllocError>
+    ensures { IfOk result (λ short. Shortens short.items insns.items) }
 {
     let mut landings = vec![in alloc.clone()?; NOWHERE; insns.len()]?;
     let backwards = vec![in alloc; EMPTY; insns.len()]?;
-    Ok(replacement(insns, &mut landings, backwards, merges))
-}
-
-/// A program that replaces an old one: it gives the same answers, in no more instructions. Where
-/// blocks that are put once are too far for some jump, they are put where they were, and where that
-/// fails, as it does for a program with a jump (`ja`), it is the old program.
-pub fn shortened<A: Allocator + Clone>(
-    alloc: A,
-    insns: Vec<Insn, A>,
-) -> Result<Vec<Insn, A>, AllocError>
-    ensures { IfOk result (λ short. Shortens short.items insns.items) }
-{
-    if let Some(short) = attempt(alloc.clone()?, &insns, true)? {
-        return Ok(short);
+    match replacement(&insns, &mut landings, backwards) {
+        Some(short) => Ok(short),
+        None => Ok(insns),
     }
-    if let Some(short) = attempt(alloc, &insns, false)? {
-        return Ok(short);
-    }
-    Ok(insns)
 }

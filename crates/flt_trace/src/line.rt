@@ -1,4 +1,4 @@
-//! A buffer for one line.
+//! A buffer for one line of text, in place, so that no memory is taken.
 use itoa::Buffer;
 use std::marker::Model;
 
@@ -82,7 +82,7 @@ impl Line {
         }
     }
 
-    /// Appends a number below 10^10 in decimal.
+    /// Appends a number below 10^10 in decimal, of 10 digits at most.
     pub(crate) fn push_decimal(&mut self, number: u64)
         requires short { number < 10 ^ 10 }
         requires room { length self.old + 10 ≤ 80 }
@@ -93,7 +93,7 @@ impl Line {
         self.push_all(buffer.format(number).as_bytes());
     }
 
-    /// Appends a number as a signed one of 32 bits.
+    /// Appends a number as a signed one of 32 bits: from 2^31 on it is negative.
     #[tactic(auto, unfolding(crate::specs::Text::signed_number))]
     pub(crate) fn push_signed(&mut self, number: u32)
         requires { length self.old + 11 ≤ 80 }
@@ -108,7 +108,7 @@ impl Line {
         }
     }
 
-    /// Appends a number in hexadecimal.
+    /// Appends a number in hexadecimal: small letters, no leading zeros.
     pub(crate) fn push_hex(&mut self, number: u32)
         requires { length self.old + 8 ≤ 80 }
         ensures value { self.new ≡ self.old ++ hex number }
@@ -125,6 +125,7 @@ ghost use Rattle.std.specs.Fmt.{digit_glyph};
 ghost use Rattle.std.specs.Prelude.{false};
 ghost use Rattle.flt_trace.specs.Text.{hex};
 
+/// The byte of a hexadecimal digit, from 0 to 15: a small letter from 10 on.
 fn hex_digit(digit: u32) -> u8
     requires { digit < 16 }
     ensures { result ≡ digit_glyph false digit }
@@ -136,7 +137,7 @@ fn hex_digit(digit: u32) -> u8
     }
 }
 
-/// Puts a number in hexadecimal at the end of the bytes, and gives where it starts.
+/// Puts a number in hexadecimal at the end of the bytes, and returns where it starts.
 fn put_hex(digits: &mut [u8; 8], number: u32) -> usize
     ensures value { drop result digits.new ≡ hex number }
     ensures inside { result ≤ 8 }

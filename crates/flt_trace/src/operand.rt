@@ -1,4 +1,4 @@
-//! What an instruction is called, and what it works on.
+//! What an instruction is called, and what it works on, in the words of libpcap's `bpf_image`.
 ghost use Rattle.std.specs.Prelude.{◌≡◌, ◌+◌, ◌≤◌, ◌++◌, length};
 ghost use Rattle.flt_trace.specs.Text.{arithmetic_name, constant_text, load_name, operation_name};
 ghost use Rattle.std.specs.Prelude.{codes};
@@ -7,6 +7,7 @@ ghost use Rattle.flt_trace.specs.Text.{hex, operand_text, signed_number, test_na
 use crate::line::Line;
 use flt_bpf::operation::{AluOperation, Operand, Operation, Register, Source, Test, Width};
 
+/// What a load of this many bytes into A is called.
 fn load_name(width: Width) -> &'static str
     ensures name { result.now ≡ load_name width }
     ensures short { length result.now ≤ 3 }
@@ -18,6 +19,7 @@ fn load_name(width: Width) -> &'static str
     }
 }
 
+/// What arithmetic is called.
 fn arithmetic_name(operator: AluOperation) -> &'static str
     ensures name { result.now ≡ arithmetic_name operator }
     ensures short { length result.now ≤ 3 }
@@ -36,6 +38,7 @@ fn arithmetic_name(operator: AluOperation) -> &'static str
     }
 }
 
+/// What a conditional jump is called.
 pub(crate) fn test_name(test: Test) -> &'static str
     ensures name { result.now ≡ test_name test }
     ensures short { length result.now ≤ 4 }
@@ -82,7 +85,7 @@ fn push_between(line: &mut Line, before: &[u8], number: u32, following: &[u8])
     line.push_all(following);
 }
 
-/// Appends a mask.
+/// Appends a number that is compared or masked with, in hexadecimal: `#0x800`.
 fn push_mask(line: &mut Line, number: u32)
     requires { length line.old + 11 ≤ 80 }
     ensures value { line.new ≡ line.old ++ (codes "#0x" ++ hex number) }
@@ -92,7 +95,7 @@ fn push_mask(line: &mut Line, number: u32)
     line.push_hex(number);
 }
 
-/// Appends a number that is counted with.
+/// Appends a number that is counted with, in decimal: `#14`.
 fn push_count(line: &mut Line, number: u32)
     requires { length line.old + 12 ≤ 80 }
     ensures value { line.new ≡ line.old ++ (codes "#" ++ signed_number number) }
@@ -102,7 +105,7 @@ fn push_count(line: &mut Line, number: u32)
     line.push_signed(number);
 }
 
-/// Appends the constant of arithmetic.
+/// Appends the constant of arithmetic: a mask of `or`, `and` and `xor`, else a count.
 fn push_constant(line: &mut Line, operator: AluOperation, k: u32)
     requires { length line.old + 12 ≤ 80 }
     ensures value { line.new ≡ line.old ++ constant_text operator k }
@@ -114,7 +117,8 @@ fn push_constant(line: &mut Line, operator: AluOperation, k: u32)
     }
 }
 
-/// Appends what an operation works on, where it is at a place in a program.
+/// Appends what an operation works on; `place` is its own in the program, from 0, from which a jump
+/// counts.
 pub(crate) fn push_operand(line: &mut Line, operation: Operation, k: u32, place: u32)
     requires { length line.old + 21 ≤ 80 }
     ensures value { line.new ≡ line.old ++ operand_text operation k place }

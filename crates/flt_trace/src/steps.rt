@@ -1,4 +1,5 @@
-//! Runs, instruction by instruction.
+//! Runs, instruction by instruction: what the registers and the memory have before each. It has a
+//! machine of its own, since that of `flt_bpf` keeps no state that could be shown.
 ghost use Rattle.std.specs.Prelude.{◌≡◌, ℕ, ◌<◌, None, slice_set};
 ghost use Rattle.flt_bpf.specs.Check.{fault_of};
 ghost use Rattle.flt_bpf.specs.Machine.{field, held, into, into_word, operand_value, step};
@@ -37,7 +38,7 @@ pub(crate) enum Course {
 }
 
 impl Step {
-    /// Puts a number into a register; the run ends with 0 where there is none.
+    /// Puts a number into a register and goes on; where there is none, the run ends with 0.
     fn set(&mut self, register: Register, number: Option<u32>) -> Course
         ensures leads { course_next result self.new ≡ into register number (step_state self.old) }
         ensures place { self.new.place ≡ self.old.place }
@@ -66,7 +67,7 @@ impl Step {
         Course::Further(0)
     }
 
-    /// The second number of arithmetic and of a test.
+    /// The second number of arithmetic or of a test: k or X.
     fn operand(&self, operand: Operand, k: u32) -> u32
         ensures { result ≡ operand_value operand k self.now.index }
     {
@@ -90,7 +91,8 @@ fn field(packet: &[u8], at: u32, width: Width) -> Option<u32>
     }
 }
 
-fn holds(test: Test, a: u32, b: u32) -> bool
+/// Whether a test holds of A and another number.
+fn test_holds(test: Test, a: u32, b: u32) -> bool
     ensures { result ≡ test_holds test a b }
 {
     match test {
@@ -101,9 +103,10 @@ fn holds(test: Test, a: u32, b: u32) -> bool
     }
 }
 
-/// What one instruction of a valid program does on a packet of original length `len`.
+/// What one instruction of a valid program does to the registers and the memory, on a packet of
+/// original length `len`, and where it leads. The place is left to the caller.
 #[tactic(auto, unfolding(flt_bpf::specs::Machine::step, flt_bpf::specs::Check::fault_of))]
-fn act(insn: &Insn, packet: &[u8], len: u32, state: &mut Step) -> Course
+fn execute(insn: &Insn, packet: &[u8], len: u32, state: &mut Step) -> Course
     requires { (following : ℕ) × (fault_of insn.now following ≡ None) }
     ensures leads { step insn.now packet.now len (step_state state.old)
         ≡ course_next result state.new }
@@ -133,7 +136,7 @@ fn act(insn: &Insn, packet: &[u8], len: u32, state: &mut Step) -> Course
         Negate => state.set(Accumulator, Some(a.wrapping_neg())),
         Jump => Course::Further(k),
         JumpIf(test, operand) => {
-            let is_true = holds(test, a, state.operand(operand, k));
+            let is_true = test_holds(test, a, state.operand(operand, k));
             Course::Further(u32::from(if is_true { insn.jt } else { insn.jf }))
         }
         ReturnConstant => Course::End(k),
@@ -143,8 +146,8 @@ fn act(insn: &Insn, packet: &[u8], len: u32, state: &mut Step) -> Course
     }
 }
 
-/// Puts a step into its place, if there is room for it.
-fn put(steps: &mut [Step], at: usize, step: &Step)
+/// Puts a step at an index of the list, if the list has it.
+fn put_step(steps: &mut [Step], at: usize, step: &Step)
     ensures { steps.new ≡ slice_set steps.old at step.now }
 {
     if at < steps.len() {
@@ -168,9 +171,9 @@ pub fn trace(insns: &[Insn], packet: &[u8], len: u32, steps: &mut [Step]) -> (u3
     let mut count = 0;
     // The label names the loop in its proof.
     'places: loop {
-        put(steps, count, &step);
+        put_step(steps, count, &step);
         count += 1;
-        match act(&insns[step.place as usize], packet, len, &mut step) {
+        match execute(&insns[step.place as usize], packet, len, &mut step) {
             Course::End(answer) => return (answer, count),
             Course::Further(further) => step.place += 1 + further,
         }

@@ -1,4 +1,5 @@
-//! Instructions, as `tcpdump -d` prints them.
+//! Instructions, as `tcpdump -d` prints them: `(000) ldh      [12]`, or for a test
+//! `(001) jeq      #0x800           jt 2\tjf 5`.
 ghost use Rattle.std.specs.Prelude.{◌≡◌, ◌+◌, ◌-◌, ◌≤◌, ◌++◌, [], codes, length, replicate};
 ghost use Rattle.flt_trace.specs.Text.{branch_text, front_text, hex, insn_text, operand_text};
 ghost use Rattle.flt_trace.specs.Text.{filled_text, three_digits};
@@ -9,8 +10,8 @@ use flt_bpf::Insn;
 use flt_bpf::operation::{Operation, decode};
 use itoa::Buffer;
 
-/// Appends blanks to what begins at `start`, up to a width.
-fn pad(line: &mut Line, start: usize, width: usize)
+/// Appends blanks until what begins at `start` has `width` bytes; it may have more already.
+fn pad_to_width(line: &mut Line, start: usize, width: usize)
     requires inside { start ≤ length line.old }
     requires room { start + width ≤ 80 }
     ensures { line.new ≡ line.old ++ replicate (width - (length line.old - start)) 32 }
@@ -19,7 +20,7 @@ fn pad(line: &mut Line, start: usize, width: usize)
     line.push_times(b' ', width.saturating_sub(len));
 }
 
-/// Appends a number with three digits at least.
+/// Appends a number in decimal, of three digits at least.
 fn push_three_digits(line: &mut Line, number: u32)
     requires { length line.old + 10 ≤ 80 }
     ensures value { line.new ≡ line.old ++ three_digits number }
@@ -31,7 +32,7 @@ fn push_three_digits(line: &mut Line, number: u32)
     line.push_all(digits);
 }
 
-/// Appends the name of an instruction, and blanks.
+/// Appends the name of an instruction, and blanks up to its column of 8 bytes.
 fn push_name(line: &mut Line, name: &str)
     requires short { length name.now ≤ 8 }
     requires room { length line.old + 8 ≤ 80 }
@@ -40,11 +41,11 @@ fn push_name(line: &mut Line, name: &str)
 {
     let start = line.len();
     line.push_all(name.as_bytes());
-    pad(line, start, 8);
+    pad_to_width(line, start, 8);
 }
 
-/// The line of an instruction up to what it works on.
-fn front(place: u32, name: &str) -> Line
+/// The line of an instruction up to its operand: its place, from 0, and its name.
+fn line_front(place: u32, name: &str) -> Line
     requires { length name.now ≤ 8 }
     ensures value { result ≡ front_text place name.now }
     ensures bound { length result ≤ 22 }
@@ -58,7 +59,8 @@ fn front(place: u32, name: &str) -> Line
     line
 }
 
-/// Appends what a conditional jump works on, and where it leads.
+/// Appends the operand of a conditional jump, in a column of 16 bytes, and the places of its two
+/// targets.
 fn push_branch(line: &mut Line, operation: Operation, insn: &Insn, place: u32)
     requires { length line.old ≤ 22 }
     ensures { line.new ≡ line.old ++ branch_text (operand_text operation insn.now.k place)
@@ -66,7 +68,7 @@ fn push_branch(line: &mut Line, operation: Operation, insn: &Insn, place: u32)
 {
     let start = line.len();
     push_operand(line, operation, insn.k, place);
-    pad(line, start, 16);
+    pad_to_width(line, start, 16);
     let next = u64::from(place) + 1;
     line.push_all(b" jt ");
     line.push_decimal(next + u64::from(insn.jt));
@@ -86,12 +88,12 @@ pub fn insn_text(insn: &Insn, place: u32) -> Line
     ensures { result ≡ insn_text insn.now place }
 {
     let Some(operation) = decode(insn.code) else {
-        let mut line = front(place, "unimp");
+        let mut line = line_front(place, "unimp");
         line.push_all(b"0x");
         line.push_hex(u32::from(insn.code));
         return line;
     };
-    let mut line = front(place, operation_name(operation));
+    let mut line = line_front(place, operation_name(operation));
     match operation {
         Operation::JumpIf(_, _) => push_branch(&mut line, operation, insn, place),
         _ => push_operand(&mut line, operation, insn.k, place),

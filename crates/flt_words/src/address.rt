@@ -10,9 +10,9 @@ ghost use Rattle.flt_words.specs.Addresses.{IsIp6, IsMac, IsWholeIp6};
 ghost use Rattle.flt_words.specs.inside.Addresses.{ReadsGroups, base_of};
 ghost use Rattle.flt_words.specs.Addresses.{group_value, separator_of};
 
-use crate::number::{decimal, numeral};
+use crate::number::{parse_decimal, parse_digits};
 
-/// What stands between two separators.
+/// The forms of groups: what stands between two separators.
 #[derive(Clone, Copy)]
 pub(crate) enum Group {
     /// A decimal number up to 255.
@@ -23,7 +23,7 @@ pub(crate) enum Group {
     Quad,
 }
 
-/// Groups, as one number in their base, the first the highest digit.
+/// Groups that were read, as one number in their base, the first the highest digit; and how many.
 #[derive(Clone, Copy)]
 pub(crate) struct Joined {
     value: u128,
@@ -31,6 +31,7 @@ pub(crate) struct Joined {
 }
 
 impl Group {
+    /// The byte that joins groups of this form.
     fn separator(self) -> u8
         ensures { result ≡ separator_of self }
     {
@@ -40,6 +41,7 @@ impl Group {
         }
     }
 
+    /// How many numbers a group of this form may be, from 0 on.
     fn base(self) -> u32
         ensures { result ≡ base_of self }
     {
@@ -49,31 +51,32 @@ impl Group {
         }
     }
 
-    /// The number of a group of this form.
+    /// The number of a group of this form, if these are its digits.
     fn value(self, digits: &[u8]) -> Option<u32>
         ensures { MatchOption result (IsGroup self digits.now → ⊥)
             (λ n. IsGroup self digits.now × (n ≡ group_value self digits.now)) }
     {
         match self {
-            Group::Octet => octet(digits),
-            Group::Byte => hexadecimal(2, digits),
-            Group::Quad => hexadecimal(4, digits),
+            Group::Octet => parse_octet(digits),
+            Group::Byte => parse_hexadecimal(2, digits),
+            Group::Quad => parse_hexadecimal(4, digits),
         }
     }
 }
 
-fn octet(digits: &[u8]) -> Option<u32>
+/// The number up to 255 that decimal digits without leading zeros write.
+fn parse_octet(digits: &[u8]) -> Option<u32>
     ensures { MatchOption result (IsGroup Octet digits.now → ⊥)
         (λ n. IsGroup Octet digits.now × (n ≡ digits_value 10 digits.now)) }
 {
-    match decimal(digits) {
+    match parse_decimal(digits) {
         Ok(number) if number <= 255 => Some(number),
         _ => None,
     }
 }
 
-/// The number of `most` hexadecimal digits at most.
-fn hexadecimal(most: usize, digits: &[u8]) -> Option<u32>
+/// The number that `most` hexadecimal digits at most write.
+fn parse_hexadecimal(most: usize, digits: &[u8]) -> Option<u32>
     requires { most ≤ 4 }
     ensures { MatchOption result (IsNumeral 16 digits.now × (length digits.now ≤ most) → ⊥)
         (λ n. IsNumeral 16 digits.now × (length digits.now ≤ most)
@@ -82,11 +85,11 @@ fn hexadecimal(most: usize, digits: &[u8]) -> Option<u32>
     if digits.len() > most {
         return None;
     }
-    numeral(16, digits).ok()
+    parse_digits(16, digits).ok()
 }
 
-/// The groups of a form that a text is, at most eight. An empty text has none.
-fn groups_of(form: Group, text: &[u8]) -> Option<Joined>
+/// The groups of a form that a text is, eight at most. An empty text has none.
+fn parse_groups(form: Group, text: &[u8]) -> Option<Joined>
     ensures { ReadsGroups form text.now result }
 {
     let mut value: u128 = 0;
@@ -106,8 +109,8 @@ fn groups_of(form: Group, text: &[u8]) -> Option<Joined>
     Some(Joined { value, count })
 }
 
-/// The number of groups with zeros after them.
-fn before_zeros(form: Group, joined: Joined, zeros: u32) -> u128
+/// The number that groups write in their base with `zeros` more groups of 0 after them.
+fn value_with_zeros(form: Group, joined: Joined, zeros: u32) -> u128
     requires small { joined.value < base_of form ^ joined.count }
     requires upper_bound { joined.count + zeros ≤ 8 }
     ensures { result ≡ joined.value * base_of form ^ zeros }
@@ -120,64 +123,66 @@ fn before_zeros(form: Group, joined: Joined, zeros: u32) -> u128
     value
 }
 
-/// The address of two to four parts, the missing ones 0, and how many parts there are.
-pub(crate) fn dotted(word: &[u8]) -> Option<(u32, u8)>
+/// An IPv4 address of two to four parts, the missing ones 0, and how many parts there are.
+pub(crate) fn parse_dotted(word: &[u8]) -> Option<(u32, u8)>
     ensures { MatchOption result ((address parts : ℕ) → IsDotted word.now address parts → ⊥)
         (λ dotted. IsDotted word.now dotted.0 dotted.1) }
 {
-    let joined = groups_of(Group::Octet, word)?;
+    let joined = parse_groups(Group::Octet, word)?;
     if joined.count < 2 || joined.count > 4 {
         return None;
     }
-    let address = before_zeros(Group::Octet, joined, 4 - joined.count);
+    let address = value_with_zeros(Group::Octet, joined, 4 - joined.count);
     Some((address as u32, joined.count as u8))
 }
 
-/// The address of six bytes.
-pub(crate) fn mac(word: &[u8]) -> Option<u64>
+/// A MAC address: six bytes, joined by colons.
+pub(crate) fn parse_mac(word: &[u8]) -> Option<u64>
     ensures { FindsAddress (IsMac word.now) result }
 {
-    let joined = groups_of(Group::Byte, word)?;
+    let joined = parse_groups(Group::Byte, word)?;
     if joined.count != 6 {
         return None;
     }
     Some(joined.value as u64)
 }
 
-/// The address of eight groups, or of fewer with one `::` for the rest.
-pub(crate) fn ip6(word: &[u8]) -> Option<u128>
+/// An IPv6 address: eight groups, or fewer with one `::` for the rest (RFC 4291, 2.2).
+pub(crate) fn parse_ip6(word: &[u8]) -> Option<u128>
     ensures { FindsAddress (IsIp6 word.now) result }
 {
-    match double_colon(word) {
-        Some(at) => ip6_from_ends(&word[..at], &word[at + 2..]),
-        None => whole_ip6(word),
+    match find_double_colon(word) {
+        Some(at) => parse_shortened_ip6(&word[..at], &word[at + 2..]),
+        None => parse_whole_ip6(word),
     }
 }
 
-fn whole_ip6(word: &[u8]) -> Option<u128>
+/// An IPv6 address of eight groups.
+fn parse_whole_ip6(word: &[u8]) -> Option<u128>
     ensures { FindsAddress (IsWholeIp6 word.now) result }
 {
-    let joined = groups_of(Group::Quad, word)?;
+    let joined = parse_groups(Group::Quad, word)?;
     if joined.count != 8 {
         return None;
     }
     Some(joined.value)
 }
 
-/// The address whose groups left out between its ends are 0.
-fn ip6_from_ends(front: &[u8], back: &[u8]) -> Option<u128>
+/// An IPv6 address by what stands before and after its `::`, seven groups at most; those left out
+/// are 0.
+fn parse_shortened_ip6(front: &[u8], back: &[u8]) -> Option<u128>
     ensures { FindsAddress (AreIp6Ends front.now back.now) result }
 {
-    let first = groups_of(Group::Quad, front)?;
-    let last = groups_of(Group::Quad, back)?;
+    let first = parse_groups(Group::Quad, front)?;
+    let last = parse_groups(Group::Quad, back)?;
     if first.count + last.count > 7 {
         return None;
     }
-    Some(before_zeros(Group::Quad, first, 8 - first.count) + last.value)
+    Some(value_with_zeros(Group::Quad, first, 8 - first.count) + last.value)
 }
 
-/// Where the first two colons stand.
-fn double_colon(word: &[u8]) -> Option<usize>
+/// The index of the first `::`.
+fn find_double_colon(word: &[u8]) -> Option<usize>
     ensures { MatchOption result ((k : ℕ) → IsDoubleColon word.now k → ⊥)
         (λ i. (i + 1 < length word.now) × IsDoubleColon word.now i
         × ((k : ℕ) → k < i → IsDoubleColon word.now k → ⊥)) }

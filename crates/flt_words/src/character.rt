@@ -1,23 +1,24 @@
-//! The characters of which tokens are made.
+//! Which bytes of a text stand between tokens, and which words are made of. Other bytes are symbols
+//! (`spelling`), or begin no token.
 
 ghost use Rattle.std.specs.Prelude.{◌≡◌};
 ghost use Rattle.flt_words.specs.Characters.{is_blank, starts_word, within_word};
 
-/// Space, tab, line feed and carriage return stand between tokens.
+/// Whether a byte only parts tokens: space, tab, line feed and carriage return.
 pub(crate) fn is_blank(byte: u8) -> bool
     ensures { result ≡ is_blank byte }
 {
     byte == b' ' || byte == b'\t' || byte == b'\n' || byte == b'\r'
 }
 
-/// A word begins and ends with a letter, a digit or, outside brackets, a colon.
+/// Whether a word may begin and end with a byte: a letter, a digit or, outside brackets, a colon.
 pub(crate) fn starts_word(inside: bool, byte: u8) -> bool
     ensures { result ≡ starts_word inside byte }
 {
     byte.is_ascii_alphanumeric() || (!inside && byte == b':')
 }
 
-/// Between its ends a word also has points and dashes.
+/// Whether a word may have a byte between its ends: also points and dashes.
 pub(crate) fn within_word(inside: bool, byte: u8) -> bool
     ensures { result ≡ within_word inside byte }
 {

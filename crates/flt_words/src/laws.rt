@@ -1,4 +1,5 @@
-//! Laws of the definitions that the contracts of this crate cite.
+//! Laws of the definitions that the contracts of this crate cite: each is a theorem, and its
+//! function does nothing.
 
 ghost use Rattle.std.specs.Prelude.{◌≡◌, List, Result, ℕ};
 ghost use Rattle.flt_words.specs.declared.fault.ExprFault.{ExprFault};

@@ -1,4 +1,4 @@
-//! The tokens of a text.
+//! The tokens of a text, from its first byte on: at each place the longest word or symbol is one.
 
 ghost use Rattle.std.specs.Prelude.{◌≡◌, ◌≢◌, ◌<◌, ◌+◌, ◌==◌, ◌≤◌, IfErr, IfOk, MatchOption};
 ghost use Rattle.std.specs.Prelude.{MatchResult, Ok, Err, None, Some, length};
@@ -15,11 +15,11 @@ use crate::token::{Token, TokenKind};
 use crate::word::word_kind;
 use std::alloc::Allocator;
 
-/// The longest text, in bytes.
+/// The longest text, in bytes (E1).
 const LONGEST: usize = 65536;
 
-/// How long the word is with which a text begins.
-fn word_len(inside: bool, rest: &[u8]) -> usize
+/// How many bytes the word has with which a text begins. `inside` is whether it is in brackets.
+fn first_word_len(inside: bool, rest: &[u8]) -> usize
     requires { starts_word inside (slice_index rest.now 0) ≡ true }
     ensures { IsLongest inside rest.now result }
 {
@@ -35,8 +35,8 @@ fn word_len(inside: bool, rest: &[u8]) -> usize
     len
 }
 
-/// The symbol of this length with which a text begins.
-fn symbol_of_len(inside: bool, len: usize, rest: &[u8]) -> Option<TokenKind>
+/// The symbol of `len` bytes with which a text begins.
+fn first_symbol_of_len(inside: bool, len: usize, rest: &[u8]) -> Option<TokenKind>
     ensures { MatchOption result
         (len ≤ length rest.now → symbol_of inside (take len rest.now) ≡ None)
         (λ kind. (len ≤ length rest.now) × (symbol_of inside (take len rest.now) ≡ Some kind)) }
@@ -47,33 +47,34 @@ fn symbol_of_len(inside: bool, len: usize, rest: &[u8]) -> Option<TokenKind>
     symbol_of(inside, &rest[..len])
 }
 
-/// The longest symbol with which a text begins, and its length.
-fn symbol_at(inside: bool, rest: &[u8]) -> Option<(TokenKind, usize)>
+/// The longest symbol with which a text begins, and its length in bytes.
+fn first_symbol(inside: bool, rest: &[u8]) -> Option<(TokenKind, usize)>
     requires { starts_word inside (slice_index rest.now 0) ≡ false }
     ensures { MatchOption result
         ((n : ℕ) → n ≤ length rest.now → IsPiece inside (take n rest.now) → ⊥)
         (λ symbol. IsLongest inside rest.now symbol.1
         × (symbol_of inside (take symbol.1 rest.now) ≡ Some symbol.0)) }
 {
-    if let Some(kind) = symbol_of_len(inside, 2, rest) {
+    if let Some(kind) = first_symbol_of_len(inside, 2, rest) {
         return Some((kind, 2));
     }
-    let kind = symbol_of_len(inside, 1, rest)?;
+    let kind = first_symbol_of_len(inside, 1, rest)?;
     Some((kind, 1))
 }
 
-/// The token with which a text begins, and its length.
-fn token_at(inside: bool, place: u32, rest: &[u8]) -> Result<(TokenKind, usize), ExprFault>
+/// The token with which a text begins, and its length in bytes. `place` is where that text begins,
+/// from 1.
+fn first_token(inside: bool, place: u32, rest: &[u8]) -> Result<(TokenKind, usize), ExprFault>
     requires { 0 < length rest.now }
     ensures { MatchResult result (λ token. IsToken inside place rest.now token.0 token.1)
         (IsRefused inside place rest.now) }
 {
     if starts_word(inside, rest[0]) {
-        let len = word_len(inside, rest);
+        let len = first_word_len(inside, rest);
         let kind = word_kind(place, &rest[..len])?;
         return Ok((kind, len));
     }
-    match symbol_at(inside, rest) {
+    match first_symbol(inside, rest) {
         Some(token) => Ok(token),
         None => Err(ExprFault::UnknownCharacter(place)),
     }
@@ -102,7 +103,7 @@ pub fn lex<A: Allocator>(alloc: A, text: &str) -> Result<Vec<Token, A>, ExprFaul
             at += 1;
         } else {
             let place = at as u32 + 1;
-            let (kind, len) = token_at(closed < opened, place, &bytes[at..])?;
+            let (kind, len) = first_token(closed < opened, place, &bytes[at..])?;
             tokens.push(Token { kind, place })?;
             match kind {
                 TokenKind::OpenBracket => opened += 1,

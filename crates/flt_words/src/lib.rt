@@ -1,4 +1,5 @@
-//! The words of the filter language of pcap-filter(7): a text becomes a list of tokens.
+//! The words of the filter language of pcap-filter(7): a text becomes a list of tokens, each with
+//! its place. `flt_lang` makes a tree of them.
 #![tactic(auto)]
 
 mod address;

@@ -1,4 +1,4 @@
-//! Numbers in words, and the range of two.
+//! Numbers in words, and the range of two. All are below 2^32.
 
 ghost use Rattle.std.specs.Prelude.{◌≡◌, ◌≤◌, ◌&&◌, ◌==◌, position};
 ghost use Rattle.flt_words.specs.Numbers.{IsNumber, IsRange, WritesNumber};
@@ -17,8 +17,8 @@ pub(crate) enum WordFault {
     TooLarge,
 }
 
-/// The number that digits write.
-pub(crate) fn numeral(radix: u32, digits: &[u8]) -> Result<u32, WordFault>
+/// The number that digits of a radix write. Leading zeros are taken.
+pub(crate) fn parse_digits(radix: u32, digits: &[u8]) -> Result<u32, WordFault>
     requires low { 2 ≤ radix }
     requires high { radix ≤ 16 }
     ensures { Answers (WritesNumber radix digits.now) is_word_sized result }
@@ -34,37 +34,37 @@ pub(crate) fn numeral(radix: u32, digits: &[u8]) -> Result<u32, WordFault>
 }
 
 /// The number that decimal digits without leading zeros write.
-pub(crate) fn decimal(digits: &[u8]) -> Result<u32, WordFault>
+pub(crate) fn parse_decimal(digits: &[u8]) -> Result<u32, WordFault>
     ensures { Answers (WritesDecimal digits.now) is_word_sized result }
 {
     if digits.len() > 1 && digits[0] == b'0' {
         return Err(WordFault::Unknown);
     }
-    numeral(10, digits)
+    parse_digits(10, digits)
 }
 
 /// The number that a word spells as C does: decimal, octal after `0`, hexadecimal after `0x` or
 /// `0X`.
-pub(crate) fn number(word: &[u8]) -> Result<u32, WordFault>
+pub(crate) fn parse_number(word: &[u8]) -> Result<u32, WordFault>
     ensures { Answers (IsNumber word.now) is_word_sized result }
 {
     if word.len() < 2 || word[0] != b'0' {
-        decimal(word)
+        parse_decimal(word)
     } else if word[1] == b'x' || word[1] == b'X' {
-        numeral(16, &word[2..])
+        parse_digits(16, &word[2..])
     } else {
-        numeral(8, &word[1..])
+        parse_digits(8, &word[1..])
     }
 }
 
-/// Where the first dash stands.
-fn dash_in(word: &[u8]) -> Option<usize>
+/// The index of the first dash of a word.
+fn find_dash(word: &[u8]) -> Option<usize>
     ensures { result ≡ position (λ b. b == 45) word.now }
 {
     word.iter().position(|byte| *byte == b'-')
 }
 
-/// Both answers: unknown where either is, and else too large where either is.
+/// The two numbers, or one error for both: unknown where either is, and else too large.
 fn both_numbers(
     first: Result<u32, WordFault>,
     last: Result<u32, WordFault>,
@@ -78,13 +78,16 @@ fn both_numbers(
     }
 }
 
-/// The two numbers that a dash joins.
-pub(crate) fn range(word: &[u8]) -> Result<(u32, u32), WordFault>
+/// The two decimal numbers that a dash joins, in the order in which they stand.
+pub(crate) fn parse_range(word: &[u8]) -> Result<(u32, u32), WordFault>
     ensures { Answers (λ range. IsRange word.now range.0 range.1)
         (λ range. is_word_sized range.0 && is_word_sized range.1) result }
 {
-    match dash_in(word) {
-        Some(dash) => both_numbers(decimal(&word[..dash]), decimal(&word[dash + 1..])),
+    match find_dash(word) {
+        Some(dash) => both_numbers(
+            parse_decimal(&word[..dash]),
+            parse_decimal(&word[dash + 1..]),
+        ),
         None => Err(WordFault::Unknown),
     }
 }

@@ -71,7 +71,7 @@ const SYMBOLS: [(&str, TokenKind); 24] = [
     ("^", TokenKind::Operator(Operator::ExclusiveOr)),
 ];
 
-/// What a table has for a spelling.
+/// What a table has for a spelling, letter for letter: capitals differ.
 fn look_up(table: &[(&str, TokenKind)], piece: &[u8]) -> Option<TokenKind>
     ensures { result ≡ look_up (map (λ entry. (entry.0.now, entry.1)) table.now) piece.now }
 {
@@ -83,7 +83,7 @@ fn look_up(table: &[(&str, TokenKind)], piece: &[u8]) -> Option<TokenKind>
     None
 }
 
-/// The keyword that is spelled so.
+/// The keyword or name that is spelled so, if there is one.
 #[tactic(auto, unfolding(crate::specs::Spellings::keywords))]
 pub(crate) fn keyword_of(word: &[u8]) -> Option<TokenKind>
     ensures { result ≡ keyword_of word.now }
@@ -91,7 +91,7 @@ pub(crate) fn keyword_of(word: &[u8]) -> Option<TokenKind>
     look_up(&KEYWORDS, word)
 }
 
-/// The symbol that is spelled so, at a place inside brackets or not.
+/// The symbol that is spelled so, if there is one. `inside` is whether it is in brackets.
 #[tactic(auto, unfolding(crate::specs::Spellings::symbols))]
 pub(crate) fn symbol_of(inside: bool, piece: &[u8]) -> Option<TokenKind>
     ensures { result ≡ symbol_of inside piece.now }

@@ -26,6 +26,7 @@ pub struct Growing {
 }
 
 impl Growing {
+    /// No bytes yet.
     fn new(alloc: Global) -> Self {
         Growing {
             bytes: Vec::new(alloc),
@@ -33,6 +34,7 @@ impl Growing {
         }
     }
 
+    /// Puts bytes at the end.
     fn put(&mut self, bytes: &[u8]) {
         if self.bytes.extend_from_slice(bytes).is_err() {
             self.has_failed = true;
@@ -66,6 +68,7 @@ struct Writer {
 }
 
 impl Writer {
+    /// No bytes yet; numbers will be in this order.
     fn new(alloc: Global, order: Order) -> Self {
         Writer {
             file: Growing::new(alloc),
@@ -73,10 +76,12 @@ impl Writer {
         }
     }
 
+    /// Puts bytes at the end, as they are.
     fn put(&mut self, bytes: &[u8]) {
         self.file.put(bytes);
     }
 
+    /// Puts a number of 16 bits.
     fn put_16(&mut self, number: u16) {
         match self.order {
             Order::Little => self.put(&number.to_le_bytes()),
@@ -84,6 +89,7 @@ impl Writer {
         }
     }
 
+    /// Puts a number of 32 bits.
     fn put_32(&mut self, number: u32) {
         match self.order {
             Order::Little => self.put(&number.to_le_bytes()),
@@ -91,6 +97,7 @@ impl Writer {
         }
     }
 
+    /// Puts a length in bytes, as a number of 32 bits.
     fn put_size(&mut self, size: usize) {
         self.put_32(u32::try_from(size).unwrap_or(0));
     }
@@ -106,6 +113,7 @@ impl Writer {
         });
     }
 
+    /// Puts an option of a pcapng block: its code, its length and its value, padded.
     fn put_option(&mut self, code: u16, value: &[u8]) {
         self.put_16(code);
         self.put_16(u16::try_from(value.len()).unwrap_or(0));
@@ -152,6 +160,7 @@ fn original(random: &mut Random, captured: usize) -> u32 {
 }
 
 impl Capture {
+    /// A capture of no bytes and no packets.
     fn new(alloc: Global) -> Self {
         Capture {
             file: Growing::new(alloc),
@@ -225,6 +234,7 @@ struct Section {
 }
 
 impl Section {
+    /// A section of an order by lot, which describes no interface yet.
     fn new(alloc: Global, random: &mut Random) -> Self {
         Section {
             file: Writer::new(alloc, order(random)),

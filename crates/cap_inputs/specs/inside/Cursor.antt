@@ -12,8 +12,8 @@ use Rattle.cap_inputs.specs.declared.inputs.Schedule.TheVariants.{Turn, Merge}
 use Rattle.cap_inputs.specs.declared.inputs.Next.{Next}
 use Rattle.cap_inputs.specs.declared.inputs.Next.TheVariants as next
 use Rattle.cap_io.specs.Sequence.{PacketOrder, InTurn, ByTime}
-use Rattle.cap_inputs.specs.Inputs.{InputView, IsInput, IsLeast, IsOpen, IsReady, NoneEnded, NoneWaits, AllReady, key_of}
-use Rattle.cap_inputs.specs.inside.Inputs.{waiting_count}
+use Rattle.cap_inputs.specs.Inputs.{InputView, IsInput, key_of}
+use Rattle.cap_inputs.specs.inside.Inputs.{IsLeast, IsOpen, IsReady, NoneEnded, NoneWaits, AllReady, waiting_count}
 
 abbrev pub first_schedule : PacketOrder → ℕ → Schedule
 first_schedule InTurn count = Turn 0

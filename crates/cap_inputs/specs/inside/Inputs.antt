@@ -1,10 +1,12 @@
 -- What inputs still have, and how many wait.
-use Rattle.std.specs.Prelude.{ℕ, ◌+◌, ◌^◌, Bool, true, false, List, [], ◌∷◌, length, Option, None}
-use Rattle.std.specs.Option.{option_or}
+use Rattle.std.specs.Prelude.{◌≡◌, ◌⊎◌, ◌<◌, ◌≤◌, ℕ, ◌+◌, ◌^◌, Bool, true, false, List, [], ◌∷◌, length, Option, None, unwrap_or}
+use Rattle.std.specs.Option.{option_map, option_or}
 use Rattle.cap_io.specs.Capture.{items_from, first_link_of}
-use Rattle.cap_io.specs.Source.{SourceView}
+use Rattle.cap_io.specs.Source.{SourceView, Ended}
 use Rattle.cap_io.specs.Sequence.{PacketOrder, InTurn, ByTime}
-use Rattle.cap_inputs.specs.Inputs.{InputView, Future}
+use Rattle.cap_inputs.specs.declared.inputs.Next.{Next}
+use Rattle.cap_inputs.specs.declared.inputs.Next.TheVariants as next
+use Rattle.cap_inputs.specs.Inputs.{InputView, InputsView, Future, IsInput, key_of, steps_left_in, steps_owed}
 
 abbrev pub is_in_turn : PacketOrder → Bool
 is_in_turn InTurn = true
@@ -28,3 +30,95 @@ most_steps = 2 ^ 80
 abbrev pub first_declared_link : List InputView → Option ℕ
 first_declared_link [] = None
 first_declared_link (h ∷ hs) = option_or (first_link_of h.source.declared) (first_declared_link hs)
+
+-- ---- what is next, part by part
+
+-- where a packet waits, its key is over this; or at least this
+abbrev pub KeysOver : ℕ → List InputView → Type 0
+KeysOver k [] = Unit {0}
+KeysOver k (h ∷ hs) = (h.waiting ≡ true → k < key_of h) × KeysOver k hs
+
+abbrev pub KeysFrom : ℕ → List InputView → Type 0
+KeysFrom k [] = Unit {0}
+KeysFrom k (h ∷ hs) = (h.waiting ≡ true → k ≤ key_of h) × KeysFrom k hs
+
+-- the current packets are all decided
+abbrev pub NoneWaits : List InputView → Type 0
+NoneWaits [] = Unit {0}
+NoneWaits (h ∷ hs) = (h.waiting ≡ false) × NoneWaits hs
+
+-- of the packets that wait this input's has the least key, and it is the lowest input of those
+pub record IsLeast (cursors : List InputView) (i : ℕ) : Type 0 where
+  pub cursor : InputView
+  pub among : IsInput cursors i cursor
+  pub waits : cursor.waiting ≡ true
+  pub over : KeysOver (key_of cursor) among.front
+  pub from : KeysFrom (key_of cursor) among.back
+
+-- it isn't at its clean end
+abbrev pub IsOpen : InputView → Type 0
+IsOpen h = h.source.phase ≡ Ended → ⊥
+
+abbrev pub AllEnded : List InputView → Type 0
+AllEnded [] = Unit {0}
+AllEnded (h ∷ hs) = (h.source.phase ≡ Ended) × AllEnded hs
+
+abbrev pub NoneEnded : List InputView → Type 0
+NoneEnded [] = Unit {0}
+NoneEnded (h ∷ hs) = IsOpen h × NoneEnded hs
+
+-- its current packet waits, or it is at its clean end
+abbrev pub IsReady : InputView → Type 0
+IsReady h = (h.waiting ≡ true) ⊎ (h.source.phase ≡ Ended)
+
+abbrev pub AllReady : List InputView → Type 0
+AllReady [] = Unit {0}
+AllReady (h ∷ hs) = IsReady h × AllReady hs
+
+-- In turn, it is this input's turn: those in front of it are at their clean ends, it and those
+-- after it aren't.
+pub record IsAtTurn (cursors : List InputView) (i : ℕ) (waiting : Bool) : Type 0 where
+  pub cursor : InputView
+  pub among : IsInput cursors i cursor
+  pub waits : cursor.waiting ≡ waiting
+  pub unended : IsOpen cursor
+  pub front : AllEnded among.front
+  pub back : NoneEnded among.back
+
+abbrev pub IsNextInTurn : List InputView → Next → Type 0
+IsNextInTurn cursors (next.Read i) = IsAtTurn cursors i false
+IsNextInTurn cursors (next.Decide i) = IsAtTurn cursors i true
+IsNextInTurn cursors next.Finish = AllEnded cursors
+
+-- it is the first input that is neither at its clean end nor has a packet that waits
+pub record IsFirstUnready (cursors : List InputView) (i : ℕ) : Type 0 where
+  pub cursor : InputView
+  pub among : IsInput cursors i cursor
+  pub waits : cursor.waiting ≡ false
+  pub unended : IsOpen cursor
+  pub front : AllReady among.front
+
+-- by time, every input is read on to its next packet first; then that with the least key is decided
+abbrev pub IsNextByTime : List InputView → Next → Type 0
+IsNextByTime cursors (next.Read i) = IsFirstUnready cursors i
+IsNextByTime cursors (next.Decide i) = AllReady cursors × IsLeast cursors i
+IsNextByTime cursors next.Finish = NoneWaits cursors × AllEnded cursors
+
+abbrev pub IsNextIn : PacketOrder → List InputView → Next → Type 0
+IsNextIn InTurn cursors r = IsNextInTurn cursors r
+IsNextIn ByTime cursors r = IsNextByTime cursors r
+
+-- What is next of the inputs: `next_of` gives it. In turn, no input after it is at its end.
+abbrev pub IsNext : InputsView → Next → Type 0
+IsNext inputs r = IsNextIn inputs.order inputs.cursors r
+
+-- ---- steps
+
+abbrev pub owed_by : InputView → ℕ
+owed_by h = steps_owed h.waiting h.source.phase
+
+abbrev pub steps_left : InputsView → ℕ
+steps_left f = steps_left_in f.cursors
+
+abbrev pub offset_of : Option InputView → ℕ
+offset_of o = unwrap_or (option_map (λ (h : InputView). h.source.offset) o) 0

@@ -7,8 +7,8 @@ use Rattle.cap_octet.specs.declared.fault.Fault.{Fault}
 use Rattle.cap_octet.specs.declared.fault.Fault.TheVariants.{BadOption, BadTimeResolution, NoMemory, TooManyInterfaces}
 use Rattle.cap_octet.specs.declared.number.Order.{Order}
 use Rattle.cap_pcapng.specs.Block.{Parts, block_checks, parts_in}
-use Rattle.cap_pcapng.specs.Interface.{Described}
-use Rattle.cap_pcapng.specs.Unit.{checks_among, most_interfaces, packet_by}
+use Rattle.cap_pcapng.specs.Interface.{Described, most_interfaces}
+use Rattle.cap_pcapng.specs.Unit.{checks_among, packet_by}
 use Rattle.cap_pcapng.specs.declared.frames.Frame.{Frame}
 use Rattle.cap_pcapng.specs.declared.effect.PacketSpans.{PacketSpans}
 use Rattle.cap_pcapng.specs.Effect.{is_interface, held_packet, IsBlockFault}

@@ -5,22 +5,22 @@ use Rattle.cap_octet.specs.declared.number.Order.{Order}
 use Rattle.cap_pcapng.specs.InterfaceOptions.{first_value, name_code, offset_code, offset_in_value, resolution_code, units_in_value}
 use Rattle.cap_pcapng.specs.inside.InterfaceOptions.{value_for}
 use Rattle.cap_pcapng.specs.OptionList.{CodedValue}
-use Rattle.cap_pcapng.specs.declared.interface.Found.{Found}
+use Rattle.cap_pcapng.specs.declared.interface.FoundOptions.{FoundOptions}
 
 -- a name that was found is short enough
-abbrev pub HasShortName : Found → Type 0
+abbrev pub HasShortName : FoundOptions → Type 0
 HasShortName found = IfSome found.name (λ name. length name.now ≤ 255)
 
 -- what was found in these options
-pub record IsFound (order : Order) (options : List CodedValue) (found : Found) : Type 0 where
+pub record IsFound (order : Order) (options : List CodedValue) (found : FoundOptions) : Type 0 where
   pub name : option_copied found.name ≡ first_value name_code options
   pub units : found.units ≡ option_map units_in_value (first_value resolution_code options)
   pub offset : found.offset ≡ option_map (offset_in_value order) (first_value offset_code options)
   pub short : HasShortName found
 
 -- what is found once this option is read after those before it
-pub record Adds (order : Order) (before : Found) (option : CodedValue)
-    (after : Found) : Type 0 where
+pub record Adds (order : Order) (before : FoundOptions) (option : CodedValue)
+    (after : FoundOptions) : Type 0 where
   pub name : option_copied after.name
       ≡ option_or (option_copied before.name) (value_for name_code option)
   pub units : after.units
@@ -30,7 +30,7 @@ pub record Adds (order : Order) (before : Found) (option : CodedValue)
   pub short : HasShortName before → HasShortName after
 
 -- whether an option of this code was found, if it is looked at
-abbrev pub is_found : Found → ℕ → Bool
+abbrev pub is_found : FoundOptions → ℕ → Bool
 is_found found code =
     if code == name_code then is_some found.name
     else (if code == resolution_code then is_some found.units

@@ -1,15 +1,16 @@
 -- What one call writes of a packet, a line or a report.
-use Rattle.std.specs.Prelude.{◌≡◌, ℕ, ◌+◌, List, Option, Result, Ok, IfErr}
+use Rattle.std.specs.Prelude.{◌≡◌, ℕ, ◌+◌, Bool, true, false, List, Option, Result, Ok, Err, IfErr}
 use Rattle.cap_octet.specs.Device.{AppendsOrStops, failures_of}
 use Rattle.cap_octet.specs.Packet.{Captured}
 use Rattle.cap_octet.specs.declared.device.DeviceFault.{DeviceFault}
-use Rattle.cap_octet.specs.declared.device.Stopped.{Stopped}
 use Rattle.cap_octet.specs.declared.fault.Fault.{Fault}
 use Rattle.cap_octet.specs.declared.fault.Fault.TheVariants.{WriteFailed}
 use Rattle.cap_print.specs.Rendering.{printed_text}
 use Rattle.cap_io.specs.Sink as sinks
 use Rattle.cap_io.specs.Sink.{SinkView, PutWrites, FinishWrites}
-use Rattle.cap_process.specs.Output.{Target, Capture, Text, Lines}
+use Rattle.cap_process.specs.Output.{Target, JobOutputView, Capture, Text, Lines, HasWrittenTo, form_to}
+use Rattle.cap_process.specs.Outcome.{Form}
+use Rattle.cap_process.specs.Reports.{Report}
 
 -- a packet is put into a capture
 pub record PutsInto (p : Captured) (old : SinkView) (r : Result (Unit {0}) Fault)
@@ -36,24 +37,23 @@ PutsIntoOutput p (Lines options written failures room) r new =
     Prints (printed_text options p) written failures r (λ w f. Lines options w f room) new
 
 -- a text is appended, or the device failed
-pub record AppendsText {E : Type 0} (bytes written : List ℕ) (failures room : ℕ)
-    (r : Result (Unit {0}) E) (new : Target) : Type 0 where
+pub record AppendsText (bytes written : List ℕ) (failures room : ℕ)
+    (r : Result (Unit {0}) DeviceFault) (new : Target) : Type 0 where
   pub after : List ℕ
   pub appends : AppendsOrStops r written bytes after
   pub is : new ≡ Text after (failures + failures_of r) room
 
--- a report is written, where reports are
+-- whether what is written is text: reports or a listing
+abbrev pub is_text : Target → Bool
+is_text (Capture sink) = false
+is_text (Text written failures room) = true
+is_text (Lines options written failures room) = false
+
+-- a report or a listing is written, where text is
 abbrev pub Reports : List ℕ → Target → Result (Unit {0}) DeviceFault → Target → Type 0
 Reports bytes (Capture sink) r new = (r ≡ Ok tt) × (new ≡ Capture sink)
 Reports bytes (Text written failures room) r new = AppendsText bytes written failures room r new
 Reports bytes (Lines options written failures room) r new =
-    (r ≡ Ok tt) × (new ≡ Lines options written failures room)
-
--- a listing is written, where text is
-abbrev pub ListsText : List ℕ → Target → Result (Unit {0}) Stopped → Target → Type 0
-ListsText bytes (Capture sink) r new = (r ≡ Ok tt) × (new ≡ Capture sink)
-ListsText bytes (Text written failures room) r new = AppendsText bytes written failures room r new
-ListsText bytes (Lines options written failures room) r new =
     (r ≡ Ok tt) × (new ≡ Lines options written failures room)
 
 -- a capture is finished
@@ -64,10 +64,18 @@ pub record FinishesInto (first : Option ℕ) (old : SinkView) (r : Result (Unit 
   pub finishes : sinks.Finishes old.state old first r sink
   pub writes : FinishWrites old.state old first r sink
 
--- what is written is ended
-abbrev pub EndsOutput : Option ℕ → Target → Result (Unit {0}) Fault → Target → Type 0
-EndsOutput first (Capture sink) r new = FinishesInto first sink r new
+-- what is written is ended, or the device failed
+abbrev pub EndsOutput : Option ℕ → Target → Result (Unit {0}) DeviceFault → Target → Type 0
+EndsOutput first (Capture sink) (Ok done) new = FinishesInto first sink (Ok done) new
+EndsOutput first (Capture sink) (Err failed) new =
+    (fault : Fault) × FinishesInto first sink (Err fault) new
 EndsOutput first (Text written failures room) r new =
     (r ≡ Ok tt) × (new ≡ Text written failures room)
 EndsOutput first (Lines options written failures room) r new =
     (r ≡ Ok tt) × (new ≡ Lines options written failures room)
+
+abbrev pub form_at : JobOutputView → Form
+form_at d = form_to d.names d.target
+
+abbrev pub HasWritten : List ℕ → JobOutputView → List Captured → List Report → Type 0
+HasWritten before d packets reports = HasWrittenTo before d.names d.target packets reports

@@ -1,5 +1,5 @@
 -- What a selector keeps, and what one verdict makes of it.
-use Rattle.std.specs.Prelude.{◌≡◌, ℕ, ◌+◌, ◌-◌, ◌^◌, ◌≤◌, Bool, true, false, length, Option, None, Result, Ok, Err, Some}
+use Rattle.std.specs.Prelude.{◌≡◌, ℕ, ◌+◌, ◌-◌, ◌^◌, ◌≤◌, Bool, true, false, length, Option, None, Result, Ok, Err, Some, []}
 use Rattle.cap_octet.specs.Packet.{Captured}
 use Rattle.cap_octet.specs.declared.fault.Fault.{Fault}
 use Rattle.cap_window.specs.View.{WindowView}
@@ -73,3 +73,7 @@ TakesTally false old r new = (r ≡ None) × (new ≡ old)
 TakesTally true old r new =
     (r ≡ Some old.state.tally)
     × (new ≡ record { policy = old.policy; state = with_empty_tally old.state })
+
+-- the state of a selector whose window is empty
+abbrev pub state_with : ℕ → Tally → SelectorState
+state_with passed tally = record { passed = passed; window = []; tally = tally }

@@ -1,5 +1,5 @@
 //! Times as printed dates and as read. The values are from Python's `datetime`.
-use cap_octet::{date_bytes, span_of, time_of};
+use cap_octet::{date_bytes, read_duration, read_timestamp};
 
 /// Times, and the dates that are printed of them.
 const PRINTED: &[(u64, &str)] = &[
@@ -131,6 +131,9 @@ const READ: &[(&str, Option<u64>, Option<u64>)] = &[
 #[test]
 fn texts_are_read(rt: HostRuntime) {
     for (text, time, span) in READ {
-        assert!(rt; time_of(text) == *time && span_of(text) == *span, "{text}");
+        assert!(rt;
+            read_timestamp(text) == *time && read_duration(text) == *span,
+            "{text}"
+        );
     }
 }

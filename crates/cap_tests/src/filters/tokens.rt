@@ -7,6 +7,7 @@ use std::test::Fail;
 /// What a token is, and its numbers: as much as tells those of the tables apart.
 type Shown = (&'static str, u128, u128);
 
+/// What a token is, in short.
 fn shown(kind: TokenKind) -> Shown {
     match kind {
         TokenKind::Number(number) => ("number", u128::from(number), 0),

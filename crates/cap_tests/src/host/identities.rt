@@ -19,7 +19,7 @@ fn overwrites(alloc: Global, files: &impl Identify, words: &str) -> Option<bool>
 /// Whether the program refuses the words since a name is used twice.
 fn is_used_twice(rt: &HostRuntime, words: &str) -> bool {
     match words_of(rt.alloc(), words) {
-        Ok(words) => matches!(words::line_of(rt, words), Err(Usage::NameUsedTwice)),
+        Ok(words) => matches!(words::line_of_words(rt, words), Err(Usage::NameUsedTwice)),
         Err(_) => false,
     }
 }

@@ -3,8 +3,8 @@ ghost use Rattle.std.specs.Prelude.{◌≤◌};
 
 use super::folder::{enter, leave};
 use cap_octet::{Output, StdOutput};
-use capkit_host::ending::{finish, settle};
-use capkit_host::opening::{Target, create, target};
+use capkit_host::ending::{finish, flush_output};
+use capkit_host::opening::{Target, buffer_output, create_output};
 use capkit_host::stop::Stop;
 use capkit_host::streams::Created;
 use std::fs;
@@ -12,8 +12,8 @@ use std::io::{self, BufWriter, Error, ErrorKind, IsTerminal, Write};
 
 /// The buffer before the output of that name.
 fn target_of(rt: &HostRuntime, name: &str, may_wait: bool) -> Option<Target> {
-    let created = create(rt, name).ok()?;
-    target(rt, created, may_wait).ok()
+    let created = create_output(rt, name).ok()?;
+    buffer_output(rt, created, may_wait).ok()
 }
 
 /// Whether this is the failure of a device that takes nothing.
@@ -31,7 +31,7 @@ fn makes_last_write(rt: &HostRuntime, status: u8) -> io::Result<bool>
     };
     let is_buffered = matches!(target.write(b"a"), Ok(1));
     let (mut writer, _) = target.into_inner();
-    let is_written = is_full(settle(status, &mut writer).err());
+    let is_written = is_full(flush_output(status, &mut writer).err());
     let (out, err) = (StdOutput::new(writer), StdOutput::new(messages));
     let ended = finish(rt.alloc(), status, out, err, "out");
     Ok(is_buffered && is_written && matches!(ended, Err(Stop::WriteFailed("out"))))

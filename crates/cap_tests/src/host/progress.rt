@@ -4,7 +4,9 @@ use super::folder::{CAPTURE, LISTING, enter, leave, line_of, words_of};
 use super::streams::Streams;
 use capkit::Line;
 use capkit_engine::Jobs;
-use capkit_host::progress::{Progress, can_write_over, is_in_foreground, start_of, total_size};
+use capkit_host::progress::{
+    Progress, can_write_over, is_in_foreground, progress_start, total_size,
+};
 use capkit_host::runner::run_command;
 use std::alloc::{AllocError, Global};
 use std::fs;
@@ -62,7 +64,7 @@ const SIZES: [(&str, u64); 4] = [
 /// Whether inputs have this size, and progress over them is shown on a terminal alone.
 fn has_size(rt: &HostRuntime, inputs: &str, size: u64) -> Result<bool, AllocError> {
     let names = words_of(rt.alloc(), inputs)?;
-    let counts = Progress::new(rt, names.as_slice(), "new").counts();
+    let counts = Progress::new(rt, names.as_slice(), "new").is_counting();
     Ok(total_size(rt, names.as_slice()) == size && (!counts || rt.stderr().is_terminal()))
 }
 
@@ -108,8 +110,11 @@ fn progress_is_of_plain_files(rt: HostRuntime) {
         ("/none", true),
         ("in", true),
     ] {
-        assert!(rt; start_of(&rt, output, true).is_some() == wanted, "{output}");
-        assert!(rt; start_of(&rt, output, false).is_none(), "{output}");
+        assert!(rt;
+            progress_start(&rt, output, true).is_some() == wanted,
+            "{output}"
+        );
+        assert!(rt; progress_start(&rt, output, false).is_none(), "{output}");
     }
     for (is_terminal, name, wanted) in TERMINALS {
         assert!(rt; can_write_over(is_terminal, name) == wanted, "{name:?}");

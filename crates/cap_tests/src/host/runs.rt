@@ -2,7 +2,7 @@
 
 use super::folder::{CAPTURE, enter, leave, line_of, words_of};
 use capkit_engine::Jobs;
-use capkit_host::opening::{create, open, read_listing};
+use capkit_host::opening::{create_output, open_inputs, read_listing};
 use capkit_host::progress::Progress;
 use capkit_host::runner::run;
 use capkit_host::stop::Stop;
@@ -160,7 +160,7 @@ fn tells(alloc: Global, stop: Option<Stop<'_>>, text: &str) -> bool {
 fn tells_second_input(rt: &HostRuntime) -> Result<bool, AllocError> {
     let names = words_of(rt.alloc(), "/dev/null none/none")?;
     let progress = Progress::since(rt, None, 0);
-    let opened = open(rt, names.as_slice(), &progress).err();
+    let opened = open_inputs(rt, names.as_slice(), &progress).err();
     Ok(tells(rt.alloc(), opened, "none/none: cannot open"))
 }
 
@@ -169,7 +169,7 @@ fn tells_second_input(rt: &HostRuntime) -> Result<bool, AllocError> {
 fn stops_have_their_texts(rt: HostRuntime) {
     let listing = read_listing(&rt, "none/none").err();
     assert!(rt; tells(rt.alloc(), listing, "none/none: cannot open"));
-    let created = create(&rt, "none/none").err();
+    let created = create_output(&rt, "none/none").err();
     assert!(rt; tells(rt.alloc(), created, "none/none: cannot create"));
     assert!(rt; matches!(tells_second_input(&rt), Ok(true)));
 }

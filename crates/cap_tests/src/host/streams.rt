@@ -43,6 +43,7 @@ pub struct Streams {
 }
 
 impl Streams {
+    /// Streams to which nothing is written yet. With a failure the output takes nothing.
     pub fn new(alloc: Global, failure: Option<ErrorKind>) -> Streams {
         Streams {
             failure,

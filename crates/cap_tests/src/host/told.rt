@@ -3,10 +3,10 @@
 use super::folder::words_of;
 use super::streams::{Streams, Written};
 use capkit::{Usage, command_of};
-use capkit_host::ending::end;
+use capkit_host::ending::tell_end;
 use capkit_host::message::{Shown, ShownBytes, refusal_text};
 use capkit_host::refusal::{refuse, tell_refusal};
-use capkit_host::stop::{Stop, stopped};
+use capkit_host::stop::{Stop, report_stop};
 use capkit_host::words::with_help_option;
 use std::alloc::{AllocError, Global};
 use std::io::ErrorKind;
@@ -39,7 +39,7 @@ fn is_ended(alloc: Global, row: Ending) -> bool {
     let (causes, status, told) = row;
     let mut errors = Written::new(alloc);
     let message = b"capkit: a\x1b: truncated\n";
-    let ended = end(alloc, &mut errors, 0, causes, message, "out");
+    let ended = tell_end(alloc, &mut errors, 0, causes, message, "out");
     let is_told = errors.bytes.as_slice() == told.as_bytes();
     ended.ok() == status && is_told && errors.calls == usize::from(!told.is_empty())
 }
@@ -227,7 +227,7 @@ fn are_faults_told(alloc: Global) -> bool {
     let streams = (Streams::new(alloc, None), alloc);
     let are_statuses = refuse(&streams, Usage::BadRange) == 2
         && refuse(&streams, Usage::Memory) == 1
-        && stopped(&streams, Stop::CannotOpen("in")) == 1;
+        && report_stop(&streams, Stop::CannotOpen("in")) == 1;
     let errors = "capkit: usage: bad range\ncapkit: no memory\ncapkit: in: cannot open\n";
     are_statuses && streams.0.have("", errors) && streams.0.have_calls(3)
 }

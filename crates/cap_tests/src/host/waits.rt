@@ -120,7 +120,7 @@ fn edit<'a>(
     inputs.push(StdInput::new(reader)).ok()?;
     let writer = BufWriter::with_capacity(alloc, 256, Taken { is_full, course }).ok()?;
     let out = if is_awaited {
-        StdOutput::awaited(writer)
+        StdOutput::new_awaited(writer)
     } else {
         StdOutput::new(writer)
     };

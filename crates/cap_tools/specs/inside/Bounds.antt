@@ -1,7 +1,8 @@
 -- What a step is paid by.
 use Rattle.std.specs.Prelude.{ℕ, ◌+◌, ◌≤◌, Bool, true, false, List, [], ◌∷◌, Option, None, Some}
 use Rattle.cap_tools.specs.declared.step.JobEnd.{JobEnd}
-use Rattle.cap_inputs.specs.Inputs.{InputView, InputsView, owed_by}
+use Rattle.cap_inputs.specs.Inputs.{InputView, InputsView}
+use Rattle.cap_inputs.specs.inside.Inputs.{owed_by}
 use Rattle.cap_tools.specs.Bounds.{most_turns}
 
 abbrev pub step_goes_on : Option JobEnd → Bool

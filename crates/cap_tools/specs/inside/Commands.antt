@@ -4,7 +4,8 @@ use Rattle.cap_tools.specs.declared.job.Turn.{Turn}
 use Rattle.cap_tools.specs.Start.{Preparing, ReadsFilter, Compiles}
 use Rattle.cap_tools.specs.Jobs.{JobView}
 use Rattle.cap_tools.specs.Commands.{StepKeeps}
-use Rattle.cap_tools.specs.inside.FirstStep.{IsFresh, is_text}
+use Rattle.cap_process.specs.inside.Output.{is_text}
+use Rattle.cap_tools.specs.inside.FirstStep.{IsFresh}
 
 -- a job that still prepares made no step; what is compiled is written as text
 abbrev pub HasMadeNoStep : Preparing → JobView → Type 0

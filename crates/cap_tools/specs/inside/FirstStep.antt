@@ -1,15 +1,18 @@
 -- A job before its first step, and what a listing leaves.
-use Rattle.std.specs.Prelude.{◌≡◌, ◌<◌, Bool, true, false, List, [], None}
+use Rattle.std.specs.Prelude.{◌≡◌, ◌⊎◌, ℕ, ◌+◌, ◌<◌, Bool, List, [], length, None, Some}
 use Rattle.flt_bpf.specs.declared.insn.Insn.{Insn}
+use Rattle.cap_filter.specs.declared.refusal.Refusal.{Refusal}
+use Rattle.cap_filter.specs.Refusals.{refusal_status}
+use Rattle.cap_octet.specs.Views.{OutputView, output_view}
+use Rattle.cap_process.specs.Reports.{name_at}
+use Rattle.cap_tools.specs.Packets.{JobState, written_by, failures_by}
 use Rattle.cap_tools.specs.declared.job.Turn.{Turn}
 use Rattle.cap_tools.specs.declared.job.Turn.TheVariants as turn
-use Rattle.cap_process.specs.Output.{Target, Capture, Text, Lines}
-use Rattle.cap_inputs.specs.Inputs.{steps_left}
-use Rattle.cap_inputs.specs.inside.Inputs.{most_steps}
+use Rattle.cap_inputs.specs.inside.Inputs.{steps_left, most_steps}
 use Rattle.cap_tools.specs.Bounds.{most_turns}
 use Rattle.cap_tools.specs.inside.Bounds.{steps_owed_in_all}
 use Rattle.cap_tools.specs.Jobs.{JobView}
-use Rattle.cap_tools.specs.FirstStep.{WritesListing}
+use Rattle.cap_tools.specs.FirstStep.{WritesListing, StopsListing}
 
 -- a job that made no step
 pub record IsFresh (j : JobView) : Type 0 where
@@ -19,11 +22,29 @@ pub record IsFresh (j : JobView) : Type 0 where
   pub left : steps_left j.state.inputs < most_steps
   pub upper_bound : steps_owed_in_all j.state.inputs < most_turns j.state.inputs
 
-abbrev pub is_text : Target → Bool
-is_text (Capture sink) = false
-is_text (Text written failures room) = true
-is_text (Lines options written failures room) = false
-
 abbrev pub EndsList : List Insn → Bool → JobView → Turn → JobView → Type 0
 EndsList insns tells old turn.More new = ⊥
-EndsList insns tells old (turn.Done status) new = WritesListing insns tells old status new
+EndsList insns tells old (turn.Done status) new =
+    WritesListing insns old status new ⊎ StopsListing insns tells old status new
+
+-- the job that ended by a refusal, with these messages
+abbrev pub refusing : Refusal → OutputView → JobView → JobView
+refusing refusal err j = record {
+  preparing = None;
+  state = j.state;
+  programs = j.programs;
+  err = err;
+  turns = j.turns + 1;
+  done = Some (refusal_status refusal);
+}
+
+-- the output
+abbrev pub output_by : JobState → OutputView
+output_by m = output_view (written_by m) (failures_by m)
+
+abbrev pub output_of : JobView → OutputView
+output_of j = output_by j.state
+
+-- the name of its output
+abbrev pub output_name : JobView → List ℕ
+output_name j = name_at j.state.output.names (length j.state.inputs.cursors)

@@ -1,5 +1,5 @@
 -- What only the crate's own functions and proofs need beside specs/Packets.
-use Rattle.std.specs.Prelude.{◌≡◌, ◌⊎◌, ℕ, ◌+◌, ◌≤◌, Bool, true, false, Option, None, Some, Result, Ok, Err}
+use Rattle.std.specs.Prelude.{◌≡◌, ◌⊎◌, ℕ, ◌+◌, ◌≤◌, Bool, true, false, List, map, Option, None, Some, Result, Ok, Err}
 use Rattle.std.specs.List.{slice_get}
 use Rattle.cap_octet.specs.Packet.{Captured}
 use Rattle.cap_octet.specs.declared.fault.Fault.{Fault}
@@ -10,25 +10,34 @@ use Rattle.cap_process.specs.declared.selector.Verdict as code
 use Rattle.cap_process.specs.declared.selector.Verdict.TheVariants as code_verdict
 use Rattle.cap_tools.specs.declared.step.JobEnd.{JobEnd}
 use Rattle.cap_tools.specs.declared.step.JobEnd.TheVariants as end
-use Rattle.cap_process.specs.Reports.{report_text}
+use Rattle.cap_process.specs.Reports.{Report, Tally, report_text}
 use Rattle.cap_process.specs.Output.{JobOutputView, Target}
 use Rattle.cap_process.specs.inside.Output.{PutsIntoOutput, Reports}
-use Rattle.cap_process.specs.Verdict.{judge}
+use Rattle.cap_process.specs.Verdict.{PassesAs, judge}
+use Rattle.cap_process.specs.Outcome.{AreAllEvents, IsNextEvent, closing_text, first_link, form_refuses, packet_bytes, report_bytes}
 use Rattle.cap_process.specs.Selector.{SelectorView, most_spent, spent_by_verdict}
 use Rattle.cap_process.specs.inside.Selector.{PolicyState, with_empty_tally}
 use Rattle.cap_process.specs.inside.Selector as selecting_inside
-use Rattle.cap_inputs.specs.Inputs.{InputsView, InputView}
-use Rattle.cap_tools.specs.Packets.{asks_report, report_at}
+use Rattle.cap_io.specs.Capture.{kind_of}
+use Rattle.cap_io.specs.Sequence.{InputEnd, Packet}
+use Rattle.cap_inputs.specs.declared.inputs.Next.TheVariants as next
+use Rattle.cap_inputs.specs.Inputs.{InputPast, InputsView, InputView, ReadsInput, input_after, next_of}
+use Rattle.cap_tools.specs.Packets.{JobState, PacketsDecided, asks_report, output_form, wholes_of, work_of}
 
--- what a call returns that says whether the packet is the last
-abbrev pub PutsAs : Bool → Captured → Target → Result Bool Fault → Target → Type 0
-PutsAs last p old (Ok b) new = (b ≡ last) × PutsIntoOutput p old (Ok tt) new
-PutsAs last p old (Err fault) new = PutsIntoOutput p old (Err fault) new
+-- the report of an input at its end
+abbrev pub report_at : ℕ → InputView → Tally → Report
+report_at input h tally =
+    record {
+      input = input;
+      kind = kind_of h.source.declared;
+      size = h.source.offset;
+      tally = tally;
+    }
 
-abbrev pub Offers : code.Verdict → Captured → Target → Result Bool Fault → Target → Type 0
-Offers code_verdict.Pass p old r new = PutsAs false p old r new
-Offers code_verdict.PassLast p old r new = PutsAs true p old r new
-Offers code_verdict.Skip p old r new = (r ≡ Ok false) × (new ≡ old)
+-- a packet that passes is put into the output
+abbrev pub Offers : code.Verdict → Captured → Target → Result (Unit {0}) Fault → Target → Type 0
+Offers code_verdict.Skip p old r new = (r ≡ Ok tt) × (new ≡ old)
+Offers verdict p old r new = PutsIntoOutput p old r new
 
 -- what judges, and where what passes goes
 pub record Sieve (T : Type 0) : Type 0 where
@@ -38,29 +47,35 @@ pub record Sieve (T : Type 0) : Type 0 where
 abbrev pub sieve : {T : Type 0} → PolicyState → T → Sieve T
 sieve selector output = record { selector = selector; output = output }
 
--- a packet is judged, and put where it passes
-pub record Judges (p : Captured) (number : ℕ) (old : Sieve Target) (r : Result Bool Fault)
-    (new : Sieve Target) : Type 0 where
-  pub answer : code.Verdict
+-- the verdict on a packet, and what putting it answers where it passes
+pub record Judges (p : Captured) (number : ℕ) (old : Sieve Target) (verdict : code.Verdict)
+    (put : Result (Unit {0}) Fault) (new : Sieve Target) : Type 0 where
   -- as it passes
   pub packet : Captured
   pub exact : selecting_inside.IsVerdict (judge old.selector.policy old.selector.state number p)
-      (Ok answer) packet new.selector.state
-  pub offers : Offers answer packet old.output r new.output
+      (Ok verdict) packet new.selector.state
+  pub offers : Offers verdict packet old.output put new.output
 
 -- it is refused, and nothing is written
-pub record Rejects (p : Captured) (number : ℕ) (old : Sieve Target) (r : Result Bool Fault)
+pub record Rejects (p : Captured) (number : ℕ) (old : Sieve Target) (fault : Fault)
     (new : Sieve Target) : Type 0 where
-  pub fault : Fault
   pub exact : selecting_inside.IsVerdict (judge old.selector.policy old.selector.state number p)
       (Err fault) p new.selector.state
-  pub answer : r ≡ Err fault
   pub same : new.output ≡ old.output
 
-abbrev pub DecidesPacket : Option Captured → ℕ → Sieve Target → Result Bool Fault → Sieve Target
-    → Type 0
+-- a packet is judged, and put where it passes; or it isn't put, or it is refused
+abbrev pub DecidesPacket : Option Captured → ℕ → Sieve Target → Result code.Verdict Fault
+    → Sieve Target → Type 0
 DecidesPacket None number old r new = ⊥
-DecidesPacket (Some p) number old r new = Judges p number old r new ⊎ Rejects p number old r new
+DecidesPacket (Some p) number old (Ok verdict) new = Judges p number old verdict (Ok tt) new
+DecidesPacket (Some p) number old (Err fault) new =
+    ((verdict : code.Verdict) × Judges p number old verdict (Err fault) new)
+    ⊎ Rejects p number old fault new
+
+-- the last packet that passes ends the job
+abbrev pub end_after : code.Verdict → Option JobEnd
+end_after code_verdict.PassLast = Some end.Complete
+end_after verdict = None
 
 -- what deciding the current packet cost
 abbrev pub Spends : Option Captured → SelectorView → ℕ → SelectorView → Type 0
@@ -101,3 +116,46 @@ pub record Closes (inputs : InputsView) (input : ℕ) (old : Sieve JobOutputView
 abbrev pub end_of_failed_write : ℕ → Fault → JobEnd
 end_of_failed_write input WriteFailed = end.OutputFailed
 end_of_failed_write input fault = end.FaultIn input fault
+
+-- ---- what is next, as a step knows it
+
+-- next is the current packet of an input, which passes; this is what it adds
+pub record NextPacket {ss : List InputPast} {before : List ℕ} {old : JobState}
+    (d : PacketsDecided ss before old) (new : JobState) (bytes : List ℕ) : Type 0 where
+  pub input : ℕ
+  pub next : next_of old.inputs ≡ next.Decide input
+  pub cursor : InputView
+  pub among : slice_get old.inputs.cursors input ≡ Some cursor
+  pub packet : Captured
+  pub held : cursor.source.packet ≡ Some packet
+  pub comes : IsNextEvent (work_of old) (wholes_of ss) d.events
+      (Packet input (record { offset = cursor.source.offset; packet = packet }))
+  pub passed : Captured
+  pub passes : PassesAs (judge old.policy old.state (old.decided + 1) packet).verdict passed
+  pub taken : form_refuses (output_form old) d.packets passed ≡ None
+  pub bytes_are : bytes ≡ packet_bytes (output_form old) d.packets passed
+  pub inputs : new.inputs ≡ old.inputs
+
+-- next is an input that is read to its end in this step, and reported; this is its report
+pub record NextReport {ss : List InputPast} {before : List ℕ} {old : JobState}
+    (d : PacketsDecided ss before old) (new : JobState) (bytes : List ℕ) : Type 0 where
+  pub input : ℕ
+  pub next : next_of old.inputs ≡ next.Read input
+  pub fetches : ReadsInput old.inputs input (Ok false) new.inputs
+  pub comes : IsNextEvent (work_of old) (wholes_of ss) d.events
+      (InputEnd input (kind_of fetches.source.declared) fetches.source.offset)
+  pub policy : asks_report old.inputs.order old.policy ≡ true
+  pub bytes_are : bytes
+      ≡ report_bytes (output_form old)
+      (report_at input (input_after fetches.cursor (Ok false) fetches.source) old.state.tally)
+
+-- all inputs were read; this is what a clean end adds
+pub record NextClosing {ss : List InputPast} {before : List ℕ} {old : JobState}
+    (d : PacketsDecided ss before old) (new : JobState) (bytes : List ℕ) : Type 0 where
+  pub next : next_of old.inputs ≡ next.Finish
+  pub comes : AreAllEvents (work_of old) (wholes_of ss) d.events
+  pub bytes_are : bytes ≡ closing_text (output_form old) (first_link (wholes_of ss)) d.packets
+  pub inputs : new.inputs ≡ old.inputs
+
+abbrev pub texts : List InputPast → List (List ℕ)
+texts ss = map (λ (s : InputPast). s.text) ss

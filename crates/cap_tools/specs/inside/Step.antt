@@ -2,7 +2,7 @@
 use Rattle.std.specs.Prelude.{◌≡◌, ◌+◌, ◌<◌, Bool, IsTrue, Some, Option, None}
 use Rattle.cap_octet.specs.Views.{OutputView}
 use Rattle.cap_tools.specs.declared.step.JobEnd.{JobEnd}
-use Rattle.cap_inputs.specs.Inputs.{steps_left}
+use Rattle.cap_inputs.specs.inside.Inputs.{steps_left}
 use Rattle.cap_process.specs.Selector.{HavePrograms}
 use Rattle.cap_tools.specs.Packets.{StepGives}
 use Rattle.cap_tools.specs.Jobs.{JobView, end_status}

@@ -7,9 +7,9 @@ use Rattle.cap_window.specs.Marks.{is_same_mark}
 use Rattle.cap_window.specs.declared.links.Links.{Links}
 use Rattle.cap_window.specs.declared.mark.Mark.{Mark}
 
--- a bit of a mark: of its digest, from the last byte on, and then of its length
-unfoldable pub is_one : Mark → ℕ → Bool
-is_one m depth =
+-- the bit of a mark at a depth: of its digest, from the last byte on, and then of its length
+unfoldable pub mark_bit : Mark → ℕ → Bool
+mark_bit m depth =
     if nat_lt depth 128 then slice_index m.digest (15 - depth / 8) / 2 ^ (depth % 8) % 2 == 1
     else m.length / 2 ^ (depth % 32) % 2 == 1
 
@@ -20,8 +20,8 @@ link_by_bit links false = links.zeros
 
 -- the marks of a class that have this bit
 abbrev pub marks_with_bit : (Mark → Bool) → ℕ → Bool → Mark → Bool
-marks_with_bit class depth true m = class m && is_one m depth
-marks_with_bit class depth false m = class m && not (is_one m depth)
+marks_with_bit class depth true m = class m && mark_bit m depth
+marks_with_bit class depth false m = class m && not (mark_bit m depth)
 
 abbrev pub but : (Mark → Bool) → Mark → Mark → Bool
 but wanted top m = wanted m && not (is_same_mark m top)

@@ -43,8 +43,8 @@ abbrev pub shape_by : Choices → CommandRow → Shape
 shape_by choices row = (app_by choices row).top
 
 -- the subcommand of one of these names
-abbrev pub subcommand_named : Text → Subcommand
-subcommand_named name =
+abbrev pub subcommand_of_name : Text → Subcommand
+subcommand_of_name name =
     if bytes_eq name (name_of sub.Edit) then sub.Edit
     else (if bytes_eq name (name_of sub.Merge) then sub.Merge
     else (if bytes_eq name (name_of sub.Infos) then sub.Infos

@@ -14,7 +14,7 @@ use Rattle.cap_octet.specs.declared.number.Order.{Order}
 use Rattle.capkit_c.specs.declared.memory.layout.Interface.{Interface}
 use Rattle.capkit_c.specs.declared.memory.layout.Packet.{Packet}
 use Rattle.capkit_c.specs.declared.memory.layout.Reader.{Reader}
-use Rattle.capkit_c.specs.declared.memory.reader.Step.{Step}
+use Rattle.capkit_c.specs.declared.memory.reader.ReadUnit.{ReadUnit}
 use Rattle.capkit_c.specs.Units.{comment_by, name_by, DeclaresOne}
 
 -- a packet of a unit of this size, which begins a text, and where its parts are in the unit
@@ -37,7 +37,7 @@ ArePlaced declared text size (Some p) packets =
 
 -- a text begins with a unit: what it declares, and its packet
 pub record BeginsWithUnit (form : FileState) (interfaces : List Described) (text : List ℕ)
-    (table' : List Interface) (step : Step) : Type 0 where
+    (table' : List Interface) (step : ReadUnit) : Type 0 where
   pub packets : List Captured
   pub front : front_of (declared_by form interfaces) text
       ≡ Whole step.size packets

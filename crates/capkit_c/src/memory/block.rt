@@ -12,16 +12,19 @@ use crate::memory::layout::Interface;
 use cap_octet::{Fault, Order};
 use cap_pcapng::{
     BlockEffect as Effect, Frame, Interface as ReadInterface, Interfaces, PacketSpans,
-    block_effect, frame,
+    block_effect, read_frame,
 };
 
 /// A packet, and where its parts are in its unit.
 #[derive(Clone, Copy)]
 pub(crate) struct UnitPacket {
+    /// Where its data begin in the unit, and how many bytes they are.
     pub(crate) start: u32,
     pub(crate) length: u32,
+    /// Where the options of its block begin in the unit, and how many bytes they are.
     pub(crate) options_start: u32,
     pub(crate) options_length: u32,
+    /// The number of its interface, from 0 in its section; 0 in pcap.
     pub(crate) interface: u32,
     pub(crate) link_type: u16,
     pub(crate) snap: u32,
@@ -45,8 +48,8 @@ pub(crate) struct BlockEffect {
     pub(crate) packet: Option<UnitPacket>,
 }
 
-/// The interface with this number among the first of a table.
-fn get(table: &[Interface], count: usize, number: u32) -> Option<&Interface>
+/// The interface with this number, from 0, among the first `count` of a table, if it is there.
+fn interface_by_number(table: &[Interface], count: usize, number: u32) -> Option<&Interface>
     requires { count ≤ length table.now }
     ensures { option_map (λ i. described_of i.now) result
         ≡ slice_get (first_interfaces count table.now) number }
@@ -57,24 +60,24 @@ fn get(table: &[Interface], count: usize, number: u32) -> Option<&Interface>
     table.get(number as usize)
 }
 
-/// Puts an interface after the first of a table.
-fn put(table: &mut [Interface], count: usize, interface: &ReadInterface<'_>)
+/// Puts an interface after the first `count` of a table.
+fn append_interface(table: &mut [Interface], count: usize, interface: &ReadInterface<'_>)
     requires { count < length table.old }
     ensures put { first_interfaces (count + 1) table.new
         ≡ first_interfaces count table.old ++ description_of interface.now ∷ [] }
     ensures same { length table.new ≡ length table.old }
 {
-    table[count] = Interface::of(interface);
+    table[count] = Interface::of_read(interface);
 }
 
-/// The first interfaces of a table.
+/// The first `count` interfaces of a table, as blocks look them up.
 #[derive(Clone, Copy)]
-struct Known<'a> {
+struct KnownInterfaces<'a> {
     entries: &'a [Interface],
     count: usize,
 }
 
-impl Interfaces for Known<'_> {
+impl Interfaces for KnownInterfaces<'_> {
     ghost list = { λ known. first_interfaces known.count known.entries.now };
 
     fn count(&self) -> usize {
@@ -85,11 +88,12 @@ impl Interfaces for Known<'_> {
         if number as usize >= self.count {
             return None;
         }
-        self.entries.get(number as usize).map(Interface::read)
+        self.entries.get(number as usize).map(Interface::as_read)
     }
 }
 
-/// A packet with what is known of its interface, which is among the first of a table.
+/// A packet with link type and snap length of its interface, which is among the first `count` of a
+/// table.
 fn unit_packet(table: &[Interface], count: usize, spans: &PacketSpans) -> UnitPacket
     requires known { count ≤ length table.now }
     requires there { is_some (slice_get (first_interfaces count table.now) spans.now.interface)
@@ -97,7 +101,7 @@ fn unit_packet(table: &[Interface], count: usize, spans: &PacketSpans) -> UnitPa
     ensures spans { spans_of spans.now.size result ≡ spans.now }
     ensures interface { IsOf (first_interfaces count table.now) result }
 {
-    let interface = get(table, count, spans.interface).unwrap();
+    let interface = interface_by_number(table, count, spans.interface).unwrap();
     UnitPacket {
         start: spans.bytes.start,
         length: spans.bytes.length,
@@ -111,8 +115,8 @@ fn unit_packet(table: &[Interface], count: usize, spans: &PacketSpans) -> UnitPa
     }
 }
 
-/// Makes the checks of a whole block of this frame, and brings the table of interfaces after it. A
-/// refusal leaves the table unchanged.
+/// Makes the checks of a whole block of this frame, and adds the interface that it describes to the
+/// first `count` of a table. A refusal leaves the table unchanged.
 fn apply_block(
     table: &mut [Interface],
     count: usize,
@@ -130,7 +134,7 @@ fn apply_block(
         (length table.old)) }
     ensures kept { OnErr result (table.new ≡ table.old) }
 {
-    let known = Known {
+    let known = KnownInterfaces {
         entries: table,
         count,
     };
@@ -143,7 +147,7 @@ fn apply_block(
             if count == table.len() {
                 return Err(Refusal::NoRoom);
             }
-            put(table, count, &interface);
+            append_interface(table, count, &interface);
             Ok(BlockEffect {
                 interfaces: count + 1,
                 packet: None,
@@ -171,7 +175,8 @@ pub(crate) struct BlockRead {
 }
 
 /// Reads the block that a text begins with, after a section of this byte order or after none, and
-/// brings the table of interfaces after it. A refusal leaves the table unchanged.
+/// adds the interface that it describes to the first `count` of a table. A refusal leaves the table
+/// unchanged.
 pub(crate) fn read_block(
     section: Option<Order>,
     table: &mut [Interface],
@@ -191,7 +196,7 @@ pub(crate) fn read_block(
     let Some(first) = text.first_chunk::<12>() else {
         return Err(Refusal::Fault(Fault::Truncated));
     };
-    let found = match frame(section, first) {
+    let found = match read_frame(section, first) {
         Ok(found) => found,
         Err(fault) => return Err(Refusal::Fault(fault)),
     };

@@ -1,15 +1,12 @@
 //! What the caller keeps of a capture, in C's layout.
 ghost use Rattle.std.specs.Prelude.{◌≡◌, ◌≤◌, length};
 ghost use Rattle.cap_pcapng.specs.Interface.{description_of};
-ghost use Rattle.capkit_c.specs.Layout.{described_of, reader_form, most_known, order_by};
+ghost use Rattle.capkit_c.specs.Layout.{described_of, reader_form, most_known, order_of_flag};
 
 use cap_io::FileState;
 use cap_octet::Order;
 use cap_pcap::{Head, Resolution};
-use cap_pcapng::{Clock, Interface as ReadInterface};
-
-/// The most interfaces of a section.
-const MOST_INTERFACES: usize = 256;
+use cap_pcapng::{Clock, Interface as ReadInterface, MOST_INTERFACES};
 
 /// The most bytes of an interface's name.
 const MOST_NAME: usize = 255;
@@ -76,16 +73,16 @@ pub struct Packet {
     pub link_type: u16,
 }
 
-/// The byte order by a flag.
-fn order_by(flag: u8) -> Order
-    ensures { result ≡ order_by flag }
+/// The byte order that a flag tells: 0 is little-endian, every other number big-endian.
+fn order_of_flag(flag: u8) -> Order
+    ensures { result ≡ order_of_flag flag }
 {
     if flag == 0 { Order::Little } else { Order::Big }
 }
 
-/// The flag of a byte order.
-fn order_flag(order: Order) -> u8
-    ensures { order_by result ≡ order }
+/// The flag that tells a byte order.
+fn flag_of_order(order: Order) -> u8
+    ensures { order_of_flag result ≡ order }
 {
     match order {
         Order::Little => 0,
@@ -94,13 +91,13 @@ fn order_flag(order: Order) -> u8
 }
 
 impl Reader {
-    /// What is declared.
-    pub(crate) fn form(&self) -> FileState
+    /// What the units so far declare of the file, without its table of interfaces.
+    pub(crate) fn file_state(&self) -> FileState
         ensures { result ≡ reader_form self.now }
     {
         match self.form {
             1 => FileState::Pcap(Head {
-                order: order_by(self.big_endian),
+                order: order_of_flag(self.big_endian),
                 resolution: if self.nanoseconds == 0 {
                     Resolution::Microseconds
                 } else {
@@ -110,7 +107,7 @@ impl Reader {
                 link: self.link_type,
             }),
             2 => FileState::Pcapng(
-                order_by(self.big_endian),
+                order_of_flag(self.big_endian),
                 if self.has_link_type == 0 {
                     None
                 } else {
@@ -121,8 +118,8 @@ impl Reader {
         }
     }
 
-    /// How many interfaces there are, in a table with so much room.
-    pub(crate) fn known(&self, room: usize) -> usize
+    /// How many interfaces of the section are known, in a table with room for `room`.
+    pub(crate) fn known_interfaces(&self, room: usize) -> usize
         ensures value { result ≡ most_known self.now room }
         ensures fits { result ≤ room }
         ensures bounds { result ≤ 256 }
@@ -130,8 +127,8 @@ impl Reader {
         (self.interfaces as usize).min(room).min(MOST_INTERFACES)
     }
 
-    /// A reader at this place of which this is declared.
-    pub(crate) fn at(offset: usize, form: FileState, interfaces: usize) -> Self
+    /// A reader at place `offset`, of a file of which this is declared, with as many interfaces.
+    pub(crate) fn new_at(offset: usize, form: FileState, interfaces: usize) -> Self
         requires { interfaces ≤ 256 }
         ensures offset { result.offset ≡ offset }
         ensures form { reader_form result ≡ form }
@@ -151,7 +148,7 @@ impl Reader {
             FileState::Unknown => {}
             FileState::Pcap(head) => {
                 reader.form = 1;
-                reader.big_endian = order_flag(head.order);
+                reader.big_endian = flag_of_order(head.order);
                 reader.nanoseconds = match head.resolution {
                     Resolution::Microseconds => 0,
                     Resolution::Nanoseconds => 1,
@@ -162,7 +159,7 @@ impl Reader {
             }
             FileState::Pcapng(order, first) => {
                 reader.form = 2;
-                reader.big_endian = order_flag(order);
+                reader.big_endian = flag_of_order(order);
                 if let Some(link) = first {
                     reader.link_type = link;
                     reader.has_link_type = 1;
@@ -174,8 +171,8 @@ impl Reader {
 }
 
 impl Interface {
-    /// The same as it was read.
-    pub(crate) fn of(read: &ReadInterface<'_>) -> Self
+    /// An interface that was read, with its name copied.
+    pub(crate) fn of_read(read: &ReadInterface<'_>) -> Self
         ensures { described_of result ≡ description_of read.now }
     {
         let mut name = [0; MOST_NAME];
@@ -190,8 +187,8 @@ impl Interface {
         }
     }
 
-    /// The same, with its name lent.
-    pub(crate) fn read(&self) -> ReadInterface<'_>
+    /// The interface as blocks know it, with its name lent.
+    pub(crate) fn as_read(&self) -> ReadInterface<'_>
         ensures { description_of result ≡ described_of self.now }
     {
         ReadInterface {

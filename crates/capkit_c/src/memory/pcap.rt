@@ -5,12 +5,13 @@ ghost use Rattle.cap_pcap.specs.Header.{header_fault, header_in};
 ghost use Rattle.cap_pcap.specs.Record.{record_fault, record_header_in};
 
 use cap_octet::Fault;
-use cap_pcap::{Head, RecordHead, read_head, read_magic, read_record};
+use cap_pcap::{Head, RecordHead, read_file_header, read_magic, read_record_header};
 
 /// The bytes of a record in front of its data.
 pub(crate) const RECORD_HEADER: u32 = 16;
 
-/// The file header that a text begins with, or the first check that fails.
+/// The file header that a text begins with, or the first check that fails; beside those of the
+/// header that it is there.
 pub(crate) fn header_in(text: &[u8]) -> Result<Head, Fault>
     ensures { result ≡ checked (header_fault text.now) (header_in text.now) }
 {
@@ -20,18 +21,19 @@ pub(crate) fn header_in(text: &[u8]) -> Result<Head, Fault>
     let Some(bytes) = text.first_chunk::<24>() else {
         return Err(Fault::Truncated);
     };
-    read_head(bytes)
+    read_file_header(bytes)
 }
 
-/// The record that a text begins with, or the first check that fails.
-pub(crate) fn record_in(head: &Head, text: &[u8]) -> Result<RecordHead, Fault>
+/// The header of the record that a text begins with, or the first check that fails; beside those of
+/// the header that the record is there with its data.
+pub(crate) fn record_header_in(head: &Head, text: &[u8]) -> Result<RecordHead, Fault>
     ensures { result ≡ checked (record_fault head.now text.now) (record_header_in head.now
         text.now) }
 {
     let Some(bytes) = text.first_chunk::<16>() else {
         return Err(Fault::Truncated);
     };
-    let record = read_record(head, bytes)?;
+    let record = read_record_header(head, bytes)?;
     if text.len() - 16 < record.captured as usize {
         return Err(Fault::Truncated);
     }

@@ -12,7 +12,7 @@ ghost use Rattle.cap_io.specs.declared.file_state.FileState.TheVariants as form;
 
 use crate::memory::block::{Refusal, UnitPacket, read_block};
 use crate::memory::layout::{Interface, Packet, Reader};
-use crate::memory::pcap::{RECORD_HEADER, header_in, record_in};
+use crate::memory::pcap::{RECORD_HEADER, header_in, record_header_in};
 use cap_io::FileState;
 use cap_octet::{Fault, Order};
 use cap_pcap::Head;
@@ -34,7 +34,7 @@ pub enum Found {
 
 /// A unit that was read.
 #[derive(Clone, Copy)]
-struct Step {
+struct ReadUnit {
     size: usize,
     form: FileState,
     interfaces: usize,
@@ -42,7 +42,7 @@ struct Step {
 }
 
 /// The bytes from a place on; none where it is past the end.
-fn rest_of(text: &[u8], at: usize) -> &[u8]
+fn bytes_from(text: &[u8], at: usize) -> &[u8]
     ensures { result.now ≡ drop at text.now }
 {
     match text.get(at..) {
@@ -51,7 +51,7 @@ fn rest_of(text: &[u8], at: usize) -> &[u8]
     }
 }
 
-/// Whether a file that begins so is pcapng.
+/// Whether a file that begins with this text is pcapng: with the type of a section header.
 fn is_pcapng(text: &[u8]) -> bool
     ensures { result ≡ is_pcapng text.now }
 {
@@ -73,16 +73,17 @@ fn first_link_type(first: Option<u16>, table: &[Interface], count: usize) -> Opt
     first.or(table.first().map(|interface| interface.link_type))
 }
 
-/// The record that a text begins with.
-fn record_step(head: &Head, text: &[u8], interfaces: usize) -> Result<Step, Refusal>
+/// Reads the record that a text begins with, in a pcap file with this header; `interfaces` are
+/// handed on.
+fn read_record_unit(head: &Head, text: &[u8], interfaces: usize) -> Result<ReadUnit, Refusal>
     ensures ok { IfOk result (λ step. (known : List Described) (table : List Interface)
         → interfaces ≤ length table → interfaces ≤ 256 → BeginsWithUnit (form.Pcap head.now) known
         text.now table step) }
     ensures err { IfErr result (λ why. (known : List Described) (room : ℕ) → 0 < length text.now
         → IsNoUnit (form.Pcap head.now) known text.now room why) }
 {
-    match record_in(head, text) {
-        Ok(record) => Ok(Step {
+    match record_header_in(head, text) {
+        Ok(record) => Ok(ReadUnit {
             size: RECORD_HEADER as usize + record.captured as usize,
             form: FileState::Pcap(*head),
             interfaces,
@@ -102,15 +103,17 @@ fn record_step(head: &Head, text: &[u8], interfaces: usize) -> Result<Step, Refu
     }
 }
 
-/// The block that a text begins with, after what is declared.
-fn block_step(
+/// Reads the block that a text begins with, after a section of this byte order or after none.
+/// `first` is the file's first link type so far; the first `count` of `table` are the section's
+/// interfaces.
+fn read_block_unit(
     form: FileState,
     section: Option<Order>,
     first: Option<u16>,
     table: &mut [Interface],
     count: usize,
     text: &[u8],
-) -> Result<Step, Refusal>
+) -> Result<ReadUnit, Refusal>
     requires known { count ≤ length table.old }
     requires bounds { count ≤ 256 }
     requires begins { Begins form section first (first_interfaces count table.old) text.now }
@@ -124,7 +127,7 @@ fn block_step(
     match read_block(section, table, count, text) {
         Ok(read) => {
             let link = first_link_type(first, table, read.effect.interfaces);
-            Ok(Step {
+            Ok(ReadUnit {
                 size: read.size,
                 form: FileState::Pcapng(read.order, link),
                 interfaces: read.effect.interfaces,
@@ -135,13 +138,14 @@ fn block_step(
     }
 }
 
-/// The unit that a text begins with, which isn't empty where units are declared.
+/// Reads the unit that a text begins with, a file header, a record or a block, by what is declared
+/// of the file. The text isn't empty where a unit was read before.
 fn read_unit(
     form: FileState,
     table: &mut [Interface],
     count: usize,
     text: &[u8],
-) -> Result<Step, Refusal>
+) -> Result<ReadUnit, Refusal>
     requires known { count ≤ length table.old }
     requires bounds { count ≤ 256 }
     requires some { IsSomeFor form text.now }
@@ -156,10 +160,10 @@ fn read_unit(
     match form {
         FileState::Unknown => {
             if is_pcapng(text) {
-                return block_step(form, None, None, table, count, text);
+                return read_block_unit(form, None, None, table, count, text);
             }
             match header_in(text) {
-                Ok(head) => Ok(Step {
+                Ok(head) => Ok(ReadUnit {
                     size: 24,
                     form: FileState::Pcap(head),
                     interfaces: 0,
@@ -168,12 +172,19 @@ fn read_unit(
                 Err(fault) => Err(Refusal::Fault(fault)),
             }
         }
-        FileState::Pcap(head) => record_step(&head, text, count),
-        FileState::Pcapng(order, first) => block_step(form, Some(order), first, table, count, text),
+        FileState::Pcap(head) => read_record_unit(&head, text, count),
+        FileState::Pcapng(order, first) => read_block_unit(
+            form,
+            Some(order),
+            first,
+            table,
+            count,
+            text,
+        ),
     }
 }
 
-/// A packet of the unit at this place of a capture.
+/// A packet of the unit at place `at` of a capture, with its places from the capture's start.
 fn packet_at(at: usize, placed: &UnitPacket) -> Packet
     requires bytes { at + placed.now.start < 2 ^ 64 }
     requires options { at + placed.now.options_start < 2 ^ 64 }
@@ -192,8 +203,9 @@ fn packet_at(at: usize, placed: &UnitPacket) -> Packet
     }
 }
 
-/// How many interfaces are known, in a table with so much room.
-fn known_in(reader: &Reader, form: FileState, room: usize) -> usize
+/// How many interfaces of the section are known, in a table with room for `room`; none before the
+/// first unit.
+fn known_interface_count(reader: &Reader, form: FileState, room: usize) -> usize
     ensures counts { Counts form reader.now room result }
     ensures bare { IsBare form result }
     ensures fits { result ≤ room }
@@ -201,12 +213,12 @@ fn known_in(reader: &Reader, form: FileState, room: usize) -> usize
 {
     match form {
         FileState::Unknown => 0,
-        FileState::Pcap(_) | FileState::Pcapng(_, _) => reader.known(room),
+        FileState::Pcap(_) | FileState::Pcapng(_, _) => reader.known_interfaces(room),
     }
 }
 
-/// Whether a capture of which this is declared is over where this is left.
-fn is_over(form: FileState, text: &[u8]) -> bool
+/// Whether a capture is at its clean end, where `text` is left of it: not before its first unit.
+fn is_at_end(form: FileState, text: &[u8]) -> bool
     ensures over { IsTrue result → IsAtEnd form text.now }
     ensures some { result ≡ false → IsSomeFor form text.now }
 {
@@ -228,16 +240,16 @@ pub fn next_unit(
         packet.new result }
     ensures same { length table.new ≡ length table.old }
 {
-    let form = reader.form();
-    let count = known_in(reader, form, table.len());
-    let text = rest_of(capture, reader.offset);
-    if is_over(form, text) {
+    let form = reader.file_state();
+    let count = known_interface_count(reader, form, table.len());
+    let text = bytes_from(capture, reader.offset);
+    if is_at_end(form, text) {
         return Found::End;
     }
     let at = reader.offset;
     match read_unit(form, table, count, text) {
         Ok(step) => {
-            *reader = Reader::at(at + step.size, step.form, step.interfaces);
+            *reader = Reader::new_at(at + step.size, step.form, step.interfaces);
             match step.packet {
                 Some(placed) => {
                     *packet = packet_at(at, &placed);
@@ -251,11 +263,11 @@ pub fn next_unit(
     }
 }
 
-/// A given number of bytes from a place on, as far as they are there.
-fn part_of(text: &[u8], at: usize, length: u32) -> &[u8]
+/// `length` bytes of a text from place `at` on, as far as they are there.
+fn bytes_at(text: &[u8], at: usize, length: u32) -> &[u8]
     ensures { result.now ≡ take length (drop at text.now) }
 {
-    let rest = rest_of(text, at);
+    let rest = bytes_from(text, at);
     &rest[..rest.len().min(length as usize)]
 }
 
@@ -265,10 +277,10 @@ pub fn comment_of<'a>(reader: &Reader, capture: &'a [u8], packet: &Packet) -> &'
     ensures { (table : List Interface) → result.now ≡ comment_by (declared_in reader.now table)
         (take packet.now.options_length (drop packet.now.options_at capture.now)) }
 {
-    match reader.form() {
+    match reader.file_state() {
         FileState::Unknown | FileState::Pcap(_) => &[],
         FileState::Pcapng(order, _) => {
-            let rest = part_of(capture, packet.options_at, packet.options_length);
+            let rest = bytes_at(capture, packet.options_at, packet.options_length);
             Options { order, rest }.comment()
         }
     }

@@ -13,17 +13,17 @@ ghost use Rattle.capkit_c.specs.Buffers.{written_packet, written_record_checks};
 
 use cap_octet::date::TIME_END;
 use cap_octet::{Fault, Format, Packet};
-use cap_pcap::{head_bytes, record_bytes};
+use cap_pcap::{file_header, record_header};
 use cap_pcapng::{
     interface_end, interface_header, option_header, packet_end, packet_header, padding_after,
     section_bytes,
 };
 
 /// The code of a comment (option opt_comment).
-const COMMENT: u16 = 1;
+const COMMENT_CODE: u16 = 1;
 
 /// The code of an interface's name (option if_name).
-const NAME: u16 = 2;
+const NAME_CODE: u16 = 2;
 
 /// The most bytes of a comment.
 const MOST_COMMENT: usize = 65535;
@@ -32,7 +32,7 @@ const MOST_COMMENT: usize = 65535;
 const MOST_NAME: usize = 255;
 
 /// The most interfaces that a file is given.
-const MOST_INTERFACES: u32 = 4096;
+const MOST_INTERFACES: u32 = cap_io::MOST_OUTPUT_INTERFACES as u32;
 
 /// What became of bytes that were to be put into a buffer.
 #[derive(Clone, Copy)]
@@ -62,8 +62,8 @@ fn put_parts(parts: &[&[u8]], size: usize, buffer: &mut [u8]) -> Written
     Written::Whole(size)
 }
 
-/// The pcap form with microseconds, or where the flag isn't 0 that with nanoseconds.
-fn format_by(nanoseconds: u32) -> Format
+/// The pcap format that a flag tells: with microseconds at 0, else with nanoseconds.
+fn pcap_format(nanoseconds: u32) -> Format
     ensures form { IsPcap result }
     ensures resolution { resolution_of result ≡ resolution_by nanoseconds }
 {
@@ -74,18 +74,18 @@ fn format_by(nanoseconds: u32) -> Format
     }
 }
 
-/// Puts the file header of a pcap form.
+/// Puts the file header of a pcap file, of 24 bytes.
 pub fn write_file_header(nanoseconds: u32, link_type: u16, buffer: &mut [u8]) -> Written
     ensures { WriteLeaves None (file_header (resolution_by nanoseconds) link_type) buffer.old
         buffer.new
         result }
 {
-    let head = head_bytes(format_by(nanoseconds), link_type);
+    let head = file_header(pcap_format(nanoseconds), link_type);
     put_parts(&[&head], head.len(), buffer)
 }
 
-/// Puts the record of a packet of a pcap form. It is refused where its time is 2^63 nanoseconds or
-/// more, and then as `cap_pcap::fits` says.
+/// Puts the record of a packet in a pcap file. It is refused where its time is 2^63 nanoseconds or
+/// more, and then as `cap_pcap::check_record_fits` says.
 pub fn write_record(
     nanoseconds: u32,
     time: u64,
@@ -109,10 +109,10 @@ pub fn write_record(
         bytes,
         comment: &[],
     };
-    let format = format_by(nanoseconds);
-    match cap_pcap::fits(format, &packet) {
+    let format = pcap_format(nanoseconds);
+    match cap_pcap::check_record_fits(format, &packet) {
         Ok(()) => {
-            let head = record_bytes(format, &packet);
+            let head = record_header(format, &packet);
             put_parts(&[&head, bytes], head.len() + bytes.len(), buffer)
         }
         Err(fault) => Written::Refused(fault),
@@ -148,7 +148,8 @@ pub fn write_interface(link_type: u16, snap: u32, name: &[u8], buffer: &mut [u8]
     put_interface(&packet, buffer)
 }
 
-/// Puts the description of a packet's interface.
+/// Puts the description of a packet's interface; its parts are as `cap_pcapng::write_interface` has
+/// them.
 fn put_interface(packet: &Packet<'_>, buffer: &mut [u8]) -> Written
     ensures { WriteLeaves None
         (interface_text packet.now.link packet.now.snap packet.now.name.now) buffer.old buffer.new
@@ -156,7 +157,7 @@ fn put_interface(packet: &Packet<'_>, buffer: &mut [u8]) -> Written
 {
     let name = packet.name;
     let padding = padding_after(name.len());
-    let option = option_header(NAME, name);
+    let option = option_header(NAME_CODE, name);
     let start = if name.is_empty() { 7 } else { 3 };
     let option = &option[start..];
     let size = 32 + option.len() + name.len() + padding;
@@ -167,8 +168,8 @@ fn put_interface(packet: &Packet<'_>, buffer: &mut [u8]) -> Written
 
 /// Puts the block of a packet of this interface, after its section and the descriptions of its
 /// interfaces. It is refused where its time is 2^63 nanoseconds or more, its comment has over
-/// 65,535 bytes (`BadOption`), as `cap_pcapng::fits` says, and where the interface isn't among the
-/// first 4,096.
+/// 65,535 bytes (`BadOption`), as `cap_pcapng::check_block_fits` says, and where the interface
+/// isn't among the first 4,096.
 pub fn write_packet(
     interface: u32,
     time: u64,
@@ -197,14 +198,15 @@ pub fn write_packet(
         bytes,
         comment,
     };
-    match cap_pcapng::fits(&packet) {
+    match cap_pcapng::check_block_fits(&packet) {
         Ok(()) if interface < MOST_INTERFACES => put_packet(interface, &packet, buffer),
         Ok(()) => Written::Refused(Fault::TooManyOutputInterfaces),
         Err(fault) => Written::Refused(fault),
     }
 }
 
-/// Puts the block of a packet that fits.
+/// Puts the enhanced packet block of a packet that fits; its parts are as
+/// `cap_pcapng::write_packet` has them.
 fn put_packet(number: u32, packet: &Packet<'_>, buffer: &mut [u8]) -> Written
     requires { first_failing (block_fit_checks (captured packet.now)) ≡ None }
     ensures { WriteLeaves None (packet_block number (captured packet.now)) buffer.old buffer.new
@@ -218,7 +220,7 @@ fn put_packet(number: u32, packet: &Packet<'_>, buffer: &mut [u8]) -> Written
         return put_parts(&[&head, packet.bytes, &end[7 - padding..]], size, buffer);
     }
     let comment = packet.comment;
-    let option = option_header(COMMENT, comment);
+    let option = option_header(COMMENT_CODE, comment);
     let option = &option[3 - padding..];
     let zeros = padding_after(comment.len()) + 4;
     let size = 32 + packet.bytes.len() + option.len() + comment.len() + zeros;

@@ -7,34 +7,58 @@ use std::test::Fail;
 const RETURN: Row = (22, 0, 0, 0);
 
 /// 2^31.
-const HALF: u32 = 0x8000_0000;
+const HALF_OF_PLACES: u32 = 0x8000_0000;
 
 /// Instructions, and whether they run alike.
 const PROGRAMS: &[(&[Row], u32)] = &[
     // Loads below 2^31 and at it.
-    (&[(0x20, 0, 0, HALF - 1), (0x28, 0, 0, HALF - 1), RETURN], 1),
-    (&[(0x30, 0, 0, HALF - 1), (0xb1, 0, 0, HALF - 1), RETURN], 1),
-    (&[(0x20, 0, 0, HALF), RETURN], 0),
-    (&[(0x28, 0, 0, HALF), RETURN], 0),
-    (&[(0x30, 0, 0, HALF), RETURN], 0),
-    (&[(0xb1, 0, 0, HALF), RETURN], 0),
+    (
+        &[
+            (0x20, 0, 0, HALF_OF_PLACES - 1),
+            (0x28, 0, 0, HALF_OF_PLACES - 1),
+            RETURN,
+        ],
+        1,
+    ),
+    (
+        &[
+            (0x30, 0, 0, HALF_OF_PLACES - 1),
+            (0xb1, 0, 0, HALF_OF_PLACES - 1),
+            RETURN,
+        ],
+        1,
+    ),
+    (&[(0x20, 0, 0, HALF_OF_PLACES), RETURN], 0),
+    (&[(0x28, 0, 0, HALF_OF_PLACES), RETURN], 0),
+    (&[(0x30, 0, 0, HALF_OF_PLACES), RETURN], 0),
+    (&[(0xb1, 0, 0, HALF_OF_PLACES), RETURN], 0),
     // Indexed loads, where X is small, and where it may not be.
-    (&[(0x01, 0, 0, HALF - 1), (0x50, 0, 0, HALF - 1), RETURN], 1),
+    (
+        &[
+            (0x01, 0, 0, HALF_OF_PLACES - 1),
+            (0x50, 0, 0, HALF_OF_PLACES - 1),
+            RETURN,
+        ],
+        1,
+    ),
     (
         &[(0x01, 0, 0, 0), (0x40, 0, 0, 9), (0x48, 0, 0, 9), RETURN],
         1,
     ),
-    (&[(0x01, 0, 0, HALF), (0x50, 0, 0, 0), RETURN], 0),
+    (&[(0x01, 0, 0, HALF_OF_PLACES), (0x50, 0, 0, 0), RETURN], 0),
     (&[(0x07, 0, 0, 0), (0x40, 0, 0, 0), RETURN], 0),
     (&[(0x07, 0, 0, 0), (0x48, 0, 0, 0), RETURN], 0),
     (
         &[(0x02, 0, 0, 0), (0x61, 0, 0, 0), (0x50, 0, 0, 0), RETURN],
         0,
     ),
-    (&[(0xb1, 0, 0, 14), (0x40, 0, 0, HALF), RETURN], 0),
-    (&[(0xb1, 0, 0, 14), (0x48, 0, 0, HALF), RETURN], 0),
-    (&[(0xb1, 0, 0, 14), (0x50, 0, 0, HALF), RETURN], 0),
-    (&[(0xb1, 0, 0, 14), (0x50, 0, 0, HALF - 1), RETURN], 1),
+    (&[(0xb1, 0, 0, 14), (0x40, 0, 0, HALF_OF_PLACES), RETURN], 0),
+    (&[(0xb1, 0, 0, 14), (0x48, 0, 0, HALF_OF_PLACES), RETURN], 0),
+    (&[(0xb1, 0, 0, 14), (0x50, 0, 0, HALF_OF_PLACES), RETURN], 0),
+    (
+        &[(0xb1, 0, 0, 14), (0x50, 0, 0, HALF_OF_PLACES - 1), RETURN],
+        1,
+    ),
     (&[(0x07, 0, 0, 0), RETURN], 1),
     // The length, and shifts by X.
     (&[(0x80, 0, 0, 0), RETURN], 0),

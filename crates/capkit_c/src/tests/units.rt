@@ -131,8 +131,8 @@ const UNITS: &[(Unit, &[u8])] = &[
     ),
 ];
 
-/// Whether a unit is written into a buffer with room for more, into none that is too small, and into
-/// one of its size.
+/// Whether a unit is written into a buffer with room for more, into none that is too small, and
+/// into one of its size.
 fn is_written_as(unit: Unit, expected: &[u8]) -> bool {
     let bytes = [0xaa, 0xbb, 0xcc, 0xdd];
     let (mut buffer, mut length) = ([0xa5; 64], 77);

@@ -2,7 +2,7 @@
 use Rattle.std.specs.Prelude.{◌≡◌, ℕ, zero, suc, ◌+◌, ◌^◌, ◌≤◌, nat_lt, ◌==◌, ◌&&◌, if◌then◌else◌, List, [], ◌∷◌, length, Option, Some, None, Result, Ok, Err}
 use Rattle.std.specs.List.{slice_split}
 use Rattle.std.specs.Borrow.{Bor}
-use Rattle.cap_octet.specs.Digits.{number_of}
+use Rattle.cap_octet.specs.Digits.{decimal_value}
 use Rattle.flt_bpf.specs.declared.insn.Insn.{Insn}
 use Rattle.flt_bpf.specs.declared.fault.ListingFault.{ListingFault}
 use Rattle.flt_bpf.specs.declared.fault.ListingFault.TheVariants.{NotListing, Memory}
@@ -16,7 +16,7 @@ pieces_after stop (Some rest) = slice_split (λ b. b == stop) rest.now
 
 -- the number that 1 to 10 digits write
 abbrev pub numeral : List ℕ → Option ℕ
-numeral ds = if nat_lt 10 (length ds) then None else number_of ds
+numeral ds = if nat_lt 10 (length ds) then None else decimal_value ds
 
 -- a number before others
 abbrev pub after : Option ℕ → Option (List ℕ) → Option (List ℕ)

@@ -1,5 +1,5 @@
 -- The code of a formula, which is emitted in front of the code that is there.
-use Rattle.std.specs.Prelude.{ℕ, zero, suc, ◌+◌, ◌-◌, ◌/◌, true, false, nat_le, nat_lt, ◌==◌, not, ◌&&◌, if◌then◌else◌, Bool, List, [], ◌∷◌, length, take, drop, get_or, Option, Some, None}
+use Rattle.std.specs.Prelude.{ℕ, zero, suc, ◌+◌, ◌-◌, ◌/◌, true, false, nat_lt, ◌==◌, not, if◌then◌else◌, Bool, List, [], ◌∷◌, length, take, drop, get_or, Option, Some, None}
 use Rattle.flt_bpf.specs.declared.insn.Insn.{Insn}
 use Rattle.flt_bpf.specs.declared.operation.Width.{Width}
 use Rattle.flt_bpf.specs.declared.operation.Test.{Test}
@@ -14,9 +14,6 @@ use Rattle.flt_words.specs.declared.token.Protocol.{Protocol}
 use Rattle.flt_words.specs.declared.token.Protocol.TheVariants.{Ether, Tcp, Udp, Icmp}
 use Rattle.flt_ast.specs.Tree.{NumberTree, literal, len, named, load, negated, applied}
 use Rattle.cap_octet.specs.declared.link.Link.{Link}
-use Rattle.flt_emit.specs.declared.code.Reach.{Reach}
-use Rattle.flt_emit.specs.declared.code.Reach.TheVariants.{Near, YesFar, NoFar, BothFar}
-use Rattle.flt_emit.specs.declared.follow.Knowledge.{Knowledge}
 use Rattle.flt_emit.specs.declared.elementary.Offset.{Offset}
 use Rattle.flt_emit.specs.declared.elementary.Offset.TheVariants.{Fixed, AfterHeader}
 use Rattle.flt_emit.specs.declared.elementary.FieldTest.{FieldTest}
@@ -25,11 +22,10 @@ use Rattle.flt_emit.specs.declared.elementary.MaskedField.{MaskedField}
 use Rattle.flt_emit.specs.declared.elementary.Elementary.TheVariants.{Outcome, Field}
 use Rattle.flt_emit.specs.Elementary.{with}
 use Rattle.cap_octet.specs.Link.{network_offset}
-use Rattle.flt_emit.specs.inside.Follow.{fact, always, and_fact, and_fork, target}
 use Rattle.flt_emit.specs.Numbers.{width_of}
-use Rattle.flt_emit.specs.Formula.{Formula, Single, Compare, Both, Either, Except, Guard, Fork, Choose, Among}
+use Rattle.flt_emit.specs.Formula.{Formula, Single, Compare, Both, Either, Except, Among}
 use Rattle.flt_bpf.specs.declared.operation.Operation.{Operation}
-use Rattle.flt_bpf.specs.declared.operation.Operation.TheVariants.{LoadAbsolute, LoadIndirect, Load, LoadHeaderLength, Store, Compute, Negate, Jump, JumpIf, CopyToIndex}
+use Rattle.flt_bpf.specs.declared.operation.Operation.TheVariants.{LoadAbsolute, LoadIndirect, Load, LoadHeaderLength, Store, Compute, Negate, JumpIf, CopyToIndex}
 use Rattle.flt_bpf.specs.declared.operation.Register.TheVariants.{Accumulator}
 use Rattle.flt_bpf.specs.declared.operation.Source.TheVariants.{Immediate, Memory, Length}
 use Rattle.flt_bpf.specs.declared.operation.AluOperation.{AluOperation}
@@ -76,10 +72,6 @@ constant _ = None
 abbrev pub constant_operand : Operator → NumberTree → Option ℕ
 constant_operand operator r = with (constant r) (λ k. if takes operator k then Some k else None)
 
--- the greatest offset of a conditional jump
-abbrev pub NEAR : ℕ
-NEAR = 255
-
 abbrev pub branch_insn : Test → Operand → ℕ → ℕ → ℕ → Insn
 branch_insn test operand k jt jf = record {
   code = code_of (JumpIf test operand);
@@ -88,30 +80,11 @@ branch_insn test operand k jt jf = record {
   k = k;
 }
 
--- a jump to a place, which is given as the number of instructions from there to the end
-abbrev pub emit_jump : ℕ → List Insn → List Insn
-emit_jump to c = plain Jump (length c - to) ∷ c
-
--- how a test reaches its two places: one that is too far by a jump right after the test
-abbrev pub reach : ℕ → ℕ → List Insn → Reach
-reach hit miss c =
-    if nat_le (length c - hit) NEAR && nat_le (length c - miss) NEAR then Near
-    else (if nat_le (length c + 1 - miss) NEAR then YesFar
-    else (if nat_le (length c + 1 - hit) NEAR then NoFar else BothFar))
-
-abbrev pub emit_branch_by : Reach → Test → Operand → ℕ → ℕ → ℕ → List Insn → List Insn
-emit_branch_by Near test operand k hit miss c =
+-- a test that goes on at one of two places, each given as the number of instructions from there to
+-- the end
+abbrev pub emit_branch : Test → Operand → ℕ → ℕ → ℕ → List Insn → List Insn
+emit_branch test operand k hit miss c =
     branch_insn test operand k (length c - hit) (length c - miss) ∷ c
-emit_branch_by YesFar test operand k hit miss c =
-    branch_insn test operand k 0 (length c + 1 - miss) ∷ emit_jump hit c
-emit_branch_by NoFar test operand k hit miss c =
-    branch_insn test operand k (length c + 1 - hit) 0 ∷ emit_jump miss c
-emit_branch_by BothFar test operand k hit miss c =
-    branch_insn test operand k 0 1 ∷ emit_jump hit (emit_jump miss c)
-
--- a test that goes on at one of two places
-unfoldable pub emit_branch : Test → Operand → ℕ → ℕ → ℕ → List Insn → List Insn
-emit_branch test operand k hit miss c = emit_branch_by (reach hit miss c) test operand k hit miss c
 
 -- the machine has three of the six comparisons; the others exchange the places
 abbrev pub emit_comparison : Comparison → Operand → ℕ → ℕ → ℕ → List Insn → List Insn
@@ -198,24 +171,11 @@ block c entry = record { code = c; entry = entry }
 abbrev pub at_top : List Insn → Block
 at_top c = record { code = c; entry = length c }
 
--- a test that is known takes no code; the targets of another are followed under what is known, and
--- past a load of X that it made
-abbrev pub emit_elementary : Knowledge → Elementary → ℕ → ℕ → List Insn → Block
-emit_elementary known (Outcome true) hit miss c = record { code = c; entry = hit }
-emit_elementary known (Outcome false) hit miss c = record { code = c; entry = miss }
-emit_elementary known (Field t) hit miss c =
-    at_top (emit_test t (target c known t.offset (fact (Field t) true) hit)
-    (target c known t.offset (fact (Field t) false) miss) c)
-
--- the code of one of two tests
-abbrev pub emit_fork : Knowledge → Elementary → Elementary → ℕ → ℕ → List Insn → Block
-emit_fork known t u hit miss c =
-    let e = emit_elementary (and_fact (fact t false) known) u hit miss c in
-    emit_elementary known t hit e.entry e.code
-
--- a test in front of code, which is entered where the test is yes
-abbrev pub emit_after : Knowledge → Elementary → ℕ → Block → Block
-emit_after known t miss e = emit_elementary known t e.entry miss e.code
+-- a test that the link type decides takes no code
+abbrev pub emit_elementary : Elementary → ℕ → ℕ → List Insn → Block
+emit_elementary (Outcome true) hit miss c = block c hit
+emit_elementary (Outcome false) hit miss c = block c miss
+emit_elementary (Field t) hit miss c = at_top (emit_test t hit miss c)
 
 -- whether A is one of some numbers, by one test after the other
 abbrev pub emit_chain : List ℕ → ℕ → ℕ → List Insn → Block
@@ -242,36 +202,25 @@ emit_search (suc k) vs hit miss c =
 abbrev pub LEVELS : ℕ
 LEVELS = 16
 
--- the field goes into A; the targets are followed under what is known, and past a load of X that
--- the field's made
-abbrev pub emit_among : Knowledge → MaskedField → List ℕ → ℕ → ℕ → List Insn → Block
-emit_among known f vs hit miss c =
-    let e = emit_search LEVELS vs (target c known f.offset always hit)
-    (target c known f.offset always miss) c in
-    at_top (emit_field f.offset f.width (emit_mask f.mask e.code))
+-- whether a field is one of some numbers
+abbrev pub emit_among : MaskedField → List ℕ → ℕ → ℕ → List Insn → Block
+emit_among f vs hit miss c =
+    at_top (emit_field f.offset f.width (emit_mask f.mask (emit_search LEVELS vs hit miss c).code))
 
 -- the code of a formula that goes on at one of two places
-abbrev pub emit_formula : Link → Knowledge → Formula → ℕ → ℕ → List Insn → Block
-emit_formula link known (Single t) hit miss c = emit_elementary known t hit miss c
-emit_formula link known (Compare comparison l r) hit miss c =
+abbrev pub emit_formula : Link → Formula → ℕ → ℕ → List Insn → Block
+emit_formula link (Single t) hit miss c = emit_elementary t hit miss c
+emit_formula link (Compare comparison l r) hit miss c =
     at_top (emit_relation link comparison l r hit miss c)
-emit_formula link known (Both a b) hit miss c =
-    let e = emit_formula link known b hit miss c in emit_formula link known a e.entry miss e.code
-emit_formula link known (Either a b) hit miss c =
-    let e = emit_formula link known b hit miss c in emit_formula link known a hit e.entry e.code
-emit_formula link known (Except a) hit miss c = emit_formula link known a miss hit c
-emit_formula link known (Guard t a) hit miss c =
-    emit_after known t miss (emit_formula link (and_fact (fact t true) known) a hit miss c)
-emit_formula link known (Fork t u a) hit miss c =
-    let e = emit_formula link (and_fork t u known) a hit miss c in
-    emit_fork known t u e.entry miss e.code
-emit_formula link known (Choose t a b) hit miss c =
-    let e = emit_formula link (and_fact (fact t false) known) b hit miss c in
-    emit_after known t e.entry (emit_formula link (and_fact (fact t true) known) a hit miss e.code)
-emit_formula link known (Among f vs) hit miss c = emit_among known f vs hit miss c
+emit_formula link (Both a b) hit miss c =
+    let e = emit_formula link b hit miss c in emit_formula link a e.entry miss e.code
+emit_formula link (Either a b) hit miss c =
+    let e = emit_formula link b hit miss c in emit_formula link a hit e.entry e.code
+emit_formula link (Except a) hit miss c = emit_formula link a miss hit c
+emit_formula link (Among f vs) hit miss c = emit_among f vs hit miss c
 
 -- all of some tests, from the last to the first
-abbrev pub emit_all : Knowledge → List Elementary → ℕ → ℕ → List Insn → Block
-emit_all known [] hit miss c = record { code = c; entry = hit }
-emit_all known (t ∷ ts) hit miss c =
-    let e = emit_all known ts hit miss c in emit_elementary known t e.entry miss e.code
+abbrev pub emit_all : List Elementary → ℕ → ℕ → List Insn → Block
+emit_all [] hit miss c = block c hit
+emit_all (t ∷ ts) hit miss c =
+    let e = emit_all ts hit miss c in emit_elementary t e.entry miss e.code

@@ -1,7 +1,7 @@
 -- The counts of a tree's nodes.
 use Rattle.std.specs.Prelude.{ℕ, ◌+◌, max, length}
 use Rattle.flt_ast.specs.Counts.{number_words, number_size}
-use Rattle.flt_emit.specs.Formula.{Formula, Single, Compare, Both, Either, Except, Guard, Fork, Choose, Among}
+use Rattle.flt_emit.specs.Formula.{Formula, Single, Compare, Both, Either, Except, Among}
 
 abbrev pub words : Formula → ℕ
 words (Single t) = 0
@@ -9,9 +9,6 @@ words (Compare c l r) = max (number_words l) (1 + number_words r)
 words (Both a b) = max (words a) (words b)
 words (Either a b) = max (words a) (words b)
 words (Except a) = words a
-words (Guard t a) = words a
-words (Fork t u a) = words a
-words (Choose t a b) = max (words a) (words b)
 words (Among f vs) = 0
 
 abbrev pub nodes : Formula → ℕ
@@ -20,9 +17,6 @@ nodes (Compare c l r) = number_size l + number_size r
 nodes (Both a b) = nodes a + nodes b
 nodes (Either a b) = nodes a + nodes b
 nodes (Except a) = nodes a
-nodes (Guard t a) = nodes a
-nodes (Fork t u a) = nodes a
-nodes (Choose t a b) = nodes a + nodes b
 nodes (Among f vs) = 0
 
 abbrev pub tests : Formula → ℕ
@@ -31,7 +25,4 @@ tests (Compare c l r) = 1
 tests (Both a b) = tests a + tests b
 tests (Either a b) = tests a + tests b
 tests (Except a) = tests a
-tests (Guard t a) = 1 + tests a
-tests (Fork t u a) = 2 + tests a
-tests (Choose t a b) = 1 + tests a + tests b
 tests (Among f vs) = max 1 (length vs)

@@ -17,8 +17,8 @@ use Rattle.flt_emit.specs.declared.elementary.Elementary.{Elementary}
 use Rattle.flt_emit.specs.declared.elementary.Elementary.TheVariants.{Outcome, Field}
 use Rattle.flt_emit.specs.Elementary.{kind_test}
 use Rattle.cap_octet.specs.Link.{network_offset}
-use Rattle.flt_emit.specs.Formula.{Formula, Compare, Guard, checked_formula, sides}
-use Rattle.flt_gen.specs.Primitives.{ip6_tests, net_value_formula, value_formula}
+use Rattle.flt_emit.specs.Formula.{Formula, Compare, checked_formula, sides}
+use Rattle.flt_gen.specs.Primitives.{after, ip6_tests, net_value_formula, value_formula}
 
 -- ---- the tests of a protocol's accessors stand once in front of a comparison
 
@@ -91,7 +91,7 @@ needed_sides direction source destination =
 
 abbrev pub ip6_needed : Link → Direction → Option ℕ → ℕ → Formula
 ip6_needed link direction prefix address =
-    Guard (kind_test link kind.Ip6)
+    after (kind_test link kind.Ip6)
     (needed_sides direction (ip6_tests prefix address (network_offset link + 8))
     (ip6_tests prefix address (network_offset link + 24)))
 

@@ -13,8 +13,8 @@ use Rattle.flt_ast.specs.declared.value.Value.{Value}
 use Rattle.flt_ast.specs.declared.value.Value.TheVariants as value
 use Rattle.flt_ast.specs.Tree.{TruthTree, qualified, compared, denied, joined}
 use Rattle.cap_octet.specs.declared.link.Link.{Link}
-use Rattle.flt_gen.specs.declared.wanted.Ports.TheVariants.{One, Several}
-use Rattle.flt_gen.specs.declared.wanted.Hosts.TheVariants as hosts
+use Rattle.flt_gen.specs.declared.port.Ports.TheVariants.{One, Several}
+use Rattle.flt_gen.specs.declared.address.Hosts.TheVariants as hosts
 use Rattle.flt_emit.specs.declared.elementary.Elementary.TheVariants.{Outcome}
 use Rattle.flt_emit.specs.Formula.{Formula, Single, Both, Either, Except}
 use Rattle.flt_gen.specs.Primitives.{net_test, net_formula, hosts_formula, port_test, port_formula}

@@ -4,7 +4,6 @@ use Rattle.flt_bpf.specs.declared.insn.Insn.{Insn}
 use Rattle.flt_words.specs.declared.token.Protocol.{Protocol}
 use Rattle.flt_ast.specs.Tree.{Expression, empty, truth}
 use Rattle.cap_octet.specs.declared.link.Link.{Link}
-use Rattle.flt_emit.specs.inside.Follow.{nothing}
 use Rattle.flt_emit.specs.Numbers.{accessor_tests}
 use Rattle.flt_emit.specs.inside.Code.{plain, Block, emit_formula, emit_all}
 use Rattle.flt_gen.specs.inside.Group.{no_group, grouped_formula}
@@ -15,7 +14,7 @@ abbrev pub emit_accessors : Link → List Protocol → ℕ → ℕ → List Insn
 emit_accessors link [] hit miss c = record { code = c; entry = hit }
 emit_accessors link (p ∷ ps) hit miss c =
     let e = emit_accessors link ps hit miss c in
-    emit_all nothing (accessor_tests link p) e.entry miss e.code
+    emit_all (accessor_tests link p) e.entry miss e.code
 
 -- the two returns at the end
 abbrev pub returns_code : List Insn
@@ -26,7 +25,7 @@ returns_code = plain ReturnConstant 262144 ∷ plain ReturnConstant 0 ∷ []
 abbrev pub expression_code : Link → Expression → Block
 expression_code link empty = record { code = returns_code; entry = 2 }
 expression_code link (truth a) =
-    emit_formula link nothing (grouped_formula link no_group a) 2 1 returns_code
+    emit_formula link (grouped_formula link no_group a) 2 1 returns_code
 
 -- the instructions from the entry on
 abbrev pub from_entry : Block → List Insn

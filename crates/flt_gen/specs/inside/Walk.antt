@@ -23,8 +23,8 @@ use Rattle.flt_emit.specs.Formula.{Formula}
 use Rattle.flt_gen.specs.inside.Emitted.{with_accessor, qualified_needed}
 use Rattle.flt_gen.specs.inside.Group.{Group, no_group, larger_group, group_formula}
 use Rattle.flt_gen.specs.Primitives.{check_formula, cast_formula, sized_formula}
-use Rattle.flt_emit.specs.inside.Follow.{nothing}
 use Rattle.flt_emit.specs.inside.Code.{plain, emit_comparison, emit_accessor, computation, takes, emit_operands, Block, block, emit_formula}
+use Rattle.flt_gen.specs.inside.Steps.{Part, Leaf, Joint}
 use Rattle.flt_gen.specs.inside.ProgramCode.{emit_accessors, returns_code}
 use Rattle.flt_bpf.specs.declared.operation.Operation.TheVariants.{Load, Store, Negate}
 use Rattle.flt_bpf.specs.declared.operation.Register.TheVariants.{Accumulator}
@@ -104,7 +104,20 @@ begin_operands slot c w = record w {
 
 -- the code of a formula is emitted
 abbrev pub finish_formula : Link → Formula → Walk → Walk
-finish_formula link f w = finish_truth (emit_formula link nothing f w.to.yes w.to.no w.code) w
+finish_formula link f w = finish_truth (emit_formula link f w.to.yes w.to.no w.code) w
+
+-- one more part of a formula, the one before those that were emitted: of an operator the right
+-- operand comes next, and the left one waits
+abbrev pub emit_part : Link → Walk → Part → Walk
+emit_part link w (Leaf f) = finish_formula link f w
+emit_part link w (Joint join) = record w {
+  truths = record { join = join; to = w.to } ∷ w.truths;
+}
+
+-- all parts of formulas, the latest first
+abbrev pub emit_parts : Link → Walk → List Part → Walk
+emit_parts link w [] = w
+emit_parts link w (p ∷ ps) = emit_parts link (emit_part link w p) ps
 
 -- if an or was the last node, its right operand is on its own: the left one waits for it
 abbrev pub begin_right : Pending → Walk → Walk
@@ -117,7 +130,7 @@ begin_right next.Or w = record w {
 abbrev pub flush_members : Link → Walk → List ℕ → Walk
 flush_members link w [] = record w { group = no_group }
 flush_members link w (a ∷ others) =
-    let e = emit_formula link nothing (group_formula link w.group) w.to.yes w.to.no w.code in
+    let e = emit_formula link (group_formula link w.group) w.to.yes w.to.no w.code in
     record w { code = e.code; to = targets w.to.yes e.entry; group = no_group }
 
 -- the code of the group that waits is emitted

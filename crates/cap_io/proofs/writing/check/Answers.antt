@@ -8,5 +8,5 @@ returns-then-link-packet g c = grind (arith, common_steps)
 pub returns-after-state : goal.returns-after-state
 returns-after-state g c = grind (arith, common_steps)
 
-pub returns-in_err-fits-in-Pcapng : goal.returns-in_err-fits-in-Pcapng
-returns-in_err-fits-in-Pcapng g c = grind (arith, common_steps)
+pub returns-in_err-check_block_fits-in-Pcapng : goal.returns-in_err-check_block_fits-in-Pcapng
+returns-in_err-check_block_fits-in-Pcapng g c = grind (arith, common_steps)

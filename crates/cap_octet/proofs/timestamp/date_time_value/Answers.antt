@@ -6,5 +6,5 @@ pub returns : goal.returns
 unfolding date_time_value
 returns c =
     let same : length c.args.text.now - 1 - 19 ≡ length c.args.text.now - 20 = omega arith in
-    rw (c.time_with.ensures, c.day_with-day.ensures, c.clock_with-clock.ensures, c.optional_fraction.ensures, same)
+    rw (c.time_of_parts.ensures, c.day_of_parts-day.ensures, c.clock_of_parts-clock.ensures, c.optional_fraction.ensures, same)
     (rw (c.number_at-year.ensures, c.number_at.ensures, c.number_at-2.ensures, c.number_at-hour.ensures, c.number_at-3.ensures, c.number_at-4.ensures) refl)

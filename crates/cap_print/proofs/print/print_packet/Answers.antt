@@ -10,7 +10,7 @@ returns-in_default-clause-exact g c = λ tells.
 pub returns-then-options-clause-exact : goal.returns-then-options-clause-exact
 returns-then-options-clause-exact g c = λ tells.
     let line_is = c.as_slice.ensures ∙ c.write_line.ensures.value in
-    rw (printed-with_rows c.args.options _ c.if-options.true, ← c.payload.ensures)
+    rw (printed-with_rows c.args.options _ c.if-options.true, ← c.link_payload.ensures)
     (appends-following _ _ _ _ _ _ (rw line_is at (c.in-Ok.ensures.exact tells)) (c.write_rows.ensures.exact tells))
 
 pub returns-clause-exact : goal.returns-clause-exact

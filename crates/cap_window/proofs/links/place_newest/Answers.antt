@@ -3,7 +3,7 @@ use Rattle.std.proofs.lemmas.List.{length-set}
 use Rattle.std.proofs.lemmas.Option.{get_or_from_slice_get, slice_get-get_or}
 use Rattle.std.specs.Option.{IsSome, option_copied, option_copied_mut}
 use Rattle.cap_window.specs.declared.links.Links.{Links}
-use Rattle.cap_window.specs.inside.Index.{is_one, links_at, mark_at}
+use Rattle.cap_window.specs.inside.Index.{mark_bit, links_at, mark_at}
 use Rattle.cap_window.proofs.Marks.{links_are_there, mark_is_there}
 use Rattle.cap_window.proofs.Trees.{after_links, placing_first, placing_end, placing_equal, placing_next, step_at}
 use Rattle.cap_window.proofs.links.place_newest.Goals as goal
@@ -28,8 +28,8 @@ pub unwrap-requires : goal.unwrap-requires
 unwrap-requires g c =
     links_are_there _ _ (c.get-in-loop-step-2.ensures ∙ slice_get-get_or c.loop-step.links.items (c.loop-step.place - c.loop-step.step) (record { zeros = 0; ones = 0 }) (omega (arith, c.len.ensures.len)))
 
-pub unwrap-requires-then-same : goal.unwrap-requires-then-same
-unwrap-requires-then-same g c =
+pub unwrap-requires-then-is_same_mark : goal.unwrap-requires-then-is_same_mark
+unwrap-requires-then-is_same_mark g c =
     is_there _ _ (c.get_mut.follows ∙ slice_get-get_or c.loop-step.links.items c.loop-step.place (record { zeros = 0; ones = 0 }) (omega (arith, c.len.ensures.len)))
 
 pub loop-step-init : goal.loop-step-init
@@ -43,8 +43,8 @@ loop-step-init g c =
           rw place (placing_first _ _ class _ _ hung.belongs hung.tree));
     }
 
-pub returns-then-same-clause-placed : goal.returns-then-same-clause-placed
-returns-then-same-clause-placed g c = λ some class hung.
+pub returns-then-is_same_mark-clause-placed : goal.returns-then-is_same_mark-clause-placed
+returns-then-is_same_mark-clause-placed g c = λ some class hung.
     let marks = c.args.marks.now.items in
     let place = c.loop-step.place in
     let top = place - c.loop-step.step in
@@ -54,10 +54,10 @@ returns-then-same-clause-placed g c = λ some class hung.
     get_or_from_slice_get marks top c.unwrap-below.result.now _ (sym c.get-in-loop-step.ensures ∙ ap option_copied c.unwrap-below.ensures) in
     let under : links_at c.loop-step.links.items top ≡ c.unwrap.result.now =
     get_or_from_slice_get c.loop-step.links.items top c.unwrap.result.now _ (sym c.get-in-loop-step-2.ensures ∙ ap option_copied c.unwrap.ensures) in
-    placing_equal marks c.args.links.now.items c.loop-step.links.items class (length marks - 1) c.loop-step.depth place c.loop-step.step top c.following.result
+    placing_equal marks c.args.links.now.items c.loop-step.links.items class (length marks - 1) c.loop-step.depth place c.loop-step.step top c.moved_by.result
     (c.loop-step.invariant.placing class hung) (omega arith) (omega arith) (omega arith)
-    (above ∙ c.same.ensures.0 c.if-same.true ∙ sym below)
-    (rw under (after_links c.unwrap.result.now c.following.result c.loop-step.step c.following.ensures.zeros c.following.ensures.ones))
+    (above ∙ c.is_same_mark.ensures.0 c.if-is_same_mark.true ∙ sym below)
+    (rw under (after_links c.unwrap.result.now c.moved_by.result c.loop-step.step c.moved_by.ensures.zeros c.moved_by.ensures.ones))
 
 pub unwrap-requires-in-loop-step : goal.unwrap-requires-in-loop-step
 unwrap-requires-in-loop-step g c =
@@ -72,20 +72,20 @@ loop-step-preserved g c =
     get_or_from_slice_get marks top c.unwrap-below.result.now _ (sym c.get-in-loop-step.ensures ∙ ap option_copied c.unwrap-below.ensures) in
     let under : links_at c.loop-step.links.items top ≡ c.unwrap.result.now =
     get_or_from_slice_get c.loop-step.links.items top c.unwrap.result.now _ (sym c.get-in-loop-step-2.ensures ∙ ap option_copied c.unwrap.ensures) in
-    let bit = c.is_one-bit.result in
+    let bit = c.mark_bit-bit.result in
     let step = step_at _ _ _ _ _ _ _ _ (c.loop-step.invariant.placing (c.requires.hung (omega arith)).0 (c.requires.hung (omega arith)).1) in
     record {
-      long = length-set c.loop-step.links.items place c.with.result ∙ c.loop-step.invariant.long;
+      long = length-set c.loop-step.links.items place c.with_link.result ∙ c.loop-step.invariant.long;
       capacity = c.loop-step.invariant.capacity;
       counted = omega (arith, step);
       placing = λ class hung.
           (let p = c.loop-step.invariant.placing class hung in
           rw (c.link.ensures, ← under)
-          (placing_next marks c.args.links.now.items c.loop-step.links.items class (length marks - 1) c.loop-step.depth place c.loop-step.step top bit c.with.result
+          (placing_next marks c.args.links.now.items c.loop-step.links.items class (length marks - 1) c.loop-step.depth place c.loop-step.step top bit c.with_link.result
           p (omega arith) (omega arith) (omega arith)
-          (c.is_one-bit.ensures ∙ ap (λ m. is_one m c.loop-step.depth) (sym below))
-          c.with.ensures.bit
-          (c.with.ensures.other ∙ rw under (after_links c.unwrap.result.now c.following-in-loop-step.result c.loop-step.step c.following-in-loop-step.ensures.zeros c.following-in-loop-step.ensures.ones (not bit)))));
+          (c.mark_bit-bit.ensures ∙ ap (λ m. mark_bit m c.loop-step.depth) (sym below))
+          c.with_link.ensures.bit
+          (c.with_link.ensures.other ∙ rw under (after_links c.unwrap.result.now c.moved_by-in-loop-step.result c.loop-step.step c.moved_by-in-loop-step.ensures.zeros c.moved_by-in-loop-step.ensures.ones (not bit)))));
     }
 
 pub loop-step-smaller : goal.loop-step-smaller

@@ -5,7 +5,7 @@ pub returns-clause-line : goal.returns-clause-line
 returns-clause-line c = record {
   compile = _;
   command = refl;
-  expr = c.in_ok-expression.ensures;
+  expr = c.in_ok-expression_text.ensures;
   link = c.link.ensures;
   inputs = c.new.ensures.items;
   output = refl;

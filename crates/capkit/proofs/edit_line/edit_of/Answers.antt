@@ -13,7 +13,7 @@ returns-clause-options c = record {
   chop_start = c.unwrap_or.ensures ∙ ap (λ o. unwrap_or o 0) c.short_number.ensures.value;
   chop_end = c.unwrap_or-2.ensures ∙ ap (λ o. unwrap_or o 0) c.short_number-2.ensures.value;
   snap = c.short_number-3.ensures.value;
-  shift = c.shift.ensures.value;
+  shift = c.time_shift.ensures.value;
   window = c.short_number-4.ensures.value;
   format = c.format.ensures;
 }
@@ -21,5 +21,5 @@ returns-clause-options c = record {
 pub returns-clause-proper : goal.returns-clause-proper
 returns-clause-proper c =
     and_from _ _ c.requires (and_from _ _ c.time.ensures.proper (and_from _ _ c.time-2.ensures.proper
-    (and_from _ _ (one_or_more most_32 _ c.short_number-3.ensures.bounds) (and_from _ _ c.shift.ensures.proper
+    (and_from _ _ (one_or_more most_32 _ c.short_number-3.ensures.bounds) (and_from _ _ c.time_shift.ensures.proper
     (proper_window _ c.short_number-4.ensures.bounds)))))

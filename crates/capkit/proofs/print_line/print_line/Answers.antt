@@ -13,11 +13,11 @@ returns-clause-line c = record {
   bytes = c.print_of.ensures.bytes;
   write = c.print_of.ensures.write;
   inputs = c.in_ok-inputs.ensures.texts ∙ ap (λ name. name ∷ []) c.text.ensures;
-  output = c.in_ok-output.ensures ∙ c.text_if.ensures;
-  code = c.in_ok-code.ensures ∙ c.text_if-2.ensures;
+  output = c.in_ok-output.ensures ∙ c.optional_text.ensures;
+  code = c.in_ok-code.ensures ∙ c.optional_text-2.ensures;
 }
 
 pub returns-clause-ready : goal.returns-clause-ready
 unfolding returns-clause-line
 returns-clause-ready c =
-    ready _ _ (returns-clause-line c) c.in_ok-check.ensures.passes c.in_ok-inputs.ensures.count c.print_of.ensures.proper
+    ready _ _ (returns-clause-line c) c.in_ok-check_print.ensures.passes c.in_ok-inputs.ensures.count c.print_of.ensures.proper

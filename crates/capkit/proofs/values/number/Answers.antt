@@ -11,6 +11,6 @@ pub returns-clause-value : goal.returns-clause-value
 returns-clause-value c =
     let found = found_of c.args.matches.now in
     let id = c.args.id.now in
-    c.within.ensures.value
+    c.number_within.ensures.value
     ∙ number_read _ (λ t r. ParsesUnsigned 64 10 t r × ExplainsUnsignedError 10 t r × HasUnsignedDigitsIfOk t r) (λ t r given. given.0) c.args.least c.args.most (one_text found id) c.get_one.result c.get_one.ensures.none c.get_one.ensures.value
     ∙ ap (option_and_then (number_between c.args.least c.args.most)) (one_text-rows found id)

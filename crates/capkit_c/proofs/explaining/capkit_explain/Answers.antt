@@ -10,8 +10,8 @@ returns-in-Ok c =
     is_explained (record {
       meaning = string_bytes c.in-Ok.meaning;
       explains = c.in-Ok.ensures.meaning;
-      put = c.put.ensures.put ∙ ap (λ (bytes : List ℕ). put_text bytes c.args.buffer.now) c.as_bytes.ensures.value;
-      count = c.put.ensures.count ∙ ap length c.as_bytes.ensures.value;
+      put = c.put_text.ensures.put ∙ ap (λ (bytes : List ℕ). put_text bytes c.args.buffer.now) c.as_bytes.ensures.value;
+      count = c.put_text.ensures.count ∙ ap length c.as_bytes.ensures.value;
     })
 
 pub returns-in-Err : goal.returns-in-Err

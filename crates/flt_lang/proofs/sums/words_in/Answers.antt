@@ -5,14 +5,14 @@ use Rattle.flt_ast.specs.inside.Heights.{climb}
 use Rattle.flt_lang.proofs.Counting.{climb_whole}
 use Rattle.flt_lang.proofs.sums.words_in.Given as given
 use Rattle.flt_lang.proofs.sums.words_in.Goals as goal
-use Rattle.flt_lang.proofs.sums.words_in.Goals.{After-highest}
+use Rattle.flt_lang.proofs.sums.words_in.Goals.{After-most_waiting}
 
-highest_is : (g : given.Over) (c : After-highest g) → c.highest.result ≡ 1 + words_of c.args.expr.now
+highest_is : (g : given.Over) (c : After-most_waiting g) → c.most_waiting.result ≡ 1 + words_of c.args.expr.now
 highest_is g c =
-    c.highest.ensures ∙ ap (λ l. (fold climb (0, 1) l).1) c.deref.ensures.value ∙ ap (λ s. s.1) (climb_whole c.expr.inside.nodes.items c.expr.invariant) ∙ ap (λ t. 1 + words_of t) c.expr.view_is
+    c.most_waiting.ensures ∙ ap (λ l. (fold climb (0, 1) l).1) c.deref.ensures.value ∙ ap (λ s. s.1) (climb_whole c.expr.inside.nodes.items c.expr.invariant) ∙ ap (λ t. 1 + words_of t) c.expr.view_is
 
 pub overflow_sub-result : goal.overflow_sub-result
-overflow_sub-result g c = omega (arith, highest_is g (goal.at.overflow_sub-result g c).After-highest)
+overflow_sub-result g c = omega (arith, highest_is g (goal.at.overflow_sub-result g c).After-most_waiting)
 
 pub returns : goal.returns
-returns g c = omega (arith, highest_is g (goal.at.returns g c).After-highest)
+returns g c = omega (arith, highest_is g (goal.at.returns g c).After-most_waiting)

@@ -6,9 +6,9 @@ pub returns-then-is_constant : goal.returns-then-is_constant
 returns-then-is_constant c = λ t p n pieces s u agree known.
     constant_there p n c.args.term (sym c.is_constant.ensures ∙ c.if-is_constant.true)
 
-pub returns-then-in_either : goal.returns-then-in_either
-returns-then-in_either c = λ t p n pieces s u agree known.
-    c.in_either.ensures c.if-in_either.true p n s u agree
+pub returns-then-is_there_by_both : goal.returns-then-is_there_by_both
+returns-then-is_there_by_both c = λ t p n pieces s u agree known.
+    c.is_there_by_both.ensures c.if-is_there_by_both.true p n s u agree
 
 pub returns : goal.returns
-returns c = λ t p n pieces s u agree known. c.in_facts.ensures t p n pieces known
+returns c = λ t p n pieces s u agree known. c.is_there_by_facts.ensures t p n pieces known

@@ -11,10 +11,10 @@ pub rejects-steps-preserved : goal.rejects-steps-preserved
 rejects-steps-preserved t c =
     let a = c.args in
     let l = c.in-Some.ensures.lookup in
-    drift_more a.code.now a.start.at c.steps.at c.in-Some-drift.skipped c.in-Some.insn.now a.registers c.steps.known c.in-Some-drift.next a.facts.now a.pieces.now a.learnt.now
+    drift_more a.code.now a.start.at c.steps.at c.in-Some-pass_unless_rejected.skipped c.in-Some.insn.now a.registers c.steps.known c.in-Some-pass_unless_rejected.next a.facts.now a.pieces.now a.learnt.now
     c.steps.invariant
     (slice_get_read a.code.now _ c.steps.at c.in-Some.insn.now refl l.3.0 l.1)
-    c.in-Some-drift.ensures
+    c.in-Some-pass_unless_rejected.ensures
 
 pub rejects-returns-then-is_rejection : goal.rejects-returns-then-is_rejection
 rejects-returns-then-is_rejection t c = λ e.
@@ -30,8 +30,8 @@ rejects-both_ways_reject-requires t c =
     let l = c.in-Some.ensures.lookup in
     (search rules, (omega arith, slice_get_read c.args.code.now _ c.steps.at c.in-Some.insn.now refl l.3.0 l.1))
 
-pub rejects-returns-in_default-drift : goal.rejects-returns-in_default-drift
-rejects-returns-in_default-drift t c = λ e.
+pub rejects-returns-in_default-pass_unless_rejected : goal.rejects-returns-in_default-pass_unless_rejected
+rejects-returns-in_default-pass_unless_rejected t c = λ e.
     let a = c.args in
     rejects_then a.code.now a.start.at c.steps.at a.registers c.steps.known a.facts.now a.pieces.now a.learnt.now
     c.steps.invariant (c.both_ways_reject.ensures e)

@@ -7,8 +7,8 @@ use Rattle.flt_opt.proofs.walk.+walking.Goals as goal
 pub walk-returns-then-stage-goal : goal.walk-returns-then-stage-goal
 walk-returns-then-stage-goal t c =
     let a = c.args in
-    at_goal a.old.now a.goal a.facts.now a.pieces.now a.from c.steps.stage c.joined.result
-    c.steps.invariant c.if-stage-goal.true c.joined.ensures.known c.joined.ensures.met
+    at_goal a.old.now a.goal a.facts.now a.pieces.now a.from c.steps.stage c.known_on_all_ways.result
+    c.steps.invariant c.if-stage-goal.true c.known_on_all_ways.ensures.known c.known_on_all_ways.ensures.met
 
 pub advance-returns-in-Some : goal.advance-returns-in-Some
 advance-returns-in-Some t c =
@@ -29,10 +29,10 @@ fork-returns-in-Some t c =
     let a = c.args in
     let test = c.in_ok-test.test in
     let op = c.in_ok-decode.field-0 in
-    let h = c.way_of-hit.ensures in
-    let m = c.way_of-miss.ensures in
-    let e = c.met_by.ensures in
-    fork_step a.old.now a.goal a.facts.now a.pieces.now a.insn test true a.stage c.way_of-hit.result c.way_of-miss.result c.met_by.result c.in-Some.one
+    let h = c.side_of_test-hit.ensures in
+    let m = c.side_of_test-miss.ensures in
+    let e = c.with_met.ensures in
+    fork_step a.old.now a.goal a.facts.now a.pieces.now a.insn test true a.stage c.side_of_test-hit.result c.side_of_test-miss.result c.with_met.result c.in-Some.one
     c.requires.there
     (ap (λ i. operation_of i.code) (sym c.insn.view_is) ∙ sym c.decode.ensures ∙ c.in_ok-decode.was ∙ ap Some (is_test op test (sym c.test_of.ensures ∙ c.in_ok-test.was)))
     (record { at = h.at; known = h.known; learnt = h.learnt })
@@ -46,10 +46,10 @@ fork-returns t c =
     let a = c.args in
     let test = c.in_ok-test.test in
     let op = c.in_ok-decode.field-0 in
-    let h = c.way_of-hit.ensures in
-    let m = c.way_of-miss.ensures in
-    let e = c.met_by-2.ensures in
-    fork_step a.old.now a.goal a.facts.now a.pieces.now a.insn test false a.stage c.way_of-miss.result c.way_of-hit.result c.met_by-2.result c.in_ok-one.one
+    let h = c.side_of_test-hit.ensures in
+    let m = c.side_of_test-miss.ensures in
+    let e = c.with_met-2.ensures in
+    fork_step a.old.now a.goal a.facts.now a.pieces.now a.insn test false a.stage c.side_of_test-miss.result c.side_of_test-hit.result c.with_met-2.result c.in_ok-one.one
     c.requires.there
     (ap (λ i. operation_of i.code) (sym c.insn.view_is) ∙ sym c.decode.ensures ∙ c.in_ok-decode.was ∙ ap Some (is_test op test (sym c.test_of.ensures ∙ c.in_ok-test.was)))
     (record { at = m.at; known = m.known; learnt = m.learnt })

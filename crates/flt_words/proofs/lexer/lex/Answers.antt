@@ -83,5 +83,5 @@ returns-in_err-kind-clause-too_long g c = grind (arith, common_steps)
 pub returns-clause-too_long : goal.returns-clause-too_long
 returns-clause-too_long g c = grind (arith, common_steps)
 
-pub token_at-requires : goal.token_at-requires
-token_at-requires g c = omega arith
+pub first_token-requires : goal.first_token-requires
+first_token-requires g c = omega arith

@@ -5,7 +5,8 @@ use Rattle.cap_inputs.specs.declared.inputs.Next.TheVariants as next
 use Rattle.cap_inputs.specs.Cursor.{ordering_of}
 use Rattle.cap_inputs.specs.inside.Cursor.{EntersQueue, HoldsQueue, IsNextAt, IsScheduled, is_merge}
 use Rattle.cap_io.specs.Sequence.{PacketOrder}
-use Rattle.cap_inputs.specs.Inputs.{InputsView, ReadsInput, ReadSteps, InputView, IsNext, is_packet_found}
+use Rattle.cap_inputs.specs.Inputs.{InputsView, ReadsInput, ReadSteps, InputView, is_packet_found}
+use Rattle.cap_inputs.specs.inside.Inputs.{IsNext}
 use Rattle.cap_inputs.proofs.Cursors.{get-among, fetches-by, read_input-steps-by, schedule-order}
 use Rattle.cap_inputs.proofs.Leasts.{queue-read, room-for}
 use Rattle.cap_inputs.proofs.Placed.{placed-read, read-at}

@@ -4,8 +4,8 @@ use Rattle.std.specs.Io.Buffered.{reader_buffer, reader_capacity, reader_inner}
 use Rattle.cap_octet.proofs.Reading.{held-consumed}
 use Rattle.cap_octet.proofs.stream.StdInputInput.read.Goals as goal
 
-pub returns-then-given-lt-MOST_GIVEN-clause-passes : goal.returns-then-given-lt-MOST_GIVEN-clause-passes
-returns-then-given-lt-MOST_GIVEN-clause-passes g c =
+pub returns-then-given-lt-GIVEN_END-clause-passes : goal.returns-then-given-lt-GIVEN_END-clause-passes
+returns-then-given-lt-GIVEN_END-clause-passes g c =
     let came : c.copy_from_slice.new.self ≡ take (length c.args.buf.now) (reader_buffer c.args.self.now.reader.reader) =
     c.copy_from_slice.ensures.after ∙ ap (take (length c.args.buf.now)) c.buffer-held.ensures in
     let size : length c.copy_from_slice.new.self ≡ length c.args.buf.now = c.copy_from_slice.ensures.len in

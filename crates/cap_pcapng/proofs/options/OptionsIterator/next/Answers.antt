@@ -9,8 +9,8 @@ returns-then-rest-lt4-clause-steps c =
     let none = options_in-short o.order o.rest.now c.if-rest-lt4.true in
     (none, none)
 
-pub returns-then-code-eq-END-clause-steps : goal.returns-then-code-eq-END-clause-steps
-returns-then-code-eq-END-clause-steps c =
+pub returns-then-code-eq-END_CODE-clause-steps : goal.returns-then-code-eq-END_CODE-clause-steps
+returns-then-code-eq-END_CODE-clause-steps c =
     let o = c.args.self.now in
     let none = options_in-code_end o.order o.rest.now (omega arith) in
     (none, none)

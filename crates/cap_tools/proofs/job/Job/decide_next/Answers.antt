@@ -1,23 +1,23 @@
-use Rattle.std.proofs.Common.{◌≡◌, ◌+◌, Ok, Err, IsTrue, List, ℕ, subst, sym, ◌∙◌, ap, arith, Bool, refl, Option, None, Some}
+use Rattle.std.proofs.Common.{◌≡◌, ◌+◌, Ok, Err, IsTrue, List, ℕ, subst, sym, ◌∙◌, ap, arith, refl, Option, Some}
 use Rattle.cap_octet.specs.Views.{OutputView}
 use Rattle.cap_tools.specs.declared.step.JobEnd.{JobEnd}
 use Rattle.cap_process.specs.Output.{output_at}
 use Rattle.cap_inputs.specs.declared.inputs.Next.TheVariants as next
-use Rattle.cap_tools.specs.declared.step.JobEnd.TheVariants as end
 use Rattle.cap_inputs.specs.Inputs.{InputsView, InputView, InputPast, input_after_decided, with_cursor}
-use Rattle.cap_inputs.specs.Inputs as input_spec
+use Rattle.cap_inputs.specs.inside.Inputs as input_spec
+use Rattle.cap_inputs.proofs.Nexts.{next-is-of}
 use Rattle.cap_process.specs.Verdict.{Policy}
 use Rattle.cap_process.specs.Selector.{SelectorView}
 use Rattle.cap_process.specs.inside.Selector.{policy_state}
-use Rattle.cap_tools.specs.Packets.{JobState, PacketsDecided, EndLeaves, StepGives}
-use Rattle.cap_tools.specs.inside.Packets.{end_of_failed_write}
+use Rattle.cap_tools.specs.Packets.{JobState, PacketsDecided, EndLeaves, StepLeaves}
+use Rattle.cap_tools.specs.inside.Packets.{end_after, end_of_failed_write}
 use Rattle.cap_tools.specs.Start.{Preparing, preparing_of}
 use Rattle.std.specs.Option.{option_map}
 use Rattle.cap_tools.specs.Jobs.{state_at, JobView}
 use Rattle.cap_tools.specs.Bounds.{decides_one, leaves_one}
 use Rattle.cap_tools.specs.inside.Step.{IsStep}
-use Rattle.cap_tools.proofs.Answers.{answer-leaves, AnswerLeaves}
-use Rattle.cap_tools.proofs.Fetches.{mk, among-same}
+use Rattle.cap_tools.proofs.Answers.{answer-leaves}
+use Rattle.cap_tools.proofs.Fetches.{among-same}
 use Rattle.cap_tools.proofs.Held.{held}
 use Rattle.cap_tools.proofs.Kept.{counted-kept, few-kept}
 use Rattle.cap_tools.proofs.Lefts.{mark_decided-less, mark_decided-paid, to-decide}
@@ -26,7 +26,6 @@ use Rattle.cap_tools.proofs.Programs.{have-decided}
 use Rattle.cap_tools.proofs.Weights.{is-light, mark_decided-small}
 use Rattle.cap_tools.proofs.Places.{get-input}
 use Rattle.cap_tools.proofs.job.Job.decide_next.Goals as goal
-use Rattle.cap_tools.proofs.job.Job.decide_next.Goals.{then-last, else-last}
 
 pub decide-requires : goal.decide-requires
 decide-requires g c =
@@ -78,14 +77,14 @@ returns-in-Err g c =
           subst K (sym c.in-Err.ensures.policy)
           (answer-leaves ss before m.inputs.cursors m.inputs.order m.policy m.state m.output m.decided c.args.input (Err c.in-Err.fault) c.cursor.result.now (policy_state j) (output_at c.self.inside.messages.names c.decide.new.output) refl tells c.cursor.ensures c.in-Err.ensures.policy c.in-Err.ensures.passed c.in-Err.ensures.counted (let i = c.self.invariant.0 in omega (arith, i)) (c.in-Err.ensures.exact to) d);
       reads = leaves_one c.args.input refl (record {
-        next = tells;
+        next = next-is-of m.inputs (next.Decide c.args.input) tells;
+        cursor = c.cursor.result.now;
+        among = get-input m.inputs.cursors c.args.input c.cursor.result.now c.cursor.ensures;
         packet = h.packet;
-        holds = record { cursor = c.cursor.result.now; among = get-input m.inputs.cursors c.args.input c.cursor.result.now c.cursor.ensures; waits = to-decide m.inputs.order m.inputs.cursors c.args.input c.cursor.result.now tells c.cursor.ensures; held = h.is };
-        inputs = refl;
-        decided = refl;
+        held = h.is;
         programs = h.spends;
         cost = h.cost;
-      });
+      }) refl refl;
       progress = λ more. (cc);
       paid = λ more. (cc);
       light = is-light (left j.policy) (c.self.invariant.1.0, c.decide.ensures.upper_bound c.self.invariant.1.1) c.decide.ensures.marks;
@@ -98,39 +97,38 @@ returns-in-Err g c =
       done = λ more. refl;
     }))
 
-pub returns-after-last : goal.returns-after-last
-returns-after-last g c =
+pub returns-in-Ok : goal.returns-in-Ok
+returns-in-Ok g c =
     let preparing : Option Preparing = option_map preparing_of c.self.inside.preparation in
     let j : SelectorView = c.decide.new.selector in
     let m : JobState = state_at c.self.inside.inputs c.self.inside.selector (output_at c.self.inside.messages.names c.self.inside.output) c.self.inside.decided in
     let err : OutputView = c.self.inside.messages.device in
     let left : InputsView → Policy → JobState = λ f k. record { inputs = f; policy = k; state = j.state; output = output_at c.self.inside.messages.names c.decide.new.output; decided = c.self.inside.decided + 1 } in
-    let was : JobView = record { preparing = preparing; state = m; programs = c.self.inside.selector.programs; err = err; turns = c.self.inside.turns; done = c.self.inside.done } in
     let new : JobView = record { preparing = preparing; state = left c.mark_decided.new.self j.policy; programs = j.programs; err = err; turns = c.self.inside.turns; done = c.self.inside.done } in
     let N : JobView → Type 0 = λ v. input_spec.IsNext v.state.inputs (next.Decide c.args.input) in
     let tells = subst N (sym c.self.view_is) c.requires.next in
     let following : InputView → InputsView = λ v. with_cursor m.inputs c.args.input (input_after_decided v) in
     let same = among-same m.inputs.cursors c.args.input c.cursor.result.now c.mark_decided.ensures.cursor c.cursor.ensures c.mark_decided.ensures.among in
     let inputs : c.mark_decided.new.self ≡ following c.cursor.result.now = c.mark_decided.ensures.is ∙ ap following (sym same) in
-    let failed : JobState = mk m.inputs.cursors m.inputs.order m.policy j.state (output_at c.self.inside.messages.names c.decide.new.output) m.decided in
-    let all : (ss : List InputPast) (before : List ℕ) (d : PacketsDecided ss before m) → IsTrue g.O.Output.tells → AnswerLeaves d c.args.input (Ok c.in-Ok.last) (left c.mark_decided.new.self j.policy) failed = λ ss before d to.
-    let NF : InputsView → Type 0 = λ f. AnswerLeaves d c.args.input (Ok c.in-Ok.last) (left f m.policy) failed in
-    let NK : Policy → Type 0 = λ k. AnswerLeaves d c.args.input (Ok c.in-Ok.last) (left c.mark_decided.new.self k) failed in
+    let r : Option JobEnd = end_after c.in-Ok.verdict in
+    let leaves : (ss : List InputPast) (before : List ℕ) (d : PacketsDecided ss before m) → IsTrue g.O.Output.tells → StepLeaves d r new.state = λ ss before d to.
+    let NF : InputsView → Type 0 = λ f. StepLeaves d r (left f m.policy) in
+    let NK : Policy → Type 0 = λ k. StepLeaves d r (left c.mark_decided.new.self k) in
     subst NK (sym c.in-Ok.ensures.policy) (subst NF (sym inputs)
-    (answer-leaves ss before m.inputs.cursors m.inputs.order m.policy m.state m.output m.decided c.args.input (Ok c.in-Ok.last) c.cursor.result.now (policy_state j) (output_at c.self.inside.messages.names c.decide.new.output) refl tells c.cursor.ensures c.in-Ok.ensures.policy c.in-Ok.ensures.passed c.in-Ok.ensures.counted (let i = c.self.invariant.0 in omega (arith, i)) (c.in-Ok.ensures.exact to) d)) in
+    (answer-leaves ss before m.inputs.cursors m.inputs.order m.policy m.state m.output m.decided c.args.input (Ok c.in-Ok.verdict) c.cursor.result.now (policy_state j) (output_at c.self.inside.messages.names c.decide.new.output) refl tells c.cursor.ensures c.in-Ok.ensures.policy c.in-Ok.ensures.passed c.in-Ok.ensures.counted (let i = c.self.invariant.0 in omega (arith, i)) (c.in-Ok.ensures.exact to) d)) in
     let h = held c.cursor.result.now.source.packet c.self.inside.selector (c.self.inside.decided + 1) c.decide.new.selector c.decide.ensures.spends in
-    let S : Option JobEnd → JobView → Type 0 = λ r v. IsStep g.I.Input.tells g.O.Output.tells v r new in
-    let step : (r : Option JobEnd) → (IsTrue g.O.Output.tells → StepGives m r new.state) → S r was = λ r exact. record {
-      exact = λ ti to. exact to;
+    let S : JobView → Type 0 = λ v. IsStep g.I.Input.tells g.O.Output.tells v r new in
+    rw c.end_after.ensures (subst S c.self.view_is (record {
+      exact = λ ti to ss before d. leaves ss before d to;
       reads = decides_one c.args.input (record {
-        next = tells;
+        next = next-is-of m.inputs (next.Decide c.args.input) tells;
+        cursor = c.cursor.result.now;
+        among = get-input m.inputs.cursors c.args.input c.cursor.result.now c.cursor.ensures;
         packet = h.packet;
-        holds = record { cursor = c.cursor.result.now; among = get-input m.inputs.cursors c.args.input c.cursor.result.now c.cursor.ensures; waits = to-decide m.inputs.order m.inputs.cursors c.args.input c.cursor.result.now tells c.cursor.ensures; held = h.is };
-        settles = c.mark_decided.ensures;
-        decided = refl;
+        held = h.is;
         programs = h.spends;
         cost = h.cost;
-      });
+      }) c.mark_decided.ensures refl;
       progress = λ more. mark_decided-less c.self.inside.inputs c.mark_decided.new.self c.args.input tells c.mark_decided.ensures;
       paid = λ more. mark_decided-paid c.self.inside.inputs c.mark_decided.new.self c.args.input tells c.mark_decided.ensures;
       light = is-light (left c.mark_decided.new.self j.policy) (mark_decided-small c.self.inside.inputs c.mark_decided.new.self c.args.input c.mark_decided.ensures c.self.invariant.1.0, c.decide.ensures.upper_bound c.self.invariant.1.1) c.decide.ensures.marks;
@@ -141,10 +139,4 @@ returns-after-last g c =
       err = refl;
       turns = refl;
       done = λ more. refl;
-    } in
-    let goes : (r : Option JobEnd) → S r was → S r c.args.self.now = λ r s. (let Q : JobView → Type 0 = λ v. S r v in subst Q c.self.view_is s) in
-    let R : (ss : List InputPast) (before : List ℕ) → PacketsDecided ss before m → Bool → Type 0 = λ ss before d b. AnswerLeaves d c.args.input (Ok b) new.state failed in
-    elim c.if-last.branch [
-      | then-last w ↦ rw w.result-is (goes (Some end.Complete) (step (Some end.Complete) (λ to ss before d. (let B : Bool → Type 0 = λ b. R ss before d b in subst B w.if-last.true (all ss before d to)))))
-      | else-last w ↦ rw w.result-is (goes None (step None (λ to ss before d. (let B : Bool → Type 0 = λ b. R ss before d b in subst B w.if-last.false (all ss before d to)))))
-    ]
+    }))

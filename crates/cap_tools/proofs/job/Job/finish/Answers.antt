@@ -1,5 +1,5 @@
 use Rattle.std.proofs.Common.{Result, Option, IsTrue, List, ℕ, refl, subst, sym, Some}
-use Rattle.cap_octet.specs.declared.fault.Fault.{Fault}
+use Rattle.cap_octet.specs.declared.device.DeviceFault.{DeviceFault}
 use Rattle.cap_octet.specs.Views.{OutputView}
 use Rattle.cap_inputs.specs.declared.inputs.Next.TheVariants as next
 use Rattle.cap_tools.specs.declared.step.JobEnd.{JobEnd}
@@ -7,7 +7,7 @@ use Rattle.cap_tools.specs.declared.step.JobEnd.TheVariants as end
 use Rattle.cap_process.specs.Output.{output_at}
 use Rattle.cap_process.specs.inside.Output.{EndsOutput}
 use Rattle.cap_inputs.specs.Inputs.{InputPast}
-use Rattle.cap_inputs.specs.Inputs as input_spec
+use Rattle.cap_inputs.specs.inside.Inputs as input_spec
 use Rattle.cap_tools.specs.Packets.{JobState, PacketsDecided, EndLeaves}
 use Rattle.cap_tools.specs.Start.{Preparing, preparing_of}
 use Rattle.std.specs.Option.{option_map}
@@ -49,6 +49,6 @@ returns g c =
       done = λ more. refl;
     }) in
     elim c.match-finish.branch [
-      | in-Ok w ↦ rw w.result-is (step end.Complete (λ ss before d to. (let R : Result (Unit {0}) Fault → Type 0 = λ r. FinishLeaves d r left in subst R w.in-Ok.is (all ss before d to))))
-      | in-Err w ↦ rw w.result-is (step end.OutputFailed (λ ss before d to. (let R : Result (Unit {0}) Fault → Type 0 = λ r. FinishLeaves d r left in subst R w.in-Err.is (all ss before d to))))
+      | in-Ok w ↦ rw w.result-is (step end.Complete (λ ss before d to. (let R : Result (Unit {0}) DeviceFault → Type 0 = λ r. FinishLeaves d r left in subst R w.in-Ok.is (all ss before d to))))
+      | in-Err w ↦ rw w.result-is (step end.OutputFailed (λ ss before d to. (let R : Result (Unit {0}) DeviceFault → Type 0 = λ r. FinishLeaves d r left in subst R w.in-Err.is (all ss before d to))))
     ]

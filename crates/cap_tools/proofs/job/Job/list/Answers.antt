@@ -7,10 +7,16 @@ use Rattle.cap_tools.specs.Start.{Preparing, preparing_of}
 use Rattle.std.specs.Option.{option_map}
 use Rattle.cap_tools.specs.Jobs.{state_at, JobView}
 use Rattle.cap_tools.specs.Bounds.{IsLight}
-use Rattle.cap_tools.specs.inside.FirstStep.{EndsList, is_text}
+use Rattle.cap_process.specs.inside.Output.{is_text}
+use Rattle.cap_tools.specs.inside.FirstStep.{EndsList}
 use Rattle.cap_tools.proofs.CommandStarts.{listed-err, listed-ok}
 use Rattle.cap_tools.proofs.Weights.{is-light}
 use Rattle.cap_tools.proofs.job.Job.list.Goals as goal
+
+pub list-requires : goal.list-requires
+list-requires g c =
+    let T : JobView → Type 0 = λ v. is_text v.state.output.target ≡ true in
+    subst T (sym c.self.view_is) c.requires.text
 
 pub returns-in-Ok-clause-exact : goal.returns-in-Ok-clause-exact
 returns-in-Ok-clause-exact g c = λ to.

@@ -7,9 +7,10 @@ use Rattle.cap_tools.specs.Bounds.{IsSmall, most_turns}
 use Rattle.cap_tools.specs.inside.Bounds.{steps_owed_in_all}
 use Rattle.cap_process.specs.Output.{HasFewOutputInterfaces, Target}
 use Rattle.cap_process.specs.Reports.{nothing_counted}
-use Rattle.cap_inputs.specs.Inputs.{InputsView, steps_left}
-use Rattle.cap_process.specs.Selector.{HavePrograms, SelectorView, policy_of, state_with}
-use Rattle.cap_process.specs.inside.Selector.{HasFewMarks}
+use Rattle.cap_inputs.specs.Inputs.{InputsView}
+use Rattle.cap_inputs.specs.inside.Inputs.{steps_left}
+use Rattle.cap_process.specs.Selector.{HavePrograms, SelectorView, policy_of}
+use Rattle.cap_process.specs.inside.Selector.{state_with, HasFewMarks}
 use Rattle.cap_io.specs.Sequence.{PacketOrder, order_of}
 use Rattle.cap_tools.specs.Start.{Assignment, preparing_of}
 use Rattle.cap_command.specs.Call.{Call, call_of}

@@ -5,7 +5,8 @@ use Rattle.cap_process.specs.Output.{output_at}
 use Rattle.cap_inputs.specs.declared.inputs.Next.TheVariants as next
 use Rattle.cap_tools.specs.declared.step.JobEnd.TheVariants as end
 use Rattle.cap_inputs.specs.Inputs.{InputsView, is_clean_end}
-use Rattle.cap_inputs.specs.Inputs as input_spec
+use Rattle.cap_inputs.specs.inside.Inputs as input_spec
+use Rattle.cap_inputs.proofs.Nexts.{next-is-of}
 use Rattle.cap_process.specs.Verdict.{Policy}
 use Rattle.cap_process.specs.Selector.{SelectorView}
 use Rattle.cap_process.specs.inside.Selector.{policy_state}
@@ -88,7 +89,7 @@ returns-in-Ok-true g c =
           let L : Result Bool Fault → Type 0 = λ a. FetchLeaves d c.args.input a None left in
           subst L found
           (read_input-leaves ss before m.inputs.cursors m.inputs.order m.policy m.state m.output m.decided c.args.input c.read_input.result c.read_input.new.self None (policy_state j) m.output tells (c.read_input.ensures.exact ti) d (subst F (sym found) (refl, refl)));
-      reads = reads_on c.args.input c.read_input.result (λ on. ap is_fault c.in-Ok-true.is) (record { next = tells; fetches = c.read_input.ensures.steps; exact = c.read_input.ensures.exact; decided = refl; programs = refl; output = λ on. refl });
+      reads = reads_on c.args.input c.read_input.result (λ on. ap is_fault c.in-Ok-true.is) (record { next = next-is-of m.inputs (next.Read c.args.input) tells; fetches = c.read_input.ensures.steps; exact = c.read_input.ensures.exact; decided = refl; programs = refl; output = λ on. refl });
       progress = λ more. read_input-less c.self.inside.inputs c.read_input.new.self c.args.input c.read_input.result tells c.read_input.ensures.steps (subst Goes (sym c.in-Ok-true.is) tt);
       paid = λ more. read_input-paid c.self.inside.inputs c.read_input.new.self c.args.input c.read_input.result tells c.read_input.ensures.steps (subst Goes (sym c.in-Ok-true.is) tt);
       light = is-light left (read_input-small c.self.inside.inputs c.read_input.new.self c.args.input c.read_input.result c.read_input.ensures.steps c.self.invariant.1.0, c.self.invariant.1.1) c.self.invariant.2;
@@ -122,7 +123,7 @@ returns-in-Ok-false g c =
           subst K (sym c.close.ensures.policy) (subst L found
           (read_input-leaves ss before m.inputs.cursors m.inputs.order m.policy m.state m.output m.decided c.args.input c.read_input.result c.read_input.new.self c.close.result (policy_state j') (output_at c.self.inside.messages.names c.close.new.output) tells (c.read_input.ensures.exact ti) d (subst F (sym found) (c.close.ensures.exact to))));
       reads = reads_on c.args.input c.read_input.result (λ on. ap is_fault c.in-Ok-false.is) (record {
-        next = tells;
+        next = next-is-of m.inputs (next.Read c.args.input) tells;
         fetches = c.read_input.ensures.steps;
         exact = c.read_input.ensures.exact;
         decided = refl;
@@ -162,7 +163,7 @@ returns-in-Err g c =
           let L : Result Bool Fault → Type 0 = λ a. FetchLeaves d c.args.input a None left in
           subst L c.in-Err.is
           (read_input-leaves ss before m.inputs.cursors m.inputs.order m.policy m.state m.output m.decided c.args.input c.read_input.result c.read_input.new.self None (policy_state j) m.output tells (c.read_input.ensures.exact ti) d (subst F (sym c.in-Err.is) (refl, refl)));
-      reads = reads_on c.args.input c.read_input.result (λ on. (cc)) (record { next = tells; fetches = c.read_input.ensures.steps; exact = c.read_input.ensures.exact; decided = refl; programs = refl; output = λ on. refl });
+      reads = reads_on c.args.input c.read_input.result (λ on. (cc)) (record { next = next-is-of m.inputs (next.Read c.args.input) tells; fetches = c.read_input.ensures.steps; exact = c.read_input.ensures.exact; decided = refl; programs = refl; output = λ on. refl });
       progress = λ more. (cc);
       paid = λ more. (cc);
       light = is-light left (read_input-small c.self.inside.inputs c.read_input.new.self c.args.input c.read_input.result c.read_input.ensures.steps c.self.invariant.1.0, c.self.invariant.1.1) c.self.invariant.2;

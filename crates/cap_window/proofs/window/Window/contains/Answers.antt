@@ -16,13 +16,13 @@ loop-step-init g c =
     rw (head, c.len-limit.ensures.len, c.hash_of-hash.ensures.value)
     (searched_first w.mask w.marks.items w.links.items c.args.mark.now _ (c.self.invariant.index.trees (hash_of w.mask c.args.mark.now) (rw c.hash_of-hash.ensures.value at inside)))
 
-pub returns-then-same : goal.returns-then-same
-returns-then-same g c =
+pub returns-then-is_same_mark : goal.returns-then-is_same_mark
+returns-then-is_same_mark g c =
     let step = searched_step _ _ _ _ _ _ c.loop-step.invariant in
     let inside : c.loop-step.limit - c.loop-step.step < length c.self.inside.marks.items = omega (arith, c.loop-step.invariant.within, step) in
     let is : get_or c.self.inside.marks.items (c.loop-step.limit - c.loop-step.step) c.args.mark.now ≡ c.unwrap.result.now =
     get_or_from_slice_get c.self.inside.marks.items (c.loop-step.limit - c.loop-step.step) c.unwrap.result.now c.args.mark.now (sym c.get.ensures ∙ ap option_copied c.unwrap.ensures) in
-    let equal : c.unwrap.result.now ≡ c.args.mark.now = c.same.ensures.0 c.if-same.true in
+    let equal : c.unwrap.result.now ≡ c.args.mark.now = c.is_same_mark.ensures.0 c.if-is_same_mark.true in
     rw (← c.self.view_is) ((λ _. (c.loop-step.limit - c.loop-step.step, inside, is ∙ equal)), (λ _. refl))
 
 pub loop-step-smaller : goal.loop-step-smaller
@@ -36,9 +36,9 @@ loop-step-preserved g c =
     get_or_from_slice_get w.marks.items top c.unwrap.result.now _ (sym c.get.ensures ∙ ap option_copied c.unwrap.ensures) in
     let links : links_at w.links.items top ≡ c.unwrap-in-loop-step.result.now =
     get_or_from_slice_get w.links.items top c.unwrap-in-loop-step.result.now _ (sym c.get-in-loop-step.ensures ∙ ap option_copied c.unwrap-in-loop-step.ensures) in
-    rw (c.link-step.ensures, c.is_one.ensures, ← links)
+    rw (c.link-step.ensures, c.mark_bit.ensures, ← links)
     (searched_next w.marks.items w.links.items c.args.mark.now c.loop-step.depth c.loop-step.limit c.loop-step.step c.loop-step.invariant c.loop-step-test.true
-    (λ equal. let yes = c.same.ensures.1 (sym here ∙ equal) in let never = c.if-same.false in cc))
+    (λ equal. let yes = c.is_same_mark.ensures.1 (sym here ∙ equal) in let never = c.if-is_same_mark.false in cc))
 
 pub returns : goal.returns
 returns g c =

@@ -14,22 +14,22 @@ invariant_of-self g c =
     let head : c.index.result.now ≡ get_or w.heads.items (hash_of w.mask c.args.mark) 0 = c.index.ensures ∙ get_or_default _ _ _ 0 inside ∙ rw hash refl in
     let numbered : List ℕ = set w.heads.items (hash_of w.mask c.args.mark) (w.newest + 1) in
     let written : c.deref_mut.result.now ≡ numbered = c.deref_mut.ensures.value ∙ rw hash refl in
-    let long : length c.renumbered-self-inside.new.heads ≡ w.heads.len = c.renumbered-self-inside.auto.heads ∙ c.deref_mut.ensures.len in
-    let lowered : IsLowered numbered c.renumbered-self-inside.new.heads (w.newest + 1 - c.renumbered-self-inside.result) = record {
-      long = c.renumbered-self-inside.auto.heads ∙ ap length written;
-      each = λ h within. rw (← written) (c.renumbered-self-inside.ensures.heads h (rw written within));
+    let long : length c.renumber-self-inside.new.heads ≡ w.heads.len = c.renumber-self-inside.auto.heads ∙ c.deref_mut.ensures.len in
+    let lowered : IsLowered numbered c.renumber-self-inside.new.heads (w.newest + 1 - c.renumber-self-inside.result) = record {
+      long = c.renumber-self-inside.auto.heads ∙ ap length written;
+      each = λ h within. rw (← written) (c.renumber-self-inside.ensures.heads h (rw written within));
     } in
-    let rest : List ℕ = drop (length c.renumbered-self-inside.new.heads) (set w.heads.items c.hash_of-hash.result (w.newest + 1)) in
-    let whole : take w.heads.len (c.renumbered-self-inside.new.heads ++ rest) ≡ c.renumbered-self-inside.new.heads =
-    take-append-le w.heads.len c.renumbered-self-inside.new.heads rest (omega (arith, long)) ∙ take_all w.heads.len c.renumbered-self-inside.new.heads (omega (arith, long)) in
-    let kept : length c.push_back.new.self.items ≤ c.renumbered-self-inside.result = omega (arith, c.len.ensures.len, c.renumbered-self-inside.ensures.bounds) in
+    let rest : List ℕ = drop (length c.renumber-self-inside.new.heads) (set w.heads.items c.hash_of-hash.result (w.newest + 1)) in
+    let whole : take w.heads.len (c.renumber-self-inside.new.heads ++ rest) ≡ c.renumber-self-inside.new.heads =
+    take-append-le w.heads.len c.renumber-self-inside.new.heads rest (omega (arith, long)) ∙ take_all w.heads.len c.renumber-self-inside.new.heads (omega (arith, long)) in
+    let kept : length c.push_back.new.self.items ≤ c.renumber-self-inside.result = omega (arith, c.len.ensures.len, c.renumber-self-inside.ensures.bounds) in
     let step : ℕ = w.newest + 1 - c.index.result.now in
     let l : Links = record { zeros = step; ones = step } in
     let newest : ℕ = w.newest + 1 - get_or w.heads.items (hash_of w.mask c.args.mark) 0 in
     let l' : Links = record { zeros = newest; ones = newest } in
     rw (whole, c.place_newest.ensures.capacity, c.push_back-2.ensures.items, c.push_back.ensures.items)
-    (sound_push w.mask w.marks.items w.marks.capacity w.links.items w.links.capacity w.heads.items c.renumbered-self-inside.new.heads w.newest c.args.mark l c.place_newest.new.links.items c.renumbered-self-inside.result c.self.invariant lowered
-    (rw c.push_back.ensures.items at kept) c.renumbered-self-inside.ensures.bounds.1 c.renumbered-self-inside.ensures.room
+    (sound_push w.mask w.marks.items w.marks.capacity w.links.items w.links.capacity w.heads.items c.renumber-self-inside.new.heads w.newest c.args.mark l c.place_newest.new.links.items c.renumber-self-inside.result c.self.invariant lowered
+    (rw c.push_back.ensures.items at kept) c.renumber-self-inside.ensures.bounds.1 c.renumber-self-inside.ensures.room
     (rw c.push_back.ensures.items at c.place_newest.ensures.long)
     (λ some. let placed = rw (c.push_back.ensures.items, c.push_back-2.ensures.items) at c.place_newest.ensures.placed in
     placed some (has_hash w.mask (hash_of w.mask c.args.mark))
@@ -68,5 +68,5 @@ place_newest-requires-clause-long g c = grind (arith, common_steps)
 pub place_newest-requires-clause-upper_bound : goal.place_newest-requires-clause-upper_bound
 place_newest-requires-clause-upper_bound g c = grind (arith, common_steps)
 
-pub renumbered-self-inside-requires : goal.renumbered-self-inside-requires
-renumbered-self-inside-requires g c = grind (arith, common_steps)
+pub renumber-self-inside-requires : goal.renumber-self-inside-requires
+renumber-self-inside-requires g c = grind (arith, common_steps)

@@ -1,15 +1,13 @@
 -- What is left to do leads to the same walk.
 use Rattle.std.proofs.Common.{◌≡◌, ◌≤◌, length, take}
 use Rattle.std.specs.Prelude.{reverse}
-use Rattle.flt_gen.specs.inside.Walk.{emit_nodes, start_walk}
-use Rattle.flt_gen.proofs.Room.{IsLow}
+use Rattle.flt_gen.specs.inside.Walk.{emit_nodes}
 use Rattle.flt_gen.proofs.walk.Walk.emit_nodes.Given as goal
 
 abbrev pub invariant-nodes : goal.invariant-nodes
 invariant-nodes g l = record {
   within : l.left ≤ length l.nodes;
-  same : emit_nodes l.link l.self (reverse (take l.left l.nodes)) ≡ emit_nodes l.link start_walk (reverse l.nodes);
-  low : IsLow l.self;
+  same : emit_nodes l.link l.self (reverse (take l.left l.nodes)) ≡ emit_nodes l.link l.initial.self (reverse l.nodes);
 }
 
 abbrev pub decreases-nodes : goal.decreases-nodes

@@ -1,10 +1,34 @@
--- With one more host they are still no more than the most.
-use Rattle.std.proofs.Common.{Some, None, ap, ◌∙◌}
-use Rattle.std.specs.Prelude.{if◌then◌else◌}
-use Rattle.flt_gen.proofs.Room.{more_few}
+-- The steps of a value that joins no group are emitted.
+use Rattle.std.proofs.Common.{◌≡◌, [], Some, None, Option, ◌∙◌, sym, ap, subst}
+use Rattle.std.specs.Prelude.{OnOk, if◌then◌else◌}
+use Rattle.flt_gen.specs.inside.Emitted.{qualified_needed}
+use Rattle.flt_gen.specs.inside.Group.{Group, larger_group}
+use Rattle.flt_gen.specs.inside.Steps.{Steps, IsPut, no_steps}
+use Rattle.flt_gen.specs.inside.Walk.{Walk, emit_value, finish_formula, flush_group}
+use Rattle.flt_gen.proofs.StepsEmitted.{steps_emitted}
 use Rattle.flt_gen.proofs.walk.Walk.emit_value.Goals as goal
 
-pub finish_group-requires-clause-some : goal.finish_group-requires-clause-some
-finish_group-requires-clause-some g c =
-    let more = c.add.new.self in
-    more_few c.args.qualifiers c.args.value c.self.inside.group more (c.in_ok-add.ensures.taken ∙ ap (λ t. if t then Some more else None) c.if-branch.true)
+pub returns : goal.returns
+returns g c =
+    let a = c.args in
+    let r = c.emit_steps in
+    let s = c.put_qualified.new.self in
+    let f = qualified_needed a.link a.qualifiers a.value in
+    let put : IsPut f (no_steps []) s = subst (λ (s0 : Steps). IsPut f s0 s) c.in_ok-steps.ensures c.in_ok-put_qualified.ensures in
+    let walk : Group → Walk = λ h. record {
+      code = c.self.inside.code;
+      to = c.self.inside.to;
+      slot = c.self.inside.slot;
+      truths = c.self.inside.truths;
+      numbers = c.self.inside.numbers;
+      accessors = c.self.inside.accessors;
+      group = h;
+      pending = c.self.inside.pending;
+    } in
+    let kept : walk c.add.new.self ≡ a.self.now = ap walk (c.in_ok-add.ensures.same ∙ ap (λ t. if t then c.add.new.self else c.self.inside.group) c.if-branch.false) ∙ c.self.view_is in
+    let none = c.in_ok-add.ensures.taken ∙ ap (λ t. if t then Some c.add.new.self else None) c.if-branch.false in
+    let none_now = subst (λ (w : Walk). larger_group a.qualifiers a.value w.group ≡ None) c.self.view_is none in
+    let flushed : c.flush_group.new.self ≡ flush_group a.link a.self.now = c.in_ok-flush_group.ensures ∙ ap (flush_group a.link) kept in
+    let done = steps_emitted r.result a.link f [] s c.flush_group.new.self r.new.self put r.ensures in
+    subst (λ (o : Option Group). OnOk r.result (r.new.self ≡ emit_value a.link a.qualifiers a.value a.self.now o)) (sym none_now)
+    (subst (λ (w : Walk). OnOk r.result (r.new.self ≡ finish_formula a.link f w)) flushed done)

@@ -4,4 +4,4 @@ use Rattle.flt_lang.proofs.backward.Writer.settle.Goals as goal
 
 pub returns : goal.returns
 returns g c =
-    settled_end _ c.pop.new.self _ c.in_default.ensures.none c.in_default.ensures.none_left c.in_default.ensures.tokens c.loop-pending.invariant
+    settled_end _ c.pop_pending.new.self _ c.in_default.ensures.none c.in_default.ensures.none_left c.in_default.ensures.tokens c.loop-pending.invariant

@@ -1,0 +1,118 @@
+//! std's buffered readers and writers, with a count of the calls that are made of them. The lines
+//! of `read` and `write` are all that is to be believed of it: they alone count, and each makes its
+//! call.
+ghost use Rattle.std.specs.Prelude.{◌≡◌, ◌+◌, [], OnOk, Some, length};
+ghost use Rattle.std.specs.Io.{ReadsAtMost, WritesAtMost};
+ghost use Rattle.std.specs.Io.Buffered.{reader_buffer, reader_remaining};
+ghost use Rattle.std.specs.Io.Buffered.{writer_buffer, writer_contents};
+ghost use Rattle.std.specs.Io.BufRead.{DropsConsumable};
+ghost use Rattle.std.specs.Io.KnownBytes.{Keeps, ReadConsumes, WriteAppends};
+
+use crate::count::ContractCount;
+use std::io::{BufRead, BufReader, BufWriter, Read, Result, Write};
+
+/// A reader, and how often it was read.
+#[derive(Drop)]
+pub(crate) struct CountingReader<R> {
+    reader: BufReader<R>,
+    calls: ContractCount,
+}
+
+impl<R: Read> CountingReader<R> {
+    /// A reader of which no read was asked yet.
+    pub(crate) fn new(reader: BufReader<R>) -> Self
+        ensures reader { result.reader ≡ reader }
+        ensures calls { result.calls.count ≡ 0 }
+    {
+        CountingReader {
+            reader,
+            calls: ContractCount::new(),
+        }
+    }
+
+    /// One read of the reader, counted.
+    #[inline(always)]
+    pub(crate) fn read(&mut self, buf: &mut [u8]) -> Result<usize>
+        ensures at_most { ReadsAtMost result buf.new }
+        ensures bytes { ReadConsumes (reader_remaining R.remaining self.old.reader)
+            (reader_remaining R.remaining self.new.reader) result buf.new }
+        ensures asked { self.new.calls.count ≡ self.old.calls.count + 1 }
+    {
+        self.calls.add_one();
+        self.reader.read(buf)
+    }
+
+    /// The bytes that its buffer holds.
+    #[inline(always)]
+    pub(crate) fn buffer(&self) -> &[u8]
+        ensures { result.now ≡ reader_buffer self.now.reader }
+    {
+        self.reader.buffer()
+    }
+
+    /// Takes `count` bytes of what its buffer holds, without a read.
+    #[inline(always)]
+    pub(crate) fn consume(&mut self, count: usize)
+        ensures bytes { DropsConsumable (reader_remaining R.remaining self.old.reader)
+            (reader_remaining R.remaining self.new.reader)
+            (Some (length (reader_buffer self.old.reader))) count }
+        ensures calls { self.new.calls.count ≡ self.old.calls.count }
+    {
+        self.reader.consume(count);
+    }
+}
+
+/// A writer, and how often it was written to.
+#[derive(Drop)]
+pub(crate) struct CountingWriter<W: Write + Drop> {
+    writer: BufWriter<W>,
+    calls: ContractCount,
+}
+
+impl<W: Write + Drop> CountingWriter<W> {
+    /// A writer of which no write was asked yet.
+    pub(crate) fn new(writer: BufWriter<W>) -> Self
+        ensures writer { result.writer ≡ writer }
+        ensures calls { result.calls.count ≡ 0 }
+    {
+        CountingWriter {
+            writer,
+            calls: ContractCount::new(),
+        }
+    }
+
+    /// The writer without its count; what its buffer holds stays there.
+    pub(crate) fn into_inner(self) -> BufWriter<W>
+        ensures { result ≡ self.writer }
+    {
+        self.writer
+    }
+
+    /// One write to the writer, counted.
+    #[inline(always)]
+    pub(crate) fn write(&mut self, buf: &[u8]) -> Result<usize>
+        ensures at_most { WritesAtMost result buf.now }
+        ensures bytes { WriteAppends (writer_contents W.contents self.old.writer)
+            (writer_contents W.contents self.new.writer) result buf.now }
+        ensures asked { self.new.calls.count ≡ self.old.calls.count + 1 }
+    {
+        self.calls.add_one();
+        self.writer.write(buf)
+    }
+
+    /// Writes out what its buffer holds.
+    pub(crate) fn flush(&mut self) -> Result<()>
+        ensures bytes { Keeps (writer_contents W.contents self.old.writer)
+            (writer_contents W.contents self.new.writer) }
+        ensures empty { OnOk result (writer_buffer self.new.writer ≡ []) }
+        ensures calls { self.new.calls.count ≡ self.old.calls.count }
+    {
+        self.writer.flush()
+    }
+
+    /// Whether its buffer has room for `count` bytes and one more.
+    #[inline(always)]
+    pub(crate) fn has_room(&self, count: usize) -> bool {
+        count < self.writer.capacity() - self.writer.buffer().len()
+    }
+}

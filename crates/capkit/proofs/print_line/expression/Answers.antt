@@ -1,9 +1,0 @@
-use Rattle.std.proofs.Common.{◌∙◌, ap, codes, List, ℕ}
-use Rattle.std.specs.List.{join_by}
-use Rattle.capkit.proofs.Joining.{joined}
-use Rattle.capkit.proofs.print_line.expression.Goals as goal
-
-pub returns : goal.returns
-returns c =
-    c.in_ok-joined.ensures.ok ∙ joined (λ word. word.now) (codes " ") c.texts.result.now
-    ∙ ap (join_by (λ (text : List ℕ). text) (codes " ")) c.texts.ensures

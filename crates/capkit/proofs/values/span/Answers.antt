@@ -1,8 +1,0 @@
-use Rattle.std.proofs.Common.{◌∙◌, ap, true}
-use Rattle.std.specs.Option.{option_map_or}
-use Rattle.cap_command.specs.Command.{is_time}
-use Rattle.capkit.proofs.OptionValues.{proper_span}
-use Rattle.capkit.proofs.values.span.Goals as goal
-
-pub returns-in-Some-clause-proper : goal.returns-in-Some-clause-proper
-returns-in-Some-clause-proper c = ap (λ o. option_map_or is_time o true) c.span_of.ensures ∙ proper_span c.in-Some.text.now

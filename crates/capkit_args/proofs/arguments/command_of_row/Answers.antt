@@ -1,0 +1,18 @@
+use Rattle.std.proofs.Common.{◌≡◌, ◌∙◌, ap, map}
+use Rattle.std.proofs.lemmas.Result.{IfOk-weaker}
+use Rattle.clap.specs.Simple.{app_of_fields}
+use Rattle.clap.specs.Words.{App, app_of, new_app}
+use Rattle.capkit_args.specs.Arguments.{with_rules}
+use Rattle.capkit_args.specs.inside.Arguments.{rule_by}
+use Rattle.capkit_args.proofs.arguments.command_of_row.Goals as goal
+
+pub returns-clause-shape : goal.returns-clause-shape
+returns-clause-shape c =
+    let row = c.args.row.now in
+    let about : app_of c.about.result ≡ new_app row.name.now =
+    ap app_of_fields c.about.ensures ∙ c.new.ensures.app in
+    let bare : app_of c.after_help-bare.result ≡ new_app row.name.now =
+    ap app_of_fields c.after_help-bare.ensures ∙ about in
+    IfOk-weaker c.with_arguments.result _ _
+    (λ command is. is ∙ ap (λ (a : App). with_rules a (map (rule_by c.args.choices) row.arguments.now)) bare)
+    c.with_arguments.ensures.shape

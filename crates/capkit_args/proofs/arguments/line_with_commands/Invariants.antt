@@ -1,0 +1,11 @@
+use Rattle.std.proofs.Common.{◌≡◌, drop, map}
+use Rattle.clap.specs.Words.{app_of}
+use Rattle.capkit_args.specs.Arguments.{line_without_commands, with_shapes}
+use Rattle.capkit_args.specs.inside.Arguments.{shape_by}
+use Rattle.capkit_args.proofs.arguments.line_with_commands.Given as goal
+
+-- with the subcommands that are left, the command is what all of them make of the bare line
+abbrev pub invariant-loop-row : goal.invariant-loop-row
+invariant-loop-row l =
+    with_shapes (app_of l.command) (map (shape_by l.choices) (drop l.row-index l.rows))
+    ≡ with_shapes line_without_commands (map (shape_by l.choices) l.rows)

@@ -1,0 +1,19 @@
+use Rattle.std.proofs.Common.{ap, map}
+use Rattle.std.proofs.lemmas.Result.{IfOk-weaker}
+use Rattle.clap.specs.declared.builder.value_parser.ValueParser.TheVariants.{Names}
+use Rattle.cap_octet.specs.Format.{all_formats}
+use Rattle.cap_octet.specs.Link.{all_links}
+use Rattle.capkit_args.proofs.arguments.whole_line.Goals as goal
+
+pub returns : goal.returns
+unfolding all_formats all_links
+returns c =
+    let formats = Names c.as_slice.result in
+    let links = Names c.as_slice-2.result in
+    IfOk-weaker c.line_with_commands.result _ _ (λ command is. (
+      formats,
+      links,
+      ap (map (λ name. name.now)) c.as_slice.ensures,
+      ap (map (λ name. name.now)) c.as_slice-2.ensures,
+      is,
+    )) c.line_with_commands.ensures

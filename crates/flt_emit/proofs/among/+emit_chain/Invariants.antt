@@ -1,6 +1,0 @@
--- The numbers that are left.
-use Rattle.std.proofs.Common.{length}
-use Rattle.flt_emit.proofs.among.+emit_chain.Given as goal
-
-abbrev pub decreases-emit_chain : goal.decreases-emit_chain
-decreases-emit_chain g l = length l.values.now

@@ -1,5 +1,0 @@
--- How often numbers are halved from here on.
-use Rattle.flt_emit.proofs.among.+emit_search.Given as goal
-
-abbrev pub decreases-emit_search : goal.decreases-emit_search
-decreases-emit_search g l = l.levels

@@ -1,0 +1,153 @@
+//! Protocols, Ethernet addresses, `broadcast` and `multicast`, as rows of the table of primitives.
+
+ghost use Rattle.std.specs.Prelude.{◌≡◌, ◌≤◌, OnOk};
+ghost use Rattle.flt_gen.specs.Primitives.{ip_proto, ip6_proto, any_proto, check_formula};
+ghost use Rattle.flt_gen.specs.Primitives.{proto_formula, ether_host, mac_tests};
+ghost use Rattle.flt_gen.specs.Primitives.{is_group_address, cast_formula};
+
+use crate::steps::Steps;
+use cap_octet::Link;
+use cap_octet::assigned::{IPPROTO_ICMP, IPPROTO_ICMPV6, IPPROTO_TCP, IPPROTO_UDP};
+use flt_ast::Direction;
+use flt_bpf::operation::Width;
+use flt_emit::{
+    Elementary, FieldTest, FrameKind, Offset, compares_at, has_ip_proto, has_ip6_proto, has_type,
+    is_at, kind_test, network_offset,
+};
+use flt_words::{Cast, Comparison, Join, Protocol, Side};
+use std::alloc::{AllocError, Allocator};
+
+/// The six bytes from a place on are a MAC address of 48 bits.
+fn mac_tests(at: u32, address: u64) -> [Elementary; 2]
+    requires { at ≤ 6 }
+    ensures { result ≡ mac_tests at address }
+{
+    let high = address / 0x1_0000 % 0x1_0000_0000;
+    let low = address % 0x1_0000;
+    [
+        is_at(at, Width::Word, high as u32),
+        is_at(at + 4, Width::HalfWord, low as u32),
+    ]
+}
+
+/// The lowest bit of an Ethernet address' first byte is set.
+fn is_group_address() -> Elementary
+    ensures { result ≡ is_group_address }
+{
+    Elementary::Field(FieldTest {
+        offset: Offset::Fixed(0),
+        width: Width::Byte,
+        mask: Some(1),
+        comparison: Comparison::NotEqual,
+        value: 0,
+    })
+}
+
+impl<A: Allocator> Steps<A> {
+    ghost use Rattle.flt_gen.specs.inside.Steps.{IsPut};
+
+    fn put_ip_proto(&mut self, link: Link, protocol: u32) -> Result<(), AllocError>
+        ensures { OnOk result (IsPut (ip_proto link protocol) self.old self.new) }
+    {
+        self.check(kind_test(link, FrameKind::Ip))?;
+        self.check(has_ip_proto(link, protocol))?;
+        self.join(Join::And)
+    }
+
+    fn put_ip6_proto(&mut self, link: Link, protocol: u32) -> Result<(), AllocError>
+        ensures { OnOk result (IsPut (ip6_proto link protocol) self.old self.new) }
+    {
+        self.check(kind_test(link, FrameKind::Ip6))?;
+        self.check(has_ip6_proto(link, protocol))?;
+        self.join(Join::And)
+    }
+
+    fn put_any_proto(&mut self, link: Link, protocol: u32) -> Result<(), AllocError>
+        ensures { OnOk result (IsPut (any_proto link protocol) self.old self.new) }
+    {
+        self.put_ip_proto(link, protocol)?;
+        self.put_ip6_proto(link, protocol)?;
+        self.join(Join::Or)
+    }
+
+    /// A protocol alone.
+    pub fn put_check(&mut self, link: Link, protocol: Protocol) -> Result<(), AllocError>
+        ensures { OnOk result (IsPut (check_formula link protocol) self.old self.new) }
+    {
+        match protocol {
+            Protocol::Ether => self.check(kind_test(link, FrameKind::Ethernet)),
+            Protocol::Ip => self.check(kind_test(link, FrameKind::Ip)),
+            Protocol::Ip6 => self.check(kind_test(link, FrameKind::Ip6)),
+            Protocol::Arp => self.check(kind_test(link, FrameKind::Arp)),
+            Protocol::Rarp => self.check(kind_test(link, FrameKind::Rarp)),
+            Protocol::Tcp => self.put_any_proto(link, IPPROTO_TCP.into()),
+            Protocol::Udp => self.put_any_proto(link, IPPROTO_UDP.into()),
+            Protocol::Icmp => self.put_ip_proto(link, IPPROTO_ICMP.into()),
+            Protocol::Icmp6 => self.put_ip6_proto(link, IPPROTO_ICMPV6.into()),
+        }
+    }
+
+    /// `proto N`.
+    pub fn put_proto(
+        &mut self,
+        link: Link,
+        below: Option<Protocol>,
+        protocol: u32,
+    ) -> Result<(), AllocError>
+        ensures { OnOk result
+            (IsPut (proto_formula link below protocol) self.old self.new) }
+    {
+        match below {
+            Some(Protocol::Ip) => self.put_ip_proto(link, protocol),
+            Some(Protocol::Ip6) => self.put_ip6_proto(link, protocol),
+            Some(Protocol::Ether) => self.check(has_type(link, protocol)),
+            None => self.put_any_proto(link, protocol),
+            Some(_) => self.check(Elementary::Outcome(false)),
+        }
+    }
+
+    /// `ether host M`.
+    pub fn put_ether_host(
+        &mut self,
+        link: Link,
+        direction: Direction,
+        address: u64,
+    ) -> Result<(), AllocError>
+        ensures { OnOk result
+            (IsPut (ether_host link direction address) self.old self.new) }
+    {
+        self.check(kind_test(link, FrameKind::Ethernet))?;
+        self.check_sides(direction, &mac_tests(6, address), &mac_tests(0, address))?;
+        self.join(Join::And)
+    }
+
+    /// `broadcast` and `multicast`, with the protocol before it.
+    pub fn put_cast(
+        &mut self,
+        link: Link,
+        protocol: Option<Protocol>,
+        cast: Cast,
+    ) -> Result<(), AllocError>
+        ensures { OnOk result (IsPut (cast_formula link protocol cast) self.old self.new) }
+    {
+        match (cast, protocol) {
+            (Cast::Broadcast, None | Some(Protocol::Ether)) => {
+                let destination = Direction::One(Side::Destination);
+                self.put_ether_host(link, destination, 0xffff_ffff_ffff)
+            }
+            (Cast::Multicast, None | Some(Protocol::Ether)) => {
+                self.check_all(&[kind_test(link, FrameKind::Ethernet), is_group_address()])
+            }
+            (Cast::Multicast, Some(Protocol::Ip)) => {
+                let first = Offset::Fixed(network_offset(link) + 16);
+                let is_high = compares_at(first, Width::Byte, Comparison::AtLeast, 224);
+                self.check_all(&[kind_test(link, FrameKind::Ip), is_high])
+            }
+            (Cast::Multicast, Some(Protocol::Ip6)) => {
+                let is_high = is_at(network_offset(link) + 24, Width::Byte, 255);
+                self.check_all(&[kind_test(link, FrameKind::Ip6), is_high])
+            }
+            (_, Some(_)) => self.check(Elementary::Outcome(false)),
+        }
+    }
+}

@@ -1,0 +1,175 @@
+//! A primitive's formula as steps: tests and operators, the operands first.
+//!
+//! `tcp` on Ethernet, for one, is `(IPv4 and its protocol is 6) or (IPv6 and its next header is
+//! 6)`:
+//!
+//!     IPv4?  protocol 6?  and  IPv6?  next header 6?  and  or
+//!
+//! The files beside this one put the rows of the table of primitives into steps; the walk emits
+//! their code, from the last one to the first.
+
+ghost use Rattle.std.specs.Prelude.{◌≡◌, [], OnOk, IfOk, MatchOption};
+ghost use Rattle.flt_emit.specs.Formula.{Single, Among, all_of, sides, any_sides, remaining};
+
+use crate::waiting::Stack;
+use flt_ast::Direction;
+use flt_bpf::operation::Width;
+use flt_emit::{Elementary, MaskedField, Offset, Sides, compares_at, whole_field};
+use flt_words::{Comparison, Join, Side};
+use std::alloc::{AllocError, Allocator};
+use std::marker::Model;
+
+/// A test, or an operator between the two formulas before it.
+#[derive(Clone, Copy)]
+pub enum Step {
+    Check(Elementary),
+    /// The field is one of the numbers that are looked for.
+    AmongAll(MaskedField),
+    /// It is one of those that are left after this one.
+    AmongOthers(MaskedField, u32),
+    Joined(Join),
+}
+
+/// The steps of a formula, and the numbers that are looked for where there are several.
+#[derive(Drop)]
+pub struct Steps<A: Allocator> {
+    numbers: Vec<u32, A>,
+    steps: Stack<Step, A>,
+}
+
+impl<A: Allocator> Model for Steps<A> {
+    ghost use Rattle.flt_gen.specs.inside.Steps.{Steps};
+
+    ghost Value = { Steps };
+
+    ghost view = { λ s. record { numbers = s.numbers.items; steps = s.steps } };
+}
+
+impl<A: Allocator> Steps<A> {
+    ghost use Rattle.flt_gen.specs.inside.Steps.{with_step, IsPut, IsJoined};
+
+    /// The numbers that are looked for.
+    pub fn numbers(&self) -> &[u32]
+        ensures { result.now ≡ self.now.numbers }
+    {
+        &self.numbers
+    }
+
+    /// The last step is taken out.
+    pub fn pop(&mut self) -> Option<Step>
+        ensures { MatchOption result ((self.old.steps ≡ []) × (self.new ≡ self.old))
+            (λ step. self.old ≡ with_step step self.new) }
+    {
+        self.steps.pop()
+    }
+
+    /// Adds a step: a test.
+    pub fn check(&mut self, test: Elementary) -> Result<(), AllocError>
+        ensures { OnOk result (IsPut (Single test) self.old self.new) }
+    {
+        self.steps.push(Step::Check(test))
+    }
+
+    /// Adds a step: whether a field is one of the numbers.
+    pub fn among_all(&mut self, field: MaskedField) -> Result<(), AllocError>
+        ensures { OnOk result (IsPut (Among field self.old.numbers) self.old self.new) }
+    {
+        self.steps.push(Step::AmongAll(field))
+    }
+
+    /// Adds a step: whether a field is one of those that are left after the first.
+    pub fn among_others(&mut self, field: MaskedField, first: u32) -> Result<(), AllocError>
+        ensures { OnOk result
+            (IsPut (Among field (remaining first self.old.numbers)) self.old self.new) }
+    {
+        self.steps.push(Step::AmongOthers(field, first))
+    }
+
+    /// Adds a step: an operator between the last two formulas.
+    pub fn join(&mut self, join: Join) -> Result<(), AllocError>
+        ensures { OnOk result (IsJoined join self.old self.new) }
+    {
+        self.steps.push(Step::Joined(join))
+    }
+
+    /// Adds the steps of all of some tests.
+    pub fn check_all(&mut self, tests: &[Elementary]) -> Result<(), AllocError>
+        ensures { OnOk result (IsPut (all_of tests.now) self.old self.new) }
+    {
+        match tests {
+            [] => self.check(Elementary::Outcome(true)),
+            [only] => self.check(*only),
+            [first, others @ ..] => {
+                self.check(*first)?;
+                self.check_all(others)?;
+                self.join(Join::And)
+            }
+        }
+    }
+
+    /// Adds the steps of the tests of the source and of the destination, as a direction asks for
+    /// them.
+    pub fn check_sides(
+        &mut self,
+        direction: Direction,
+        source: &[Elementary],
+        destination: &[Elementary],
+    ) -> Result<(), AllocError>
+        ensures { OnOk result
+            (IsPut (sides direction source.now destination.now) self.old self.new) }
+    {
+        match direction {
+            Direction::One(Side::Source) => self.check_all(source),
+            Direction::One(Side::Destination) => self.check_all(destination),
+            Direction::Both(join) => {
+                self.check_all(source)?;
+                self.check_all(destination)?;
+                self.join(join)
+            }
+        }
+    }
+
+    /// Adds the steps that look for the numbers on a side, or on either. The source is compared
+    /// with the first number alone before the destination is looked at, as by tests of one number
+    /// after the other.
+    pub fn among_sides(
+        &mut self,
+        direction: Direction,
+        at: Sides,
+        first: u32,
+    ) -> Result<(), AllocError>
+        ensures { OnOk result
+            (IsPut (any_sides direction at first self.old.numbers) self.old self.new) }
+    {
+        let source = whole_field(at.source, at.width);
+        let destination = whole_field(at.destination, at.width);
+        match direction {
+            Direction::One(Side::Source) => self.among_all(source),
+            Direction::One(Side::Destination) => self.among_all(destination),
+            Direction::Both(Join::Or) => {
+                self.check(compares_at(at.source, at.width, Comparison::Equal, first))?;
+                self.among_all(destination)?;
+                self.among_others(source, first)?;
+                self.join(Join::Or)?;
+                self.join(Join::Or)
+            }
+            Direction::Both(Join::And) => self.check(Elementary::Outcome(false)),
+        }
+    }
+}
+
+impl<A: Allocator + Clone> Steps<A> {
+    ghost use Rattle.flt_gen.specs.inside.Steps.{no_steps};
+
+    /// No step is there yet. These numbers are looked for.
+    pub fn new(alloc: A, numbers: &[u32]) -> Result<Self, AllocError>
+        ensures { IfOk result (λ steps. steps ≡ no_steps numbers.now) }
+    {
+        let mut copied = Vec::new(alloc.clone()?);
+        copied.extend_from_slice(numbers)?;
+        Ok(Steps {
+            numbers: copied,
+            steps: Stack::new(alloc),
+        })
+    }
+}

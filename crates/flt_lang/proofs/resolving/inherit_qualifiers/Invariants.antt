@@ -1,0 +1,11 @@
+-- The front has its qualifiers, and the rest gets those that follow from the latest.
+use Rattle.std.proofs.Common.{◌≡◌, ◌++◌, length, take, drop}
+use Rattle.flt_ast.specs.Filled.{only_host}
+use Rattle.flt_ast.specs.inside.Filled.{inherited_nodes}
+use Rattle.flt_lang.proofs.resolving.inherit_qualifiers.Given as goal
+
+abbrev pub invariant-loop-i : goal.invariant-loop-i
+invariant-loop-i g l = record {
+  so_far : take l.i l.nodes.items ++ inherited_nodes l.nearest (drop l.i l.nodes.items) ≡ inherited_nodes only_host l.initial.nodes.items;
+  same_length : length l.nodes.items ≡ length l.initial.nodes.items;
+}

@@ -1,0 +1,9 @@
+-- There is room for one more instruction.
+use Rattle.std.proofs.Common.{length, drop, ap, arith, length-drop}
+use Rattle.flt_lay.specs.inside.Layout.{PlacedCode}
+use Rattle.flt_lay.proofs.Counted.{threefold}
+use Rattle.flt_lay.proofs.layout.Layout.of_wide.Goals as goal
+
+pub put-requires : goal.put-requires
+put-requires g c =
+    omega (arith, ap (λ (l : PlacedCode). length l.code) c.loop-at.invariant, threefold (drop c.loop-at.at c.args.wide.now), length-drop c.loop-at.at c.args.wide.now, c.requires)

@@ -1,0 +1,377 @@
+-- What is known holds of the packet and of the registers.
+use Rattle.std.proofs.Common.{◌≡◌, ℕ, zero, suc, ◌+◌, ◌%◌, ◌^◌, List, [], ◌∷◌, Bool, true, false, Option, Some, None, refl, sym, ap, ◌∙◌, subst, arith, ◌⊎◌, inl, inr}
+use Rattle.std.specs.Prelude.{◌==◌, ◌&&◌, ◌||◌, not, if◌then◌else◌, map, replicate, slice_set, bit_and}
+use Rattle.std.specs.Option.{option_map}
+use Rattle.std.proofs.lemmas.Bool.Decides.{nat_tests}
+use Rattle.flt_bpf.specs.declared.machine.State.{State}
+use Rattle.flt_bpf.specs.declared.operation.Operation.{Operation}
+use Rattle.flt_bpf.specs.declared.operation.Operation.TheVariants.{LoadAbsolute, LoadIndirect, JumpIf}
+use Rattle.flt_bpf.specs.declared.operation.Test.{Test}
+use Rattle.flt_bpf.specs.declared.operation.Test.TheVariants.{Equal}
+use Rattle.flt_bpf.specs.declared.operation.Operand.{Operand}
+use Rattle.flt_bpf.specs.declared.operation.Operand.TheVariants.{Constant}
+use Rattle.flt_bpf.specs.declared.operation.Width.TheVariants.{Byte}
+use Rattle.flt_bpf.specs.declared.insn.Insn.{Insn}
+use Rattle.flt_bpf.specs.Instructions.{operation_of}
+use Rattle.flt_bpf.specs.Machine.{field, header_length, test_holds, operand_value}
+use Rattle.flt_short.specs.declared.facts.Field.{Field}
+use Rattle.flt_short.specs.declared.facts.Claim.{Claim}
+use Rattle.flt_short.specs.declared.facts.Claim.TheVariants.{Nothing, Is, IsNot, IsOneOf}
+use Rattle.flt_short.specs.declared.facts.Fact.{Fact}
+use Rattle.flt_short.specs.declared.facts.Held.{Held}
+use Rattle.flt_short.specs.declared.facts.Held.TheVariants as held
+use Rattle.flt_short.specs.declared.facts.Known.{Known}
+use Rattle.flt_short.specs.inside.Facts.{nothing_claimed, nothing_known, same_mask, same_field, is_nothing, allows, entails_some, entails, one_of_two, joined_claim, joined_some, joined_fact, joined_held, same_index, joined_by, joined, says, first_said, decided, the_two, one_of, with_fact, captures, any_captures, holds_field, is_captured, claim_after, known_by, known_by_test}
+use Rattle.flt_short.proofs.Basics.{by_test, both_true, either_true}
+
+-- what a field is
+abbrev pub loaded : Option Operation → List ℕ → ℕ → Option ℕ
+loaded (Some (LoadAbsolute w)) p k = field p k w
+loaded _ p k = None
+
+abbrev pub masked : Option ℕ → Option ℕ → Option ℕ
+masked None v = v
+masked (Some m) v = option_map (λ n. bit_and n m) v
+
+abbrev pub value_at : List ℕ → ℕ → ℕ → Option ℕ → Option ℕ
+value_at p code k mask = masked mask (loaded (operation_of code) p k)
+
+abbrev pub value_of : List ℕ → Field → Option ℕ
+value_of p f = value_at p f.code f.k f.mask
+
+-- what a load at X puts into A
+abbrev pub loaded_at : Option Operation → List ℕ → ℕ → ℕ → Option ℕ
+loaded_at (Some (LoadIndirect w)) p x k = field p ((x + k) % 2 ^ 32) w
+loaded_at _ p x k = None
+
+-- claims
+abbrev pub is_said : Claim → Option ℕ → Bool
+is_said c None = is_nothing c
+is_said c (Some n) = allows c n
+
+pub numbers : (a b : ℕ) → (a == b) ≡ true → a ≡ b
+numbers a b e = grind (arith, nat_tests)
+
+pub same_number : (v b : ℕ) → v ≡ b → (v == b) ≡ true
+same_number v b e = grind (arith, nat_tests)
+
+pub same_masks : (a b : Option ℕ) → same_mask a b ≡ true → a ≡ b
+same_masks None None e = refl
+same_masks (Some a) (Some b) e = ap Some (numbers a b e)
+same_masks None (Some b) e = cc
+same_masks (Some a) None e = cc
+
+pub same_value : (p : List ℕ) (f g : Field) → same_field f g ≡ true → value_of p f ≡ value_of p g
+same_value p f g e =
+    let q = both_true (f.code == g.code && f.k == g.k) (same_mask f.mask g.mask) e in
+    let r = both_true (f.code == g.code) (f.k == g.k) q.0 in
+    ap (λ c. value_at p c f.k f.mask) (numbers f.code g.code r.0)
+    ∙ ap (λ k. value_at p g.code k f.mask) (numbers f.k g.k r.1)
+    ∙ ap (value_at p g.code g.k) (same_masks f.mask g.mask q.1)
+
+nothing_allows : (c : Claim) (n : ℕ) → is_nothing c ≡ true → allows c n ≡ true
+nothing_allows Nothing n e = refl
+nothing_allows _ n e = cc
+
+pub nothing_said : (o : Option ℕ) → is_said Nothing o ≡ true
+nothing_said None = refl
+nothing_said (Some n) = refl
+
+silent : (c : Claim) (o : Option ℕ) → is_nothing c ≡ true → is_said c o ≡ true
+silent c None e = e
+silent c (Some n) e = nothing_allows c n e
+
+not_also : (a b n : ℕ) → (b == a) ≡ true → not (n == a) ≡ true → not (n == b) ≡ true
+not_also a b n e h = subst (λ m. not (n == m) ≡ true) (sym (numbers b a e)) h
+
+some_entails : (c d : Claim) (n : ℕ) → entails_some c d ≡ true → allows c n ≡ true → allows d n ≡ true
+some_entails Nothing d n e h = cc
+some_entails (Is a) d n e h = subst (λ m. allows d m ≡ true) (sym (numbers n a h)) e
+some_entails (IsNot a) (IsNot b) n e h = not_also a b n e h
+some_entails (IsNot a) Nothing n e h = cc
+some_entails (IsNot a) (Is b) n e h = cc
+some_entails (IsNot a) (IsOneOf b b') n e h = cc
+some_entails (IsOneOf a b) d n e h =
+    let q = both_true (allows d a) (allows d b) e in
+    elim (either_true (n == a) (n == b) h) [
+      | inl i ↦ subst (λ m. allows d m ≡ true) (sym (numbers n a i)) q.0
+      | inr i ↦ subst (λ m. allows d m ≡ true) (sym (numbers n b i)) q.1
+    ]
+
+some_of_nothing : (c d : Claim) → entails_some c d ≡ true → is_nothing c ≡ true → is_nothing d ≡ true
+some_of_nothing Nothing d e h = cc
+some_of_nothing (Is a) d e h = cc
+some_of_nothing (IsNot a) d e h = cc
+some_of_nothing (IsOneOf a b) d e h = cc
+
+entailed : (c d : Claim) (o : Option ℕ) → entails c d ≡ true → is_said c o ≡ true → is_said d o ≡ true
+entailed c d None e h = elim (either_true (is_nothing d) (entails_some c d) e) [ inl i ↦ i | inr i ↦ some_of_nothing c d i h ]
+entailed c d (Some n) e h = elim (either_true (is_nothing d) (entails_some c d) e) [ inl i ↦ nothing_allows d n i | inr i ↦ some_entails c d n i h ]
+
+first_true : (a b : Bool) → a ≡ true → (a || b) ≡ true
+first_true a b e = ap (λ z. z || b) e
+
+second_true : (a b : Bool) → b ≡ true → (a || b) ≡ true
+second_true true b e = refl
+second_true false b e = e
+
+two_left : (c d : Claim) (o : Option ℕ) → is_said c o ≡ true → is_said (one_of_two c d) o ≡ true
+two_left (Is a) (Is b) None h = cc
+two_left (Is a) (Is b) (Some n) h = first_true (n == a) (n == b) h
+two_left _ _ o h = nothing_said o
+
+two_right : (c d : Claim) (o : Option ℕ) → is_said d o ≡ true → is_said (one_of_two c d) o ≡ true
+two_right (Is a) (Is b) None h = cc
+two_right (Is a) (Is b) (Some n) h = second_true (n == a) (n == b) h
+two_right _ _ o h = nothing_said o
+
+joined_left : (c d : Claim) (o : Option ℕ) → is_said c o ≡ true → is_said (joined_claim c d) o ≡ true
+joined_left c d o h =
+    by_test (λ z. is_said z o ≡ true) (entails c d) _ _
+    (λ e. entailed c d o e h)
+    (λ _. by_test (λ z. is_said z o ≡ true) (entails d c) c (one_of_two c d) (λ _. h) (λ _. two_left c d o h))
+
+joined_right : (c d : Claim) (o : Option ℕ) → is_said d o ≡ true → is_said (joined_claim c d) o ≡ true
+joined_right c d o h =
+    by_test (λ z. is_said z o ≡ true) (entails c d) _ _
+    (λ _. h)
+    (λ _. by_test (λ z. is_said z o ≡ true) (entails d c) c (one_of_two c d) (λ e. entailed d c o e h) (λ _. two_right c d o h))
+
+-- what a claim says of a test
+not_allowed : (c : Claim) (n v : ℕ) (b : Bool) → allows c v ≡ true → (if allows c n then None else Some false) ≡ Some b → (v == n) ≡ b
+not_allowed c n v b h =
+    by_test (λ z. z ≡ Some b → (v == n) ≡ b) (allows c n) None (Some false)
+    (λ _. λ e. cc)
+    (λ other. λ e.
+    let is_b : false ≡ b = cc in
+    by_test (λ (z : Bool). (v == n) ≡ z → (v == n) ≡ b) (v == n) true false
+    (λ yes. λ _. let same = numbers v n yes in let both : allows c n ≡ true = subst (λ m. allows c m ≡ true) same h in absurd (let clash : true ≡ false = sym both ∙ other in cc))
+    (λ none. λ _. none ∙ is_b)
+    (by_test (λ (z : Bool). (v == n) ≡ z) (v == n) true false (λ yes. yes) (λ none. none)))
+
+says_right : (c : Claim) (n v : ℕ) (b : Bool) → allows c v ≡ true → says c n ≡ Some b → (v == n) ≡ b
+says_right (Is a) n v b h e =
+    let is_b : (a == n) ≡ b = cc in
+    ap (λ m. m == n) (numbers v a h) ∙ is_b
+says_right Nothing n v b h e = not_allowed Nothing n v b h e
+says_right (IsNot a) n v b h e = not_allowed (IsNot a) n v b h e
+says_right (IsOneOf a a') n v b h e = not_allowed (IsOneOf a a') n v b h e
+
+module _ (p : List ℕ) where
+  abbrev pub Says : Fact → Type 0
+  Says x = is_said x.claim (value_of p x.field) ≡ true
+
+  abbrev pub AllSay : List Fact → Type 0
+  AllSay [] = Unit {0}
+  AllSay (x ∷ xs) = Says x × AllSay xs
+
+  some_left : (x : Fact) (ys : List Fact) → Says x → Says (joined_some x ys)
+  some_left x [] h = nothing_said (value_of p nothing_claimed.field)
+  some_left x (y ∷ ys) h =
+      by_test Says (same_field x.field y.field && not (is_nothing (joined_claim x.claim y.claim))) _ (joined_some x ys)
+      (λ _. joined_left x.claim y.claim (value_of p x.field) h)
+      (λ _. some_left x ys h)
+
+  some_right : (x : Fact) (ys : List Fact) → AllSay ys → Says (joined_some x ys)
+  some_right x [] h = nothing_said (value_of p nothing_claimed.field)
+  some_right x (y ∷ ys) h =
+      by_test Says (same_field x.field y.field && not (is_nothing (joined_claim x.claim y.claim))) _ (joined_some x ys)
+      (λ t. let same = (both_true (same_field x.field y.field) (not (is_nothing (joined_claim x.claim y.claim))) t).0 in
+      joined_right x.claim y.claim (value_of p x.field) (subst (λ o. is_said y.claim o ≡ true) (sym (same_value p x.field y.field same)) h.0))
+      (λ _. some_right x ys h.1)
+
+  fact_left : (x : Fact) (ys : List Fact) → Says x → Says (joined_fact x ys)
+  fact_left x ys h = by_test Says (is_nothing x.claim) x (joined_some x ys) (λ _. h) (λ _. some_left x ys h)
+
+  fact_right : (x : Fact) (ys : List Fact) → AllSay ys → Says (joined_fact x ys)
+  fact_right x ys h = by_test Says (is_nothing x.claim) x (joined_some x ys) (λ e. silent x.claim (value_of p x.field) e) (λ _. some_right x ys h)
+
+  facts_left : (xs ys : List Fact) → AllSay xs → AllSay (map (λ x. joined_fact x ys) xs)
+  facts_left [] ys h = tt
+  facts_left (x ∷ xs) ys h = (fact_left x ys h.0, facts_left xs ys h.1)
+
+  facts_right : (xs ys : List Fact) → AllSay ys → AllSay (map (λ x. joined_fact x ys) xs)
+  facts_right [] ys h = tt
+  facts_right (x ∷ xs) ys h = (fact_right x ys h, facts_right xs ys h)
+
+  pub nothing_says : (n : ℕ) → AllSay (replicate n nothing_claimed)
+  nothing_says zero = tt
+  nothing_says (suc n) = (nothing_said (value_of p nothing_claimed.field), nothing_says n)
+
+  set_says : (xs : List Fact) (at : ℕ) (y : Fact) → AllSay xs → Says y → AllSay (slice_set xs at y)
+  set_says [] at y h s = tt
+  set_says (x ∷ xs) zero y h s = (s, h.1)
+  set_says (x ∷ xs) (suc at) y h s = (h.0, set_says xs at y h.1 s)
+
+  -- of a field that is this number
+  of_value : (x : Fact) (f : Field) (v : ℕ) → same_field x.field f ≡ true → value_of p f ≡ Some v → Says x → allows x.claim v ≡ true
+  of_value x f v same is h = subst (λ o. is_said x.claim o ≡ true) (same_value p x.field f same ∙ is) h
+
+  first_right : (o later : Option Bool) (b : Bool) (P : Type 0) → (o ≡ Some b → P) → (later ≡ Some b → P) → first_said o later ≡ Some b → P
+  first_right (Some c) later b P f g e = f e
+  first_right None later b P f g e = g e
+
+  pub decided_right : (xs : List Fact) (f : Field) (v n : ℕ) (b : Bool) → AllSay xs → value_of p f ≡ Some v → decided xs f n ≡ Some b → (v == n) ≡ b
+  decided_right [] f v n b h is = λ e. cc
+  decided_right (x ∷ xs) f v n b h is =
+      by_test (λ z. z ≡ Some b → (v == n) ≡ b) (same_field x.field f) _ _
+      (λ same. first_right (says x.claim n) (decided xs f n) b ((v == n) ≡ b) (says_right x.claim n v b (of_value x f v same is h.0)) (decided_right xs f v n b h.1 is))
+      (λ _. decided_right xs f v n b h.1 is)
+
+  -- a field is one of two numbers
+  pub record IsEither (f : Field) (a b : ℕ) : Type 0 where
+    pub number : ℕ
+    pub is : value_of p f ≡ Some number
+    pub either : (number ≡ a) ⊎ (number ≡ b)
+
+  said_two : (o : Option ℕ) (a b : ℕ) → is_said (IsOneOf a b) o ≡ true → (v : ℕ) × ((o ≡ Some v) × ((v ≡ a) ⊎ (v ≡ b)))
+  said_two None a b h = cc
+  said_two (Some v) a b h = (v, (refl, elim (either_true (v == a) (v == b) h) [ inl i ↦ inl (numbers v a i) | inr i ↦ inr (numbers v b i) ]))
+
+  the_two_right : (c : Claim) (f : Field) (later : Option (ℕ × ℕ)) (two : ℕ × ℕ) → is_said c (value_of p f) ≡ true → (later ≡ Some two → IsEither f two.0 two.1) → the_two c later ≡ Some two → IsEither f two.0 two.1
+  the_two_right (IsOneOf a b) f later two h g e =
+      let q = said_two (value_of p f) a b h in
+      let pair : (a, b) ≡ two = cc in
+      subst (λ (t : ℕ × ℕ). IsEither f t.0 t.1) pair (record { number = q.0; is = q.1.0; either = q.1.1 })
+  the_two_right _ f later two h g e = g e
+
+  pub one_of_right : (xs : List Fact) (f : Field) (two : ℕ × ℕ) → AllSay xs → one_of xs f ≡ Some two → IsEither f two.0 two.1
+  one_of_right [] f two h = λ e. cc
+  one_of_right (x ∷ xs) f two h =
+      by_test (λ z. z ≡ Some two → IsEither f two.0 two.1) (same_field x.field f) _ _
+      (λ same. the_two_right x.claim f (one_of xs f) two (subst (λ o. is_said x.claim o ≡ true) (same_value p x.field f same) h.0) (one_of_right xs f two h.1))
+      (λ _. one_of_right xs f two h.1)
+
+  -- what is captured
+  there : (c : Claim) (mask o : Option ℕ) → not (is_nothing c) ≡ true → is_said c (masked mask o) ≡ true → (v : ℕ) × (o ≡ Some v)
+  there c mask (Some v) n h = (v, refl)
+  there Nothing None None n h = cc
+  there (Is a) None None n h = cc
+  there (IsNot a) None None n h = cc
+  there (IsOneOf a b) None None n h = cc
+  there Nothing (Some m) None n h = cc
+  there (Is a) (Some m) None n h = cc
+  there (IsNot a) (Some m) None n h = cc
+  there (IsOneOf a b) (Some m) None n h = cc
+
+  -- the bytes of a load are captured
+  abbrev pub IsThere : ℕ → ℕ → Type 0
+  IsThere code k = (v : ℕ) × (loaded (operation_of code) p k ≡ Some v)
+
+  there_by : (x : Fact) (code k : ℕ) → Says x → captures x code k ≡ true → IsThere code k
+  there_by x code k h e =
+      let q = both_true (x.field.code == code && x.field.k == k) (not (is_nothing x.claim)) e in
+      let r = both_true (x.field.code == code) (x.field.k == k) q.0 in
+      let t = there x.claim x.field.mask (loaded (operation_of x.field.code) p x.field.k) q.1 h in
+      (t.0, ap (λ m. loaded (operation_of m) p k) (sym (numbers x.field.code code r.0)) ∙ ap (loaded (operation_of x.field.code) p) (sym (numbers x.field.k k r.1)) ∙ t.1)
+
+  any_there : (xs : List Fact) (code k : ℕ) → AllSay xs → any_captures xs code k ≡ true → IsThere code k
+  any_there [] code k h e = cc
+  any_there (x ∷ xs) code k h e = elim (either_true (captures x code k) (any_captures xs code k) e) [ inl i ↦ there_by x code k h.0 i | inr i ↦ any_there xs code k h.1 i ]
+
+  -- A and X
+  abbrev pub HeldHolds : Held → State → Type 0
+  HeldHolds held.Unreached s = ⊥
+  HeldHolds held.Unknown s = Unit {0}
+  HeldHolds (held.Field f) s = value_of p f ≡ Some s.accumulator
+  HeldHolds (held.AtIndex code k) s = loaded_at (operation_of code) p s.index k ≡ Some s.accumulator
+
+  abbrev pub IndexHolds : Option ℕ → ℕ → Type 0
+  IndexHolds None x = Unit {0}
+  IndexHolds (Some k) x = option_map header_length (field p k Byte) ≡ Some x
+
+  pub record Holds (k : Known) (s : State) : Type 0 where
+    pub a : HeldHolds k.held s
+    pub x : IndexHolds k.index s.index
+    pub facts : AllSay k.facts
+
+  held_left : (one other : Held) (s : State) → HeldHolds one s → HeldHolds (joined_held one other) s
+  held_left held.Unreached other s x = absurd x
+  held_left h held.Unreached s x = x
+  held_left (held.Field f) (held.Field g) s x = by_test (λ h. HeldHolds h s) (same_field f g) _ _ (λ _. x) (λ _. tt)
+  held_left (held.AtIndex c k) (held.AtIndex d j) s x = by_test (λ h. HeldHolds h s) (c == d && k == j) _ _ (λ _. x) (λ _. tt)
+  held_left _ _ s x = tt
+
+  held_right : (one other : Held) (s : State) → HeldHolds other s → HeldHolds (joined_held one other) s
+  held_right held.Unreached other s x = x
+  held_right h held.Unreached s x = absurd x
+  held_right (held.Field f) (held.Field g) s x = by_test (λ h. HeldHolds h s) (same_field f g) _ _ (λ e. same_value p f g e ∙ x) (λ _. tt)
+  held_right (held.AtIndex c k) (held.AtIndex d j) s x =
+      by_test (λ h. HeldHolds h s) (c == d && k == j) _ _
+      (λ e. let q = both_true (c == d) (k == j) e in ap (λ m. loaded_at (operation_of m) p s.index k) (numbers c d q.0) ∙ ap (loaded_at (operation_of d) p s.index) (numbers k j q.1) ∙ x)
+      (λ _. tt)
+  held_right _ _ s x = tt
+
+  index_left : (a b : Option ℕ) (n : ℕ) → IndexHolds a n → IndexHolds (same_index a b) n
+  index_left a b n x = by_test (λ o. IndexHolds o n) (same_mask a b) a None (λ _. x) (λ _. tt)
+
+  index_right : (a b : Option ℕ) (n : ℕ) → IndexHolds b n → IndexHolds (same_index a b) n
+  index_right a b n x = by_test (λ o. IndexHolds o n) (same_mask a b) a None (λ e. subst (λ o. IndexHolds o n) (sym (same_masks a b e)) x) (λ _. tt)
+
+  by_left : (h : Held) (k came : Known) (s : State) → HeldHolds h s → Holds k s → Holds (joined_by h k came) s
+  by_left held.Unreached k came s x y = absurd x
+  by_left h k came s x y = record { a = held_left h came.held s x; x = index_left k.index came.index s.index y.x; facts = facts_left k.facts came.facts y.facts }
+
+  by_right : (h : Held) (k came : Known) (s : State) → Holds came s → Holds (joined_by h k came) s
+  by_right held.Unreached k came s y = y
+  by_right h k came s y = record { a = held_right h came.held s y.a; x = index_right k.index came.index s.index y.x; facts = facts_right k.facts came.facts y.facts }
+
+  pub joins_left : (k came : Known) (s : State) → Holds k s → Holds (joined k came) s
+  joins_left k came s y = by_left k.held k came s y.a y
+
+  pub joins_right : (k came : Known) (s : State) → Holds came s → Holds (joined k came) s
+  joins_right k came s y = by_right k.held k came s y
+
+  pub nothing_holds : (s : State) → Holds nothing_known s
+  nothing_holds s = record { a = tt; x = tt; facts = nothing_says 8 }
+
+  pub fact_holds : (k : Known) (f : Field) (c : Claim) (s : State) → Holds k s → is_said c (value_of p f) ≡ true → Holds (with_fact k f c) s
+  fact_holds k f c s y h = record { a = y.a; x = y.x; facts = set_says k.facts _ _ y.facts h }
+
+  held_there : (mask o : Option ℕ) (a : ℕ) → masked mask o ≡ Some a → (v : ℕ) × (o ≡ Some v)
+  held_there mask (Some v) a e = (v, refl)
+  held_there None None a e = cc
+  held_there (Some m) None a e = cc
+
+  field_there : (h : Held) (code k : ℕ) (s : State) → HeldHolds h s → holds_field h code k ≡ true → IsThere code k
+  field_there (held.Field f) code k s x e =
+      let q = both_true (f.code == code) (f.k == k) e in
+      let t = held_there f.mask (loaded (operation_of f.code) p f.k) s.accumulator x in
+      (t.0, ap (λ m. loaded (operation_of m) p k) (sym (numbers f.code code q.0)) ∙ ap (loaded (operation_of f.code) p) (sym (numbers f.k k q.1)) ∙ t.1)
+  field_there held.Unreached code k s x e = absurd x
+  field_there held.Unknown code k s x e = cc
+  field_there (held.AtIndex c j) code k s x e = cc
+
+  pub captured_there : (k : Known) (code at : ℕ) (s : State) → Holds k s → is_captured k code at ≡ true → IsThere code at
+  captured_there k code at s y e = elim (either_true (holds_field k.held code at) (any_captures k.facts code at) e) [ inl i ↦ field_there k.held code at s y.a i | inr i ↦ any_there k.facts code at y.facts i ]
+
+  -- what the outcome of a test says
+  clash : (v n a : ℕ) → (n == a) ≡ true → v ≡ a → (v == n) ≡ false → ⊥
+  clash v n a e i other = let same = numbers n a e in let yes = same_number v n (i ∙ sym same) in (let both : true ≡ false = sym yes ∙ other in cc)
+
+  two_said : (v n a b : ℕ) → (v ≡ a) ⊎ (v ≡ b) → (v == n) ≡ false → allows (if n == a then Is b else (if n == b then Is a else IsNot n)) v ≡ true
+  two_said v n a b either other =
+      by_test (λ c. allows c v ≡ true) (n == a) _ _
+      (λ e. elim either [ inl i ↦ absurd (clash v n a e i other) | inr i ↦ same_number v b i ])
+      (λ _. by_test (λ c. allows c v ≡ true) (n == b) _ _
+      (λ e. elim either [ inl i ↦ same_number v a i | inr i ↦ absurd (clash v n b e i other) ])
+      (λ _. ap not other))
+
+  claimed : (outcome : Bool) (v n : ℕ) (f : Field) (o : Option (ℕ × ℕ)) → value_of p f ≡ Some v → ((two : ℕ × ℕ) → o ≡ Some two → IsEither f two.0 two.1) → (v == n) ≡ outcome → is_said (claim_after outcome n o) (Some v) ≡ true
+  claimed true v n f o is g e = e
+  claimed false v n f None is g e = ap not e
+  claimed false v n f (Some two) is g e =
+      let q = g two refl in
+      let same : q.number ≡ v = cc in
+      two_said v n two.0 two.1 (subst (λ m. (m ≡ two.0) ⊎ (m ≡ two.1)) same q.either) e
+
+  tested_field : (k : Known) (f : Field) (n : ℕ) (outcome : Bool) (s : State) → Holds k s → value_of p f ≡ Some s.accumulator → (s.accumulator == n) ≡ outcome → Holds (known_by k f n outcome) s
+  tested_field k f n outcome s y is e =
+      fact_holds k f _ s y (subst (λ o. is_said (claim_after outcome n (one_of k.facts f)) o ≡ true) (sym is) (claimed outcome s.accumulator n f (one_of k.facts f) is (λ two. λ g. one_of_right k.facts f two y.facts g) e))
+
+  tested_by : (t : Test) (o : Operand) (h : Held) (k : Known) (i : Insn) (outcome : Bool) (s : State) → HeldHolds h s → Holds k s → test_holds t s.accumulator (operand_value o i.k s.index) ≡ outcome → Holds (known_by_test (Some (JumpIf t o)) h k i.k outcome) s
+  tested_by Equal Constant (held.Field f) k i outcome s x y e = tested_field k f i.k outcome s y x e
+  tested_by _ _ _ k i outcome s x y e = y
+
+  pub tested : (t : Test) (o : Operand) (k : Known) (i : Insn) (outcome : Bool) (s : State) → Holds k s → test_holds t s.accumulator (operand_value o i.k s.index) ≡ outcome → Holds (known_by_test (Some (JumpIf t o)) k.held k i.k outcome) s
+  tested t o k i outcome s y e = tested_by t o k.held k i outcome s y.a y e

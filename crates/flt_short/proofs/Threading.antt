@@ -1,0 +1,299 @@
+-- Threaded code returns the same, and keeps its length, its tests and what breaks no rule.
+use Rattle.std.proofs.Common.{◌≡◌, ℕ, zero, suc, ◌+◌, ◌%◌, ◌^◌, ◌<◌, List, [], ◌∷◌, length, count_by, get_or, cond, Bool, true, false, Option, Some, None, refl, sym, ap, ◌∙◌, subst, arith}
+use Rattle.std.specs.Prelude.{replicate, nat_lt, ◌&&◌, if◌then◌else◌, slice_get}
+use Rattle.std.specs.Option.{option_map}
+use Rattle.std.proofs.lemmas.Bool.Decides.{nat_tests}
+use Rattle.std.proofs.lemmas.List.Sums.{sum_by-cons}
+use Rattle.flt_bpf.specs.declared.insn.Insn.{Insn}
+use Rattle.flt_bpf.specs.declared.fault.CheckFault.{CheckFault}
+use Rattle.flt_bpf.specs.declared.machine.State.{State}
+use Rattle.flt_bpf.specs.declared.operation.Operation.{Operation}
+use Rattle.flt_bpf.specs.declared.operation.Operation.TheVariants.{LoadAbsolute, LoadIndirect, Load, LoadHeaderLength, Store, Compute, Negate, Jump, JumpIf, ReturnConstant, ReturnAccumulator, CopyToIndex, CopyToAccumulator}
+use Rattle.flt_bpf.specs.declared.operation.Register.TheVariants.{Accumulator, Index}
+use Rattle.flt_bpf.specs.declared.operation.Source.TheVariants.{Immediate, Memory, Length}
+use Rattle.flt_bpf.specs.declared.operation.Operand.TheVariants.{Constant, IndexRegister}
+use Rattle.flt_bpf.specs.declared.operation.AluOperation.TheVariants as arithmetic
+use Rattle.flt_bpf.specs.declared.operation.Width.TheVariants.{Byte}
+use Rattle.flt_bpf.specs.Instructions.{operation_of}
+use Rattle.flt_bpf.specs.Machine.{Next, Goes, Lost, does_if_known, into, word_into, with_register, test_holds, operand_value, field, compute, header_length, start}
+use Rattle.flt_bpf.specs.Answer.{answer_of, answer_after}
+use Rattle.flt_bpf.specs.Check.{unless, fault_of, fault_if_known, ends_in_return, IsFaultless}
+use Rattle.flt_bpf.specs.Layout.{is_branch}
+use Rattle.flt_short.specs.Threads.{Threads}
+use Rattle.flt_short.specs.declared.facts.Held.{Held}
+use Rattle.flt_short.specs.declared.facts.Held.TheVariants as held_variant
+use Rattle.flt_short.specs.declared.facts.Known.{Known}
+use Rattle.flt_short.specs.inside.Facts.{nothing_known, unreached, masked_by, masked_held, held_if_some, without_index, known_after, known_by_test}
+use Rattle.flt_short.specs.inside.Threads.{moved, threaded_by, threaded_if, threaded_insn, with_arrival, with_arrivals_by, with_arrivals_if, with_arrivals, flow, threaded}
+use Rattle.flt_short.proofs.Basics.{both_true}
+use Rattle.flt_short.proofs.Flow.{by_code, threaded_code}
+use Rattle.flt_short.proofs.Knowing.{loaded, masked, value_at, loaded_at, HeldHolds, Holds, joins_left, joins_right, nothing_holds, tested}
+use Rattle.flt_short.proofs.Walks.{known_step, moved_same, moved_inside}
+
+module _ (p : List ℕ) (n : ℕ) where
+  abbrev pub HoldsAt : List Known → ℕ → State → Type 0
+  HoldsAt [] m s = Unit {0}
+  HoldsAt (k ∷ ks) zero s = Holds p k s
+  HoldsAt (k ∷ ks) (suc m) s = HoldsAt ks m s
+
+  raised_at : (ks : List Known) (m : ℕ) (k : Known) (s : State) → Holds p k s → HoldsAt (with_arrival ks m k) m s
+  raised_at [] m k s x = tt
+  raised_at (g ∷ ks) zero k s x = joins_right p g k s x
+  raised_at (g ∷ ks) (suc m) k s x = raised_at ks m k s x
+
+  raised_keeps : (ks : List Known) (at m : ℕ) (k : Known) (s : State) → HoldsAt ks m s → HoldsAt (with_arrival ks at k) m s
+  raised_keeps [] at m k s x = tt
+  raised_keeps (g ∷ ks) zero zero k s x = joins_left p g k s x
+  raised_keeps (g ∷ ks) zero (suc m) k s x = x
+  raised_keeps (g ∷ ks) (suc at) zero k s x = x
+  raised_keeps (g ∷ ks) (suc at) (suc m) k s x = raised_keeps ks at m k s x
+
+  by_keeps : (op : Option Operation) (k : Known) (i : Insn) (ks : List Known) (m : ℕ) (s : State) → HoldsAt ks m s → HoldsAt (with_arrivals_by 0 op k i ks) m s
+  by_keeps (Some (JumpIf t o)) k i ks m s x = raised_keeps _ (0 + i.jf) m _ s (raised_keeps ks (0 + i.jt) m _ s x)
+  by_keeps (Some Jump) k i ks m s x = raised_keeps ks (0 + i.k) m k s x
+  by_keeps (Some ReturnConstant) k i ks m s x = x
+  by_keeps (Some ReturnAccumulator) k i ks m s x = x
+  by_keeps op k i ks m s x = raised_keeps ks 0 m (known_after op k i) s x
+
+  if_keeps : (h : Held) (op : Option Operation) (k : Known) (i : Insn) (ks : List Known) (m : ℕ) (s : State) → HoldsAt ks m s → HoldsAt (with_arrivals_if h 0 op k i ks) m s
+  if_keeps held_variant.Unreached op k i ks m s x = x
+  if_keeps h op k i ks m s x = by_keeps op k i ks m s x
+
+  -- the code after an instruction has the same answers wherever that is known
+  abbrev Alike : List Insn → List Insn → List Known → Type 0
+  Alike c d ks = (m : ℕ) (t : State) → HoldsAt ks m t → answer_of c p n m t ≡ answer_of d p n m t
+
+  module _ (c d : List Insn) where
+    abbrev Same : Next → Type 0
+    Same o = answer_after (answer_of c p n) o ≡ answer_after (answer_of d p n) o
+
+    abbrev Next0 : State → Type 0
+    Next0 t = answer_of c p n 0 t ≡ answer_of d p n 0 t
+
+    into_same : (r : _) (o : Option ℕ) (s : State) → ((v : ℕ) → o ≡ Some v → Next0 (with_register r v s)) → Same (into r o s)
+    into_same r None s f = refl
+    into_same r (Some v) s f = f v refl
+
+    word_same : (r : _) (o : Option ℕ) (s : State) → ((v : ℕ) → o ≡ Some v → Next0 (with_register r v s)) → Same (word_into r o s)
+    word_same r None s f = refl
+    word_same r (Some v) s f = f v refl
+
+    stored_same : (b : Bool) (t : State) → Next0 t → Same (if b then Goes 0 t else Lost)
+    stored_same true t f = f
+    stored_same false t f = refl
+
+    way_same : (b : Bool) (v w x y : ℕ) (s : State) → (b ≡ true → answer_of c p n v s ≡ answer_of d p n x s) → (b ≡ false → answer_of c p n w s ≡ answer_of d p n y s) → answer_of c p n (if b then v else w) s ≡ answer_of d p n (if b then x else y) s
+    way_same true v w x y s f g = f refl
+    way_same false v w x y s f g = g refl
+
+  -- A where X is another number
+  without : (h : Held) (s : State) (x : ℕ) → HeldHolds p h s → HeldHolds p (without_index h) (record s { index = x })
+  without held_variant.Unreached s x y = y
+  without held_variant.Unknown s x y = tt
+  without (held_variant.Field f) s x y = y
+  without (held_variant.AtIndex code k) s x y = tt
+
+  masks : (h : Held) (m v : ℕ) (s : State) → HeldHolds p h s → compute arithmetic.And s.accumulator m ≡ Some v → HeldHolds p (masked_held h m) (record s { accumulator = v })
+  masks held_variant.Unreached m v s x e = tt
+  masks held_variant.Unknown m v s x e = tt
+  masks (held_variant.AtIndex code k) m v s x e = tt
+  masks (held_variant.Field f) m v s x e = by f.mask refl
+    where
+      by : (o : Option ℕ) → f.mask ≡ o → HeldHolds p (held_if_some (masked_by o f m)) (record s { accumulator = v })
+      by (Some old) q = tt
+      by None q = ap (masked (Some m)) (ap (value_at p f.code f.k) (sym q) ∙ x) ∙ e
+
+  module _ (k : Known) (i : Insn) (is d : List Insn) (ks : List Known) (s : State) (x : Holds p k s) where
+    plain : (op : Option Operation) (t : State) → Alike d is (with_arrival ks 0 (known_after op k i)) → Holds p (known_after op k i) t → answer_of d p n 0 t ≡ answer_of is p n 0 t
+    plain op t f h = f 0 t (raised_at ks 0 (known_after op k i) t h)
+
+    -- A is another number, of which nothing is known
+    anyhow : (op : Option Operation) (v : ℕ) → known_after op k i ≡ record { held = held_variant.Unknown; index = k.index; facts = k.facts } → Holds p (known_after op k i) (record s { accumulator = v })
+    anyhow op v e = subst (λ g. Holds p g (record s { accumulator = v })) (sym e) (record { a = tt; x = x.x; facts = x.facts })
+
+    -- X is
+    elsewhere : (v : ℕ) → Holds p (record { held = without_index k.held; index = None; facts = k.facts }) (record s { index = v })
+    elsewhere v = record { a = without k.held s v x.a; x = tt; facts = x.facts }
+
+    stays : (m : List ℕ) → Holds p (record { held = k.held; index = k.index; facts = k.facts }) (record s { memory = m })
+    stays m = by k.held x.a
+      where
+        by : (h : Held) → HeldHolds p h s → Holds p (record { held = h; index = k.index; facts = k.facts }) (record s { memory = m })
+        by held_variant.Unreached y = absurd y
+        by held_variant.Unknown y = record { a = tt; x = x.x; facts = x.facts }
+        by (held_variant.Field f) y = record { a = y; x = x.x; facts = x.facts }
+        by (held_variant.AtIndex code at) y = record { a = y; x = x.x; facts = x.facts }
+
+    here : (op : Option Operation) → operation_of i.code ≡ op → Alike d is (with_arrivals_by 0 op k (threaded_by op k i is) ks) → answer_after (answer_of d p n) (does_if_known op (threaded_by op k i is) p n s) ≡ answer_after (answer_of is p n) (does_if_known op i p n s)
+    here None e f = refl
+    here (Some (JumpIf t o)) e f =
+        let yes = known_by_test (Some (JumpIf t o)) k.held k i.k true in
+        let other = known_by_test (Some (JumpIf t o)) k.held k i.k false in
+        let a = moved yes is i.jt in
+        let b = moved other is i.jf in
+        let none_yes : 0 + a ≡ a = omega arith in
+        let none_no : 0 + b ≡ b = omega arith in
+        way_same d is (test_holds t s.accumulator (operand_value o i.k s.index)) a b i.jt i.jf s
+        (λ g. let h = tested p t o k i true s x g in
+        f a s (subst (λ m. HoldsAt (with_arrival (with_arrival ks (0 + a) yes) (0 + b) other) m s) none_yes (raised_keeps (with_arrival ks (0 + a) yes) (0 + b) (0 + a) other s (raised_at ks (0 + a) yes s h))) ∙ moved_same p n is yes i.jt s h)
+        (λ g. let h = tested p t o k i false s x g in
+        f b s (subst (λ m. HoldsAt (with_arrival (with_arrival ks (0 + a) yes) (0 + b) other) m s) none_no (raised_at (with_arrival ks (0 + a) yes) (0 + b) other s h)) ∙ moved_same p n is other i.jf s h)
+    here (Some Jump) e f =
+        let none : 0 + i.k ≡ i.k = omega arith in
+        f i.k s (subst (λ m. HoldsAt (with_arrival ks (0 + i.k) k) m s) none (raised_at ks (0 + i.k) k s x))
+    here (Some (LoadAbsolute w)) e f = into_same d is Accumulator (field p i.k w) s (λ v g. plain (Some (LoadAbsolute w)) (record s { accumulator = v }) f (record { a = ap (λ o. loaded o p i.k) e ∙ g; x = x.x; facts = x.facts }))
+    here (Some (LoadIndirect w)) e f = into_same d is Accumulator (field p ((s.index + i.k) % 2 ^ 32) w) s (λ v g. plain (Some (LoadIndirect w)) (record s { accumulator = v }) f (record { a = ap (λ o. loaded_at o p s.index i.k) e ∙ g; x = x.x; facts = x.facts }))
+    here (Some ReturnConstant) e f = refl
+    here (Some ReturnAccumulator) e f = refl
+    here (Some (Load Accumulator Immediate)) e f = plain (Some (Load Accumulator Immediate)) _ f (anyhow (Some (Load Accumulator Immediate)) i.k refl)
+    here (Some (Load Accumulator Length)) e f = plain (Some (Load Accumulator Length)) _ f (anyhow (Some (Load Accumulator Length)) n refl)
+    here (Some (Load Accumulator Memory)) e f = word_same d is Accumulator (slice_get s.memory i.k) s (λ v g. plain (Some (Load Accumulator Memory)) _ f (anyhow (Some (Load Accumulator Memory)) v refl))
+    here (Some (Load Index Immediate)) e f = plain (Some (Load Index Immediate)) _ f (elsewhere i.k)
+    here (Some (Load Index Length)) e f = plain (Some (Load Index Length)) _ f (elsewhere n)
+    here (Some (Load Index Memory)) e f = word_same d is Index (slice_get s.memory i.k) s (λ v g. plain (Some (Load Index Memory)) _ f (elsewhere v))
+    here (Some LoadHeaderLength) e f = into_same d is Index (option_map header_length (field p i.k Byte)) s (λ v g. plain (Some LoadHeaderLength) (record s { index = v }) f (record { a = without k.held s v x.a; x = g; facts = x.facts }))
+    here (Some (Store r)) e f = stored_same d is (nat_lt i.k (length s.memory)) _ (plain (Some (Store r)) _ f (stays _))
+    here (Some (Compute arithmetic.And Constant)) e f = into_same d is Accumulator (compute arithmetic.And s.accumulator i.k) s (λ v g. plain (Some (Compute arithmetic.And Constant)) (record s { accumulator = v }) f (record { a = masks k.held i.k v s x.a g; x = x.x; facts = x.facts }))
+    here (Some (Compute arithmetic.And IndexRegister)) e f = into_same d is Accumulator (compute arithmetic.And s.accumulator s.index) s (λ v g. plain (Some (Compute arithmetic.And IndexRegister)) _ f (anyhow (Some (Compute arithmetic.And IndexRegister)) v refl))
+    here (Some (Compute arithmetic.Add o)) e f = into_same d is Accumulator (compute arithmetic.Add s.accumulator (operand_value o i.k s.index)) s (λ v g. plain (Some (Compute arithmetic.Add o)) _ f (anyhow (Some (Compute arithmetic.Add o)) v refl))
+    here (Some (Compute arithmetic.Subtract o)) e f = into_same d is Accumulator (compute arithmetic.Subtract s.accumulator (operand_value o i.k s.index)) s (λ v g. plain (Some (Compute arithmetic.Subtract o)) _ f (anyhow (Some (Compute arithmetic.Subtract o)) v refl))
+    here (Some (Compute arithmetic.Multiply o)) e f = into_same d is Accumulator (compute arithmetic.Multiply s.accumulator (operand_value o i.k s.index)) s (λ v g. plain (Some (Compute arithmetic.Multiply o)) _ f (anyhow (Some (Compute arithmetic.Multiply o)) v refl))
+    here (Some (Compute arithmetic.Divide o)) e f = into_same d is Accumulator (compute arithmetic.Divide s.accumulator (operand_value o i.k s.index)) s (λ v g. plain (Some (Compute arithmetic.Divide o)) _ f (anyhow (Some (Compute arithmetic.Divide o)) v refl))
+    here (Some (Compute arithmetic.Or o)) e f = into_same d is Accumulator (compute arithmetic.Or s.accumulator (operand_value o i.k s.index)) s (λ v g. plain (Some (Compute arithmetic.Or o)) _ f (anyhow (Some (Compute arithmetic.Or o)) v refl))
+    here (Some (Compute arithmetic.ShiftLeft o)) e f = into_same d is Accumulator (compute arithmetic.ShiftLeft s.accumulator (operand_value o i.k s.index)) s (λ v g. plain (Some (Compute arithmetic.ShiftLeft o)) _ f (anyhow (Some (Compute arithmetic.ShiftLeft o)) v refl))
+    here (Some (Compute arithmetic.ShiftRight o)) e f = into_same d is Accumulator (compute arithmetic.ShiftRight s.accumulator (operand_value o i.k s.index)) s (λ v g. plain (Some (Compute arithmetic.ShiftRight o)) _ f (anyhow (Some (Compute arithmetic.ShiftRight o)) v refl))
+    here (Some (Compute arithmetic.Remainder o)) e f = into_same d is Accumulator (compute arithmetic.Remainder s.accumulator (operand_value o i.k s.index)) s (λ v g. plain (Some (Compute arithmetic.Remainder o)) _ f (anyhow (Some (Compute arithmetic.Remainder o)) v refl))
+    here (Some (Compute arithmetic.ExclusiveOr o)) e f = into_same d is Accumulator (compute arithmetic.ExclusiveOr s.accumulator (operand_value o i.k s.index)) s (λ v g. plain (Some (Compute arithmetic.ExclusiveOr o)) _ f (anyhow (Some (Compute arithmetic.ExclusiveOr o)) v refl))
+    here (Some Negate) e f = plain (Some Negate) _ f (anyhow (Some Negate) _ refl)
+    here (Some CopyToIndex) e f = plain (Some CopyToIndex) _ f (elsewhere s.accumulator)
+    here (Some CopyToAccumulator) e f = plain (Some CopyToAccumulator) _ f (anyhow (Some CopyToAccumulator) s.index refl)
+
+    at_top : Alike d is (with_arrivals_by 0 (operation_of i.code) k (threaded_by (operation_of i.code) k i is) ks) → answer_of (threaded_by (operation_of i.code) k i is ∷ d) p n 0 s ≡ answer_of (i ∷ is) p n 0 s
+    at_top f =
+        ap (answer_after (answer_of d p n)) (known_step p n (threaded_by (operation_of i.code) k i is) (operation_of i.code) s (ap operation_of (by_code (operation_of i.code) k i is)))
+        ∙ here (operation_of i.code) refl f
+        ∙ sym (ap (answer_after (answer_of is p n)) (known_step p n i (operation_of i.code) s refl))
+
+  reached : (h : Held) (op : Option Operation) (k : Known) (j : Insn) (ks : List Known) (s : State) → HeldHolds p h s → with_arrivals_if h 0 op k j ks ≡ with_arrivals_by 0 op k j ks
+  reached held_variant.Unreached op k j ks s x = absurd x
+  reached held_variant.Unknown op k j ks s x = refl
+  reached (held_variant.Field f) op k j ks s x = refl
+  reached (held_variant.AtIndex code m) op k j ks s x = refl
+
+  reached_insn : (h : Held) (op : Option Operation) (k : Known) (i : Insn) (is : List Insn) (s : State) → HeldHolds p h s → threaded_by op k i is ≡ threaded_if h op k i is
+  reached_insn held_variant.Unreached op k i is s x = absurd x
+  reached_insn held_variant.Unknown op k i is s x = refl
+  reached_insn (held_variant.Field f) op k i is s x = refl
+  reached_insn (held_variant.AtIndex code m) op k i is s x = refl
+
+  -- the code has the same answers
+  answers_same : (is : List Insn) (ks : List Known) (m : ℕ) (s : State) → HoldsAt ks m s → answer_of (flow ks is) p n m s ≡ answer_of is p n m s
+  answers_same [] ks m s x = refl
+  answers_same (i ∷ is) [] m s x = refl
+  answers_same (i ∷ is) (k ∷ ks) (suc m) s x =
+      let op = operation_of i.code in
+      let j = threaded_insn op k i is in
+      answers_same is (with_arrivals 0 op k j ks) m s (if_keeps k.held op k j ks m s x)
+  answers_same (i ∷ is) (k ∷ ks) zero s x =
+      let op = operation_of i.code in
+      let j = threaded_by op k i is in
+      subst (λ (t : Insn). answer_of (t ∷ flow (with_arrivals 0 op k t ks) is) p n 0 s ≡ answer_of (i ∷ is) p n 0 s) (reached_insn k.held op k i is s x.a)
+      (at_top k i is (flow (with_arrivals 0 op k j ks) is) ks s x
+      (λ m t y. answers_same is (with_arrivals 0 op k j ks) m t (subst (λ gs. HoldsAt gs m t) (sym (reached k.held op k j ks s x.a)) y)))
+
+  threaded_answers : (is : List Insn) (s : State) → answer_of (threaded is) p n 0 s ≡ answer_of is p n 0 s
+  threaded_answers is s = answers_same is _ 0 s (raised_at (replicate (length is) unreached) 0 nothing_known s (nothing_holds p s))
+
+length_flow : (ks : List Known) (is : List Insn) → length (flow ks is) ≡ length is
+length_flow ks [] = refl
+length_flow [] (i ∷ is) = refl
+length_flow (k ∷ ks) (i ∷ is) =
+    ap suc (length_flow (with_arrivals 0 (operation_of i.code) k (threaded_insn (operation_of i.code) k i is) ks) is)
+
+-- faults
+passes : (b : Bool) (f : CheckFault) → unless b f ≡ None → b ≡ true
+passes true f e = refl
+passes false f e = cc
+
+is_moved_inside : (k : Known) (is : List Insn) (to : ℕ) → nat_lt to (length is) ≡ true → nat_lt (moved k is to) (length is) ≡ true
+is_moved_inside k is to l =
+    let low : to < length is = grind (arith, nat_tests) in
+    let inside = moved_inside [] 0 is k to low in
+    grind (arith, nat_tests)
+
+both_inside : (k g : Known) (i : Insn) (is : List Insn) (f : CheckFault) → unless (nat_lt i.jt (length is) && nat_lt i.jf (length is)) f ≡ None → unless (nat_lt (moved k is i.jt) (length is) && nat_lt (moved g is i.jf) (length is)) f ≡ None
+both_inside k g i is f e =
+    let q = both_true (nat_lt i.jt (length is)) (nat_lt i.jf (length is)) (passes _ f e) in
+    ap (λ x. unless (x && nat_lt (moved g is i.jf) (length is)) f) (is_moved_inside k is i.jt q.0) ∙ ap (λ x. unless x f) (is_moved_inside g is i.jf q.1)
+
+moved_fault : (op : Option Operation) (k : Known) (i : Insn) (is : List Insn) → fault_if_known op i (length is) ≡ None → fault_if_known op (threaded_by op k i is) (length is) ≡ None
+moved_fault (Some (JumpIf t o)) k i is e = both_inside _ _ i is _ e
+moved_fault _ k i is e = e
+
+threaded_fault : (h : Held) (op : Option Operation) (k : Known) (i : Insn) (is : List Insn) → fault_if_known op i (length is) ≡ None → fault_if_known op (threaded_if h op k i is) (length is) ≡ None
+threaded_fault held_variant.Unreached op k i is e = e
+threaded_fault _ op k i is e = moved_fault op k i is e
+
+fault_is : (i : Insn) (op : Option Operation) (m : ℕ) → operation_of i.code ≡ op → fault_of i m ≡ fault_if_known op i m
+unfolding fault_of
+fault_is i op m e = ap (λ o. fault_if_known o i m) e
+
+faultless_flow : (ks : List Known) (is : List Insn) → IsFaultless is → IsFaultless (flow ks is)
+faultless_flow ks [] f = tt
+faultless_flow [] (i ∷ is) f = f
+faultless_flow (k ∷ ks) (i ∷ is) f =
+    let op = operation_of i.code in
+    let j = threaded_insn op k i is in (
+      ap (fault_of j) (length_flow (with_arrivals 0 op k j ks) is)
+          ∙ fault_is j op (length is) (ap operation_of (threaded_code op k i is))
+          ∙ threaded_fault k.held op k i is (sym (fault_is i op (length is) refl) ∙ f.0),
+      faultless_flow (with_arrivals 0 op k j ks) is f.1,
+    )
+
+-- the end, the tests and the jumps
+ends_after : (i : Insn) (c : List Insn) → 0 < length c → ends_in_return (i ∷ c) ≡ ends_in_return c
+ends_after i [] l = absurd (omega arith)
+ends_after i (j ∷ c) l = refl
+
+ends_flow : (ks : List Known) (is : List Insn) → ends_in_return (flow ks is) ≡ ends_in_return is
+ends_flow ks [] = refl
+ends_flow [] (i ∷ is) = refl
+ends_flow (k ∷ ks) (i ∷ []) = ap (λ c. ends_in_return (record i { code = c } ∷ [])) (threaded_code (operation_of i.code) k i [])
+ends_flow (k ∷ ks) (i ∷ j ∷ is) =
+    let op = operation_of i.code in
+    let t = threaded_insn op k i (j ∷ is) in
+    let gs = with_arrivals 0 op k t ks in
+    let long = length_flow gs (j ∷ is) in
+    ends_after t (flow gs (j ∷ is)) (omega arith) ∙ ends_flow gs (j ∷ is)
+
+tests_flow : (ks : List Known) (is : List Insn) → count_by (λ i. is_branch (operation_of i.code)) (flow ks is) ≡ count_by (λ i. is_branch (operation_of i.code)) is
+tests_flow ks [] = refl
+tests_flow [] (i ∷ is) = refl
+tests_flow (k ∷ ks) (i ∷ is) =
+    let op = operation_of i.code in
+    let j = threaded_insn op k i is in
+    let gs = with_arrivals 0 op k j ks in
+    let test = λ (m : Insn). cond (is_branch (operation_of m.code)) 1 0 in
+    let new : count_by (λ m. is_branch (operation_of m.code)) (j ∷ flow gs is) ≡ test j + count_by (λ m. is_branch (operation_of m.code)) (flow gs is) = sum_by-cons test j (flow gs is) in
+    let old : count_by (λ m. is_branch (operation_of m.code)) (i ∷ is) ≡ test i + count_by (λ m. is_branch (operation_of m.code)) is = sum_by-cons test i is in
+    let same : test j ≡ test i = ap (λ c. cond (is_branch (operation_of c)) 1 0) (threaded_code op k i is) in
+    new ∙ ap (λ m. m + count_by (λ m'. is_branch (operation_of m'.code)) (flow gs is)) same ∙ ap (λ m. test i + m) (tests_flow gs is) ∙ sym old
+
+code_at : (ks : List Known) (is : List Insn) (m : ℕ) (e : Insn) → (get_or (flow ks is) m e).code ≡ (get_or is m e).code
+code_at ks [] m e = refl
+code_at [] (i ∷ is) m e = refl
+code_at (k ∷ ks) (i ∷ is) zero e = threaded_code (operation_of i.code) k i is
+code_at (k ∷ ks) (i ∷ is) (suc m) e = code_at (with_arrivals 0 (operation_of i.code) k (threaded_insn (operation_of i.code) k i is) ks) is m e
+
+pub threads : (new old : List Insn) → new ≡ threaded old → Threads new old
+threads new old e = subst (λ c. Threads c old) (sym e) (record {
+  same_length = length_flow _ old;
+  branches = tests_flow _ old;
+  sound = λ v. record { faultless = faultless_flow _ old v.faultless; ends = ends_flow _ old ∙ v.ends };
+  runs = λ p n. threaded_answers p n old start;
+  no_jump = λ h. λ m e l f. (let long = length_flow (with_arrival (replicate (length old) unreached) 0 nothing_known) old in h m e (omega arith) (sym (code_at _ old m e) ∙ f));
+})
+
+-- code stays as it is
+pub threads_itself : (c : List Insn) → Threads c c
+threads_itself c = record { same_length = refl; branches = refl; sound = λ v. v; runs = λ p n. refl; no_jump = λ h. h }

@@ -1,0 +1,18 @@
+-- When code differs from other code in the targets of its tests alone, and does the same.
+use Rattle.std.specs.Prelude.{◌≡◌, ℕ, List, length, count_by}
+use Rattle.flt_bpf.specs.declared.insn.Insn.{Insn}
+use Rattle.flt_bpf.specs.Answer.{answer_of}
+use Rattle.flt_bpf.specs.Check.{IsValidUnlessLong}
+use Rattle.flt_bpf.specs.Instructions.{operation_of}
+use Rattle.flt_bpf.specs.Layout.{is_branch, HasNoJump}
+use Rattle.flt_bpf.specs.Machine.{start}
+
+-- code in place of old code: it has as many instructions and tests, no rule is broken and no jump is
+-- there that wasn't, and it returns the same on each packet
+pub record Threads (new old : List Insn) : Type 0 where
+  pub same_length : length new ≡ length old
+  pub branches : count_by (λ i. is_branch (operation_of i.code)) new
+      ≡ count_by (λ i. is_branch (operation_of i.code)) old
+  pub sound : IsValidUnlessLong old → IsValidUnlessLong new
+  pub runs : (p : List ℕ) (n : ℕ) → answer_of new p n 0 start ≡ answer_of old p n 0 start
+  pub no_jump : HasNoJump old → HasNoJump new

@@ -1,0 +1,226 @@
+-- What is known of a packet, and of A and X, where a run reaches an instruction.
+use Rattle.std.specs.Prelude.{ℕ, suc, ◌==◌, not, Bool, true, false, if◌then◌else◌, ◌&&◌, ◌||◌, List, [], ◌∷◌, length, map, replicate, Option, Some, None, slice_set}
+use Rattle.flt_bpf.specs.declared.insn.Insn.{Insn}
+use Rattle.flt_bpf.specs.declared.operation.Operation.{Operation}
+use Rattle.flt_bpf.specs.declared.operation.Operation.TheVariants.{LoadAbsolute, LoadIndirect, Load, LoadHeaderLength, Store, Compute, Jump, JumpIf, CopyToIndex}
+use Rattle.flt_bpf.specs.declared.operation.Register.TheVariants.{Index}
+use Rattle.flt_bpf.specs.declared.operation.Operand.TheVariants.{Constant}
+use Rattle.flt_bpf.specs.declared.operation.Test.TheVariants.{Equal}
+use Rattle.flt_bpf.specs.declared.operation.AluOperation.TheVariants.{And}
+use Rattle.flt_short.specs.declared.facts.Field.{Field}
+use Rattle.flt_short.specs.declared.facts.Claim.{Claim}
+use Rattle.flt_short.specs.declared.facts.Claim.TheVariants.{Nothing, Is, IsNot, IsOneOf}
+use Rattle.flt_short.specs.declared.facts.Fact.{Fact}
+use Rattle.flt_short.specs.declared.facts.Held.{Held}
+use Rattle.flt_short.specs.declared.facts.Held.TheVariants as held
+use Rattle.flt_short.specs.declared.facts.Known.{Known}
+
+abbrev pub nothing_claimed : Fact
+nothing_claimed = record { field = record { code = 0; k = 0; mask = None }; claim = Nothing }
+
+abbrev pub nothing_known : Known
+nothing_known = record {
+  held = held.Unknown;
+  index = None;
+  facts = replicate 8 nothing_claimed;
+}
+
+abbrev pub unreached : Known
+unreached = record nothing_known { held = held.Unreached }
+
+abbrev pub same_mask : Option ℕ → Option ℕ → Bool
+same_mask None None = true
+same_mask (Some a) (Some b) = a == b
+same_mask _ _ = false
+
+abbrev pub same_field : Field → Field → Bool
+same_field f g = (f.code == g.code && f.k == g.k) && same_mask f.mask g.mask
+
+abbrev pub is_nothing : Claim → Bool
+is_nothing Nothing = true
+is_nothing _ = false
+
+-- a number is as claimed
+abbrev pub allows : Claim → ℕ → Bool
+allows Nothing n = true
+allows (Is a) n = n == a
+allows (IsNot a) n = not (n == a)
+allows (IsOneOf a b) n = n == a || n == b
+
+-- a claim is that it isn't this number
+abbrev pub is_not : Claim → ℕ → Bool
+is_not (IsNot a) n = a == n
+is_not _ n = false
+
+abbrev pub entails_some : Claim → Claim → Bool
+entails_some Nothing d = false
+entails_some (Is a) d = allows d a
+entails_some (IsNot a) d = is_not d a
+entails_some (IsOneOf a b) d = allows d a && allows d b
+
+-- what is as one claim says is as the other one says
+abbrev pub entails : Claim → Claim → Bool
+entails c d = is_nothing d || entails_some c d
+
+abbrev pub one_of_two : Claim → Claim → Claim
+one_of_two (Is a) (Is b) = IsOneOf a b
+one_of_two _ _ = Nothing
+
+-- what holds of a number of which one of two claims holds
+abbrev pub joined_claim : Claim → Claim → Claim
+joined_claim c d = if entails c d then d else (if entails d c then c else one_of_two c d)
+
+-- what holds where a fact does that says something, and where all the others do
+abbrev pub joined_some : Fact → List Fact → Fact
+joined_some x [] = nothing_claimed
+joined_some x (y ∷ ys) =
+    if same_field x.field y.field && not (is_nothing (joined_claim x.claim y.claim))
+    then record { field = x.field; claim = joined_claim x.claim y.claim }
+    else joined_some x ys
+
+-- what holds where a fact does, and where all the others do
+abbrev pub joined_fact : Fact → List Fact → Fact
+joined_fact x ys = if is_nothing x.claim then x else joined_some x ys
+
+-- what A holds where a run comes on two ways
+abbrev pub joined_held : Held → Held → Held
+joined_held held.Unreached other = other
+joined_held h held.Unreached = h
+joined_held (held.Field f) (held.Field g) =
+    if same_field f g then held.Field f else held.Unknown
+joined_held (held.AtIndex code k) (held.AtIndex other_code other_k) =
+    if code == other_code && k == other_k then held.AtIndex code k else held.Unknown
+joined_held _ _ = held.Unknown
+
+abbrev pub same_index : Option ℕ → Option ℕ → Option ℕ
+same_index a b = if same_mask a b then a else None
+
+abbrev pub joined_by : Held → Known → Known → Known
+joined_by held.Unreached k came = came
+joined_by h k came = record {
+  held = joined_held h came.held;
+  index = same_index k.index came.index;
+  facts = map (λ x. joined_fact x came.facts) k.facts;
+}
+
+-- what holds where a run comes on two ways
+abbrev pub joined : Known → Known → Known
+joined k came = joined_by k.held k came
+
+-- what a claim says of the test whether the number is this one
+abbrev pub says : Claim → ℕ → Option Bool
+says (Is a) n = Some (a == n)
+says c n = if allows c n then None else Some false
+
+abbrev pub first_said : Option Bool → Option Bool → Option Bool
+first_said (Some outcome) later = Some outcome
+first_said None later = later
+
+-- the outcome of the test whether a field is a number
+abbrev pub decided : List Fact → Field → ℕ → Option Bool
+decided [] f n = None
+decided (x ∷ xs) f n =
+    if same_field x.field f then first_said (says x.claim n) (decided xs f n) else decided xs f n
+
+abbrev pub the_two : Claim → Option (ℕ × ℕ) → Option (ℕ × ℕ)
+the_two (IsOneOf a b) later = Some (a, b)
+the_two _ later = later
+
+-- the two numbers of which a field is one
+abbrev pub one_of : List Fact → Field → Option (ℕ × ℕ)
+one_of [] f = None
+one_of (x ∷ xs) f =
+    if same_field x.field f then the_two x.claim (one_of xs f) else one_of xs f
+
+abbrev pub gives_way : Fact → Fact → Bool
+gives_way x y = is_nothing x.claim || (same_field x.field y.field && entails y.claim x.claim)
+
+-- where one more fact goes
+abbrev pub place_for : List Fact → Fact → ℕ
+place_for [] y = 0
+place_for (x ∷ xs) y = if length xs == 0 || gives_way x y then 0 else suc (place_for xs y)
+
+abbrev pub with_one : Known → Fact → Known
+with_one k y = record k { facts = slice_set k.facts (place_for k.facts y) y }
+
+abbrev pub with_fact : Known → Field → Claim → Known
+with_fact k f c = with_one k (record { field = f; claim = c })
+
+-- by a fact the bytes that a load takes are captured
+abbrev pub captures : Fact → ℕ → ℕ → Bool
+captures x code k = (x.field.code == code && x.field.k == k) && not (is_nothing x.claim)
+
+abbrev pub any_captures : List Fact → ℕ → ℕ → Bool
+any_captures [] code k = false
+any_captures (x ∷ xs) code k = captures x code k || any_captures xs code k
+
+abbrev pub holds_field : Held → ℕ → ℕ → Bool
+holds_field (held.Field f) code k = f.code == code && f.k == k
+holds_field _ code k = false
+
+-- the bytes that a load takes are captured
+abbrev pub is_captured : Known → ℕ → ℕ → Bool
+is_captured known code k = holds_field known.held code k || any_captures known.facts code k
+
+abbrev pub masked_by : Option ℕ → Field → ℕ → Option Field
+masked_by None f m = Some (record f { mask = Some m })
+masked_by (Some old) f m = None
+
+-- the bits of a mask of a field, if none is masked yet
+abbrev pub masked_field : Field → ℕ → Option Field
+masked_field f m = masked_by f.mask f m
+
+abbrev pub held_if_some : Option Field → Held
+held_if_some None = held.Unknown
+held_if_some (Some f) = held.Field f
+
+abbrev pub masked_held : Held → ℕ → Held
+masked_held (held.Field f) m = held_if_some (masked_field f m)
+masked_held _ m = held.Unknown
+
+-- what is known of A once X is another number
+abbrev pub without_index : Held → Held
+without_index (held.AtIndex code k) = held.Unknown
+without_index h = h
+
+-- what A holds after an instruction that isn't a test
+abbrev pub held_after : Option Operation → Held → Insn → Held
+held_after (Some (LoadAbsolute width)) h i =
+    held.Field (record { code = i.code; k = i.k; mask = None })
+held_after (Some (LoadIndirect width)) h i = held.AtIndex i.code i.k
+held_after (Some (Compute And Constant)) h i = masked_held h i.k
+held_after (Some LoadHeaderLength) h i = without_index h
+held_after (Some (Load Index source)) h i = without_index h
+held_after (Some CopyToIndex) h i = without_index h
+held_after (Some (Store register)) h i = h
+held_after (Some Jump) h i = h
+held_after _ h i = held.Unknown
+
+-- which header's length X holds then
+abbrev pub index_after : Option Operation → Option ℕ → Insn → Option ℕ
+index_after (Some LoadHeaderLength) x i = Some i.k
+index_after (Some (Load Index source)) x i = None
+index_after (Some CopyToIndex) x i = None
+index_after _ x i = x
+
+abbrev pub known_after : Option Operation → Known → Insn → Known
+known_after op k i = record {
+  held = held_after op k.held i;
+  index = index_after op k.index i;
+  facts = k.facts;
+}
+
+-- what the outcome of the test whether a number is this one says of it, if it is one of two
+abbrev pub claim_after : Bool → ℕ → Option (ℕ × ℕ) → Claim
+claim_after true n two = Is n
+claim_after false n None = IsNot n
+claim_after false n (Some two) =
+    if n == two.0 then Is two.1 else (if n == two.1 then Is two.0 else IsNot n)
+
+abbrev pub known_by : Known → Field → ℕ → Bool → Known
+known_by k f n outcome = with_fact k f (claim_after outcome n (one_of k.facts f))
+
+-- what is known once a test had an outcome
+abbrev pub known_by_test : Option Operation → Held → Known → ℕ → Bool → Known
+known_by_test (Some (JumpIf Equal Constant)) (held.Field f) k n outcome = known_by k f n outcome
+known_by_test _ h k n outcome = k

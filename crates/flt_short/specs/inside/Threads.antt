@@ -1,0 +1,224 @@
+-- Tests that go on as far as what is known there decides.
+use Rattle.std.specs.Prelude.{ℕ, zero, suc, ◌+◌, ◌^◌, ◌==◌, nat_lt, Bool, true, false, if◌then◌else◌, ◌&&◌, ◌||◌, List, [], ◌∷◌, length, replicate, Option, Some, None, slice_get, slice_set, slice_index_or}
+use Rattle.std.specs.Option.{is_none}
+use Rattle.flt_bpf.specs.declared.insn.Insn.{Insn}
+use Rattle.flt_bpf.specs.declared.operation.Operation.{Operation}
+use Rattle.flt_bpf.specs.declared.operation.Operation.TheVariants.{LoadAbsolute, LoadIndirect, Load, LoadHeaderLength, Compute, Jump, JumpIf, ReturnConstant, ReturnAccumulator, CopyToAccumulator}
+use Rattle.flt_bpf.specs.declared.operation.Register.TheVariants.{Accumulator}
+use Rattle.flt_bpf.specs.declared.operation.Operand.TheVariants.{Constant}
+use Rattle.flt_bpf.specs.declared.operation.Test.TheVariants.{Equal}
+use Rattle.flt_bpf.specs.declared.operation.AluOperation.TheVariants.{And}
+use Rattle.flt_bpf.specs.Instructions.{operation_of}
+use Rattle.flt_short.specs.declared.facts.Field.{Field}
+use Rattle.flt_short.specs.declared.facts.Claim.TheVariants.{Is}
+use Rattle.flt_short.specs.declared.facts.Held.{Held}
+use Rattle.flt_short.specs.declared.facts.Held.TheVariants as held
+use Rattle.flt_short.specs.declared.facts.Known.{Known}
+use Rattle.flt_short.specs.declared.thread.Spot.{Spot}
+use Rattle.flt_short.specs.declared.thread.Reached.{Reached}
+use Rattle.flt_short.specs.inside.Facts.{nothing_known, unreached, same_field, joined, decided, one_of, with_fact, is_captured, masked_field, known_after, known_by_test}
+
+-- the field that A would hold
+abbrev pub field_at : Held → Option Field → Option Field
+field_at h (Some f) = Some f
+field_at (held.Field f) None = Some f
+field_at _ None = None
+
+-- a field in A, if it isn't what A holds
+abbrev pub away : Held → Field → Option Field
+away (held.Field same) f = if same_field same f then None else Some f
+away _ f = Some f
+
+abbrev pub spot_at : ℕ → Option Field → Spot
+spot_at place other = record { place = place; other = other }
+
+abbrev pub past_decided : Option Bool → Insn → Spot → Option Spot
+past_decided None i s = None
+past_decided (Some outcome) i s =
+    Some (spot_at (s.place + 1 + (if outcome then i.jt else i.jf)) s.other)
+
+abbrev pub past_test_of : Option Field → Known → Insn → Spot → Option Spot
+past_test_of None k i s = None
+past_test_of (Some f) k i s = past_decided (decided k.facts f i.k) i s
+
+-- past a test that is decided
+abbrev pub past_test : Known → Insn → Spot → Option Spot
+past_test k i s = past_test_of (field_at k.held s.other) k i s
+
+abbrev pub past_masked : Option Field → Known → Spot → Option Spot
+past_masked None k s = None
+past_masked (Some f) k s = Some (spot_at (s.place + 1) (away k.held f))
+
+abbrev pub past_mask_of : Option Field → Known → ℕ → Spot → Option Spot
+past_mask_of None k m s = None
+past_mask_of (Some f) k m s = past_masked (masked_field f m) k s
+
+-- past a mask of a field
+abbrev pub past_mask : Known → ℕ → Spot → Option Spot
+past_mask k m s = past_mask_of (field_at k.held s.other) k m s
+
+-- A holds what a load at X would put there
+abbrev pub holds_load : Held → Insn → Bool
+holds_load (held.AtIndex code k) i = code == i.code && k == i.k
+holds_load _ i = false
+
+-- X holds this header's length
+abbrev pub holds_header : Option ℕ → ℕ → Bool
+holds_header (Some known) header = known == header
+holds_header None header = false
+
+-- past one instruction, if what is known decides what it does
+abbrev pub step : Option Operation → Known → Insn → Spot → Option Spot
+step (Some (LoadAbsolute width)) k i s =
+    if is_captured k i.code i.k
+    then Some (spot_at (s.place + 1)
+    (away k.held (record { code = i.code; k = i.k; mask = None })))
+    else None
+step (Some (LoadIndirect width)) k i s =
+    if holds_load k.held i then Some (spot_at (s.place + 1) None) else None
+step (Some (Compute And Constant)) k i s = past_mask k i.k s
+step (Some LoadHeaderLength) k i s =
+    if holds_header k.index i.k then Some (spot_at (s.place + 1) s.other) else None
+step (Some (JumpIf Equal Constant)) k i s = past_test k i s
+step _ k i s = None
+
+-- an operation puts something into A, or ends the run, without reading A
+abbrev pub sets : Option Operation → Bool
+sets (Some (LoadAbsolute width)) = true
+sets (Some (LoadIndirect width)) = true
+sets (Some (Load Accumulator source)) = true
+sets (Some ReturnConstant) = true
+sets (Some CopyToAccumulator) = true
+sets _ = false
+
+abbrev pub sets_if_there : Option Insn → Bool
+sets_if_there None = false
+sets_if_there (Some i) = sets (operation_of i.code)
+
+abbrev pub sets_at : List Insn → ℕ → Bool
+sets_at c place = sets_if_there (slice_get c place)
+
+abbrev pub is_free_by : Option Operation → List Insn → ℕ → Bool
+is_free_by (Some LoadHeaderLength) c place = sets_at c (place + 1)
+is_free_by op c place = sets op
+
+abbrev pub is_free_at : Option Insn → List Insn → ℕ → Bool
+is_free_at None c place = false
+is_free_at (Some i) c place = is_free_by (operation_of i.code) c place
+
+-- something is put into A from a place on before A is read
+abbrev pub is_free : List Insn → ℕ → Bool
+is_free c place = is_free_at (slice_get c place) c place
+
+-- a run may go on where a walk is, in place of where the walk began
+abbrev pub can_stop : List Insn → Spot → Bool
+can_stop c s = nat_lt s.place (length c) && (is_none s.other || is_free c s.place)
+
+abbrev pub step_if_there : Option Insn → Known → Spot → Option Spot
+step_if_there None k s = None
+step_if_there (Some i) k s = step (operation_of i.code) k i s
+
+abbrev pub walk_on : (Reached → Reached) → List Insn → Reached → Option Spot → Reached
+walk_on go_on c w None = w
+walk_on go_on c w (Some s) =
+    go_on (record { spot = s; best = if can_stop c s then s.place else w.best })
+
+-- a walk goes on, past at most that many instructions
+unfoldable pub walk : ℕ → Known → List Insn → Reached → Reached
+walk zero k c w = w
+walk (suc fuel) k c w =
+    walk_on (walk fuel k c) c w (step_if_there (slice_get c w.spot.place) k w.spot)
+
+abbrev pub FUEL : ℕ
+FUEL = 128
+
+-- a walk from a place
+abbrev pub walked : Known → List Insn → ℕ → Reached
+walked k c from = walk FUEL k c (record { spot = spot_at from None; best = from })
+
+abbrev pub two_of : Field → Option (ℕ × ℕ) → Option (Field × ℕ × ℕ)
+two_of f None = None
+two_of f (Some two) = Some (f, two.0, two.1)
+
+-- a field, and the two numbers of which it is one
+abbrev pub two_at : Known → Option Field → Option (Field × ℕ × ℕ)
+two_at k None = None
+two_at k (Some f) = two_of f (one_of k.facts f)
+
+abbrev pub agreed : ℕ → ℕ → ℕ → ℕ
+agreed first second best = if first == second then first else best
+
+abbrev pub target_by : Option (Field × ℕ × ℕ) → Known → List Insn → ℕ → ℕ → ℕ
+target_by None k c from best = best
+target_by (Some two) k c from best =
+    agreed (walked (with_fact k two.0 (Is two.1)) c from).best
+    (walked (with_fact k two.0 (Is two.2)) c from).best best
+
+-- where a run may go on in place of a place
+abbrev pub target : Known → List Insn → ℕ → ℕ
+target k c from =
+    let end = walked k c from in
+    target_by (two_at k (field_at k.held end.spot.other)) k c from end.best
+
+-- the same of the instructions that a test skips
+abbrev pub moved : Known → List Insn → ℕ → ℕ
+moved k c skipped = if nat_lt (target k c skipped) (2 ^ 32) then target k c skipped else skipped
+
+-- a test whose targets are as far as what is known decides
+abbrev pub threaded_test : Option Operation → Known → Insn → List Insn → Insn
+threaded_test op k i c =
+    record i {
+      jt = moved (known_by_test op k.held k i.k true) c i.jt;
+      jf = moved (known_by_test op k.held k i.k false) c i.jf;
+    }
+
+abbrev pub threaded_by : Option Operation → Known → Insn → List Insn → Insn
+threaded_by (Some (JumpIf test operand)) k i c = threaded_test (Some (JumpIf test operand)) k i c
+threaded_by _ k i c = i
+
+abbrev pub threaded_if : Held → Option Operation → Known → Insn → List Insn → Insn
+threaded_if held.Unreached op k i c = i
+threaded_if h op k i c = threaded_by op k i c
+
+-- an instruction whose targets are as far as what is known decides, if a run comes there
+abbrev pub threaded_insn : Option Operation → Known → Insn → List Insn → Insn
+threaded_insn op k i c = threaded_if k.held op k i c
+
+-- a run reaches a place with this known
+abbrev pub with_arrival : List Known → ℕ → Known → List Known
+with_arrival ks at k = slice_set ks at (joined (slice_index_or ks at nothing_known) k)
+
+-- a run goes on where a test leads, in the code from a place on
+abbrev pub with_ways : ℕ → Option Operation → Known → Insn → List Known → List Known
+with_ways from op k i ks =
+    with_arrival (with_arrival ks (from + i.jt) (known_by_test op k.held k i.k true))
+    (from + i.jf) (known_by_test op k.held k i.k false)
+
+abbrev pub with_arrivals_by : ℕ → Option Operation → Known → Insn → List Known → List Known
+with_arrivals_by from (Some (JumpIf test operand)) k i ks =
+    with_ways from (Some (JumpIf test operand)) k i ks
+with_arrivals_by from (Some Jump) k i ks = with_arrival ks (from + i.k) k
+with_arrivals_by from (Some ReturnConstant) k i ks = ks
+with_arrivals_by from (Some ReturnAccumulator) k i ks = ks
+with_arrivals_by from op k i ks = with_arrival ks from (known_after op k i)
+
+abbrev pub with_arrivals_if : Held → ℕ → Option Operation → Known → Insn → List Known → List Known
+with_arrivals_if held.Unreached from op k i ks = ks
+with_arrivals_if h from op k i ks = with_arrivals_by from op k i ks
+
+-- a run goes on from an instruction to those after it, the first of which is at a place
+abbrev pub with_arrivals : ℕ → Option Operation → Known → Insn → List Known → List Known
+with_arrivals from op k i ks = with_arrivals_if k.held from op k i ks
+
+-- the code with its targets as far as what is known decides, where that is known that comes with the
+-- runs from the code in front
+abbrev pub flow : List Known → List Insn → List Insn
+flow ks [] = []
+flow [] (i ∷ is) = i ∷ is
+flow (k ∷ ks) (i ∷ is) =
+    let j = threaded_insn (operation_of i.code) k i is in
+    j ∷ flow (with_arrivals 0 (operation_of i.code) k j ks) is
+
+-- the same of a whole program
+abbrev pub threaded : List Insn → List Insn
+threaded is = flow (with_arrival (replicate (length is) unreached) 0 nothing_known) is

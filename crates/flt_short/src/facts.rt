@@ -1,0 +1,518 @@
+//! What is known of a packet, and of A and X, where a run reaches an instruction.
+
+ghost use Rattle.std.specs.Prelude.{◌≡◌, ◌≤◌, length, map};
+ghost use Rattle.flt_bpf.specs.Instructions.{operation_of};
+ghost use Rattle.flt_short.specs.inside.Facts.{same_mask, same_field, is_nothing, allows, is_not, entails};
+ghost use Rattle.flt_short.specs.inside.Facts.{joined_claim, nothing_claimed, joined_some, joined_fact};
+ghost use Rattle.flt_short.specs.inside.Facts.{joined_held};
+ghost use Rattle.flt_short.specs.inside.Facts.{same_index, joined, says, decided, one_of, gives_way};
+ghost use Rattle.flt_short.specs.inside.Facts.{place_for, with_fact, captures, any_captures, holds_field};
+ghost use Rattle.flt_short.specs.inside.Facts.{is_captured, masked_field, masked_held, without_index};
+ghost use Rattle.flt_short.specs.inside.Facts.{held_after, index_after, known_after, claim_after};
+ghost use Rattle.flt_short.specs.inside.Facts.{known_by, known_by_test, nothing_known, unreached};
+
+use flt_bpf::Wide;
+use flt_bpf::operation::{AluOperation, Operand, Operation, Register, Test, decode};
+
+/// How many facts are kept at a place.
+pub const MOST_FACTS: usize = 8;
+
+/// A number of the packet: what the load with this code and this number puts into A, and of that
+/// the bits of a mask, if there is one.
+#[derive(Clone, Copy)]
+pub struct Field {
+    pub code: u16,
+    pub k: u32,
+    pub mask: Option<u32>,
+}
+
+/// What is claimed of a number.
+#[derive(Clone, Copy)]
+pub enum Claim {
+    Nothing,
+    Is(u32),
+    IsNot(u32),
+    IsOneOf(u32, u32),
+}
+
+/// A field is captured, and its number is as claimed; or nothing is claimed.
+#[derive(Clone, Copy)]
+pub struct Fact {
+    pub field: Field,
+    pub claim: Claim,
+}
+
+/// What A holds.
+#[derive(Clone, Copy)]
+pub enum Held {
+    /// No run comes there.
+    Unreached,
+    /// Anything.
+    Unknown,
+    /// A field, which is captured.
+    Field(Field),
+    /// What the load at X with this code and this number would put there.
+    AtIndex(u16, u32),
+}
+
+/// What holds in each run that reaches a place.
+#[derive(Clone, Copy)]
+pub struct Known {
+    pub held: Held,
+    /// X holds the length of the header that begins there.
+    pub index: Option<u32>,
+    pub facts: [Fact; MOST_FACTS],
+}
+
+/// Nothing is claimed of this.
+const NO_FIELD: Field = Field {
+    code: 0,
+    k: 0,
+    mask: None,
+};
+
+fn nothing_claimed() -> Fact
+    ensures { result ≡ nothing_claimed }
+{
+    Fact {
+        field: NO_FIELD,
+        claim: Claim::Nothing,
+    }
+}
+
+/// Nothing is known.
+pub fn nothing_known() -> Known
+    ensures { result ≡ nothing_known }
+{
+    Known {
+        held: Held::Unknown,
+        index: None,
+        facts: [nothing_claimed(); MOST_FACTS],
+    }
+}
+
+/// No run comes there.
+pub fn unreached() -> Known
+    ensures { result ≡ unreached }
+{
+    Known {
+        held: Held::Unreached,
+        ..nothing_known()
+    }
+}
+
+fn same_mask(one: Option<u32>, other: Option<u32>) -> bool
+    ensures { result ≡ same_mask one other }
+{
+    match (one, other) {
+        (None, None) => true,
+        (Some(one), Some(other)) => one == other,
+        (None, Some(_)) | (Some(_), None) => false,
+    }
+}
+
+pub fn same_field(one: Field, other: Field) -> bool
+    ensures { result ≡ same_field one other }
+{
+    (one.code == other.code && one.k == other.k) && same_mask(one.mask, other.mask)
+}
+
+fn is_nothing(claim: Claim) -> bool
+    ensures { result ≡ is_nothing claim }
+{
+    matches!(claim, Claim::Nothing)
+}
+
+/// A number is as claimed.
+fn allows(claim: Claim, number: u32) -> bool
+    ensures { result ≡ allows claim number }
+{
+    match claim {
+        Claim::Nothing => true,
+        Claim::Is(one) => number == one,
+        Claim::IsNot(one) => number != one,
+        Claim::IsOneOf(one, other) => number == one || number == other,
+    }
+}
+
+/// A claim is that it isn't this number.
+fn is_not(claim: Claim, number: u32) -> bool
+    ensures { result ≡ is_not claim number }
+{
+    match claim {
+        Claim::IsNot(another) => another == number,
+        _ => false,
+    }
+}
+
+/// What is as one claim says is as the other one says.
+fn entails(claim: Claim, other: Claim) -> bool
+    ensures { result ≡ entails claim other }
+{
+    if is_nothing(other) {
+        return true;
+    }
+    match claim {
+        Claim::Nothing => false,
+        Claim::Is(number) => allows(other, number),
+        Claim::IsNot(number) => is_not(other, number),
+        Claim::IsOneOf(one, another) => allows(other, one) && allows(other, another),
+    }
+}
+
+/// What holds of a number of which one of two claims holds.
+fn joined_claim(claim: Claim, other: Claim) -> Claim
+    ensures { result ≡ joined_claim claim other }
+{
+    if entails(claim, other) {
+        return other;
+    }
+    if entails(other, claim) {
+        return claim;
+    }
+    match (claim, other) {
+        (Claim::Is(one), Claim::Is(other)) => Claim::IsOneOf(one, other),
+        _ => Claim::Nothing,
+    }
+}
+
+/// What holds where a fact does that says something, and where all the others do.
+fn joined_some(fact: Fact, others: &[Fact]) -> Fact
+    ensures { result ≡ joined_some fact others.now }
+{
+    match others {
+        [] => nothing_claimed(),
+        [first, others @ ..] => {
+            if !same_field(fact.field, first.field) {
+                return joined_some(fact, others);
+            }
+            let claim = joined_claim(fact.claim, first.claim);
+            if is_nothing(claim) {
+                return joined_some(fact, others);
+            }
+            Fact {
+                field: fact.field,
+                claim,
+            }
+        }
+    }
+}
+
+/// What holds where a fact does, and where all the others do.
+fn joined_fact(fact: Fact, others: &[Fact]) -> Fact
+    ensures { result ≡ joined_fact fact others.now }
+{
+    if is_nothing(fact.claim) {
+        fact
+    } else {
+        joined_some(fact, others)
+    }
+}
+
+/// The facts that hold where all of some do, and where all of the others do.
+fn join_facts(facts: &mut [Fact], others: &[Fact])
+    ensures { facts.new ≡ map (λ fact. joined_fact fact others.now) facts.old }
+{
+    let mut at = 0;
+    // The label names the loop in its proof.
+    'facts: while at < facts.len() {
+        facts[at] = joined_fact(facts[at], others);
+        at += 1;
+    }
+}
+
+/// What A holds where a run comes on two ways.
+fn joined_held(one: Held, other: Held) -> Held
+    ensures { result ≡ joined_held one other }
+{
+    match (one, other) {
+        (Held::Unreached, other) => other,
+        (one, Held::Unreached) => one,
+        (Held::Field(field), Held::Field(another)) => {
+            if same_field(field, another) {
+                one
+            } else {
+                Held::Unknown
+            }
+        }
+        (Held::AtIndex(code, k), Held::AtIndex(another, other_k)) => {
+            if code == another && k == other_k {
+                one
+            } else {
+                Held::Unknown
+            }
+        }
+        _ => Held::Unknown,
+    }
+}
+
+/// Where both ways know of the same header.
+fn same_index(one: Option<u32>, other: Option<u32>) -> Option<u32>
+    ensures { result ≡ same_index one other }
+{
+    if same_mask(one, other) { one } else { None }
+}
+
+/// What holds where a run comes on two ways.
+pub fn joined(known: &Known, came: &Known) -> Known
+    ensures { result ≡ joined known.now came.now }
+{
+    match known.held {
+        Held::Unreached => *came,
+        held => {
+            let mut facts = known.facts;
+            join_facts(&mut facts, &came.facts);
+            Known {
+                held: joined_held(held, came.held),
+                index: same_index(known.index, came.index),
+                facts,
+            }
+        }
+    }
+}
+
+/// What a claim says of the test whether the number is this one.
+fn says(claim: Claim, number: u32) -> Option<bool>
+    ensures { result ≡ says claim number }
+{
+    match claim {
+        Claim::Is(one) => Some(one == number),
+        claim => {
+            if allows(claim, number) {
+                None
+            } else {
+                Some(false)
+            }
+        }
+    }
+}
+
+/// The outcome of the test whether a field is a number.
+pub fn decided(facts: &[Fact], field: Field, number: u32) -> Option<bool>
+    ensures { result ≡ decided facts.now field number }
+{
+    match facts {
+        [] => None,
+        [first, others @ ..] => {
+            if !same_field(first.field, field) {
+                return decided(others, field, number);
+            }
+            match says(first.claim, number) {
+                Some(outcome) => Some(outcome),
+                None => decided(others, field, number),
+            }
+        }
+    }
+}
+
+/// The two numbers of which a field is one.
+pub fn one_of(facts: &[Fact], field: Field) -> Option<(u32, u32)>
+    ensures { result ≡ one_of facts.now field }
+{
+    match facts {
+        [] => None,
+        [first, others @ ..] => {
+            if !same_field(first.field, field) {
+                return one_of(others, field);
+            }
+            match first.claim {
+                Claim::IsOneOf(one, other) => Some((one, other)),
+                _ => one_of(others, field),
+            }
+        }
+    }
+}
+
+/// A fact says nothing, or nothing that a later one doesn't say.
+fn gives_way(old: Fact, fact: Fact) -> bool
+    ensures { result ≡ gives_way old fact }
+{
+    is_nothing(old.claim) || (same_field(old.field, fact.field) && entails(fact.claim, old.claim))
+}
+
+/// Where one more fact goes: the place of one that gives way, or the last.
+fn place_for(facts: &[Fact], fact: Fact) -> usize
+    ensures place { result ≡ place_for facts.now fact }
+    ensures upper_bound { result ≤ length facts.now }
+{
+    match facts {
+        [] => 0,
+        [first, others @ ..] => {
+            if others.len() == 0 || gives_way(*first, fact) {
+                0
+            } else {
+                1 + place_for(others, fact)
+            }
+        }
+    }
+}
+
+/// One more fact.
+pub fn with_fact(known: &Known, field: Field, claim: Claim) -> Known
+    ensures { result ≡ with_fact known.now field claim }
+{
+    let fact = Fact { field, claim };
+    let at = place_for(&known.facts, fact);
+    let mut facts = known.facts;
+    if at < MOST_FACTS {
+        facts[at] = fact;
+    }
+    Known {
+        held: known.held,
+        index: known.index,
+        facts,
+    }
+}
+
+/// By a fact the bytes that a load takes are captured.
+fn captures(fact: Fact, code: u16, k: u32) -> bool
+    ensures { result ≡ captures fact code k }
+{
+    (fact.field.code == code && fact.field.k == k) && !is_nothing(fact.claim)
+}
+
+fn any_captures(facts: &[Fact], code: u16, k: u32) -> bool
+    ensures { result ≡ any_captures facts.now code k }
+{
+    match facts {
+        [] => false,
+        [first, others @ ..] => captures(*first, code, k) || any_captures(others, code, k),
+    }
+}
+
+fn holds_field(held: Held, code: u16, k: u32) -> bool
+    ensures { result ≡ holds_field held code k }
+{
+    match held {
+        Held::Field(field) => field.code == code && field.k == k,
+        _ => false,
+    }
+}
+
+/// The bytes that a load takes are captured.
+pub fn is_captured(known: &Known, code: u16, k: u32) -> bool
+    ensures { result ≡ is_captured known.now code k }
+{
+    holds_field(known.held, code, k) || any_captures(&known.facts, code, k)
+}
+
+/// The bits of a mask of a field, if none is masked yet.
+pub fn masked_field(field: Field, mask: u32) -> Option<Field>
+    ensures { result ≡ masked_field field mask }
+{
+    match field.mask {
+        None => Some(Field {
+            code: field.code,
+            k: field.k,
+            mask: Some(mask),
+        }),
+        Some(_) => None,
+    }
+}
+
+fn masked_held(held: Held, mask: u32) -> Held
+    ensures { result ≡ masked_held held mask }
+{
+    match held {
+        Held::Field(field) => match masked_field(field, mask) {
+            Some(field) => Held::Field(field),
+            None => Held::Unknown,
+        },
+        _ => Held::Unknown,
+    }
+}
+
+/// What is known of A once X is another number.
+fn without_index(held: Held) -> Held
+    ensures { result ≡ without_index held }
+{
+    match held {
+        Held::AtIndex(_, _) => Held::Unknown,
+        held => held,
+    }
+}
+
+/// What A holds after an instruction that isn't a test.
+fn held_after(held: Held, insn: Wide) -> Held
+    ensures { result ≡ held_after (operation_of insn.code) held insn }
+{
+    match decode(insn.code) {
+        Some(Operation::LoadAbsolute(_)) => Held::Field(Field {
+            code: insn.code,
+            k: insn.k,
+            mask: None,
+        }),
+        Some(Operation::LoadIndirect(_)) => Held::AtIndex(insn.code, insn.k),
+        Some(Operation::Compute(AluOperation::And, Operand::Constant)) => {
+            masked_held(held, insn.k)
+        }
+        Some(
+            Operation::LoadHeaderLength
+            | Operation::Load(Register::Index, _)
+            | Operation::CopyToIndex,
+        ) => without_index(held),
+        Some(Operation::Store(_) | Operation::Jump) => held,
+        _ => Held::Unknown,
+    }
+}
+
+/// Which header's length X holds then.
+fn index_after(index: Option<u32>, insn: Wide) -> Option<u32>
+    ensures { result ≡ index_after (operation_of insn.code) index insn }
+{
+    match decode(insn.code) {
+        Some(Operation::LoadHeaderLength) => Some(insn.k),
+        Some(Operation::Load(Register::Index, _) | Operation::CopyToIndex) => None,
+        _ => index,
+    }
+}
+
+/// What is known after an instruction that isn't a test.
+pub fn known_after(known: &Known, insn: Wide) -> Known
+    ensures { result ≡ known_after (operation_of insn.code) known.now insn }
+{
+    Known {
+        held: held_after(known.held, insn),
+        index: index_after(known.index, insn),
+        facts: known.facts,
+    }
+}
+
+/// What the outcome of the test whether a number is this one says of it, if it is one of two.
+fn claim_after(outcome: bool, number: u32, two: Option<(u32, u32)>) -> Claim
+    ensures { result ≡ claim_after outcome number two }
+{
+    match (outcome, two) {
+        (true, _) => Claim::Is(number),
+        (false, Some((one, other))) => {
+            if number == one {
+                Claim::Is(other)
+            } else if number == other {
+                Claim::Is(one)
+            } else {
+                Claim::IsNot(number)
+            }
+        }
+        (false, None) => Claim::IsNot(number),
+    }
+}
+
+fn known_by(known: &Known, field: Field, number: u32, outcome: bool) -> Known
+    ensures { result ≡ known_by known.now field number outcome }
+{
+    let claim = claim_after(outcome, number, one_of(&known.facts, field));
+    with_fact(known, field, claim)
+}
+
+/// What is known once a test had an outcome.
+pub fn known_by_test(known: &Known, insn: Wide, outcome: bool) -> Known
+    ensures { result ≡ known_by_test (operation_of insn.code) known.now.held known.now insn.k outcome }
+{
+    match decode(insn.code) {
+        Some(Operation::JumpIf(Test::Equal, Operand::Constant)) => match known.held {
+            Held::Field(field) => known_by(known, field, insn.k, outcome),
+            _ => *known,
+        },
+        _ => *known,
+    }
+}

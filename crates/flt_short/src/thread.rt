@@ -1,0 +1,400 @@
+//! Tests that go on as far as what is known there decides.
+
+ghost use Rattle.std.specs.Prelude.{◌≡◌, ◌<◌, ◌^◌, nat_lt, if◌then◌else◌, length, replicate};
+ghost use Rattle.std.specs.Prelude.{IfOk};
+ghost use Rattle.flt_bpf.specs.Instructions.{operation_of};
+ghost use Rattle.flt_short.specs.Threads.{Threads};
+ghost use Rattle.flt_short.specs.inside.Facts.{unreached};
+ghost use Rattle.flt_short.specs.inside.Threads.{field_at, away, past_test, past_mask, holds_load};
+ghost use Rattle.flt_short.specs.inside.Threads.{holds_header, step, sets, sets_at, is_free};
+ghost use Rattle.flt_short.specs.inside.Threads.{can_stop, walk, two_at, target, moved};
+ghost use Rattle.flt_short.specs.inside.Threads.{threaded_test, threaded_insn, with_arrival};
+ghost use Rattle.flt_short.specs.inside.Threads.{with_ways, with_arrivals, flow, threaded};
+
+use crate::facts::{
+    Claim, Field, Held, Known, decided, is_captured, joined, known_after, known_by_test,
+    masked_field, nothing_known, one_of, same_field, unreached, with_fact,
+};
+use flt_bpf::Wide;
+use flt_bpf::operation::{AluOperation, Operand, Operation, Register, Test, decode};
+use std::alloc::{AllocError, Allocator};
+
+/// How many instructions a walk passes at most.
+const FUEL: usize = 128;
+
+/// Where a walk is. A would hold this field there, or what it holds where the walk began.
+#[derive(Clone, Copy)]
+pub struct Spot {
+    pub place: usize,
+    pub other: Option<Field>,
+}
+
+/// A walk, and the last place where a run may go on in place of the one where the walk began.
+#[derive(Clone, Copy)]
+pub struct Reached {
+    pub spot: Spot,
+    pub best: usize,
+}
+
+/// The field that A would hold.
+fn field_at(held: Held, other: Option<Field>) -> Option<Field>
+    ensures { result ≡ field_at held other }
+{
+    match (other, held) {
+        (Some(field), _) => Some(field),
+        (None, Held::Field(field)) => Some(field),
+        _ => None,
+    }
+}
+
+/// A field in A, if it isn't what A holds.
+fn away(held: Held, field: Field) -> Option<Field>
+    ensures { result ≡ away held field }
+{
+    match held {
+        Held::Field(same) => {
+            if same_field(same, field) {
+                None
+            } else {
+                Some(field)
+            }
+        }
+        _ => Some(field),
+    }
+}
+
+/// Past a test that is decided.
+fn past_test(known: &Known, insn: Wide, spot: Spot) -> Option<Spot>
+    requires { spot.place < 2 ^ 63 }
+    ensures { result ≡ past_test known.now insn spot }
+{
+    match field_at(known.held, spot.other) {
+        None => None,
+        Some(field) => match decided(&known.facts, field, insn.k) {
+            None => None,
+            Some(outcome) => {
+                let skipped = if outcome { insn.yes } else { insn.no };
+                Some(Spot {
+                    place: spot.place + 1 + skipped as usize,
+                    other: spot.other,
+                })
+            }
+        },
+    }
+}
+
+/// Past a mask of a field.
+fn past_mask(known: &Known, mask: u32, spot: Spot) -> Option<Spot>
+    requires { spot.place < 2 ^ 63 }
+    ensures { result ≡ past_mask known.now mask spot }
+{
+    match field_at(known.held, spot.other) {
+        None => None,
+        Some(field) => match masked_field(field, mask) {
+            None => None,
+            Some(field) => Some(Spot {
+                place: spot.place + 1,
+                other: away(known.held, field),
+            }),
+        },
+    }
+}
+
+/// A holds what a load at X would put there.
+fn holds_load(held: Held, insn: Wide) -> bool
+    ensures { result ≡ holds_load held insn }
+{
+    match held {
+        Held::AtIndex(code, k) => code == insn.code && k == insn.k,
+        _ => false,
+    }
+}
+
+/// X holds this header's length.
+fn holds_header(index: Option<u32>, header: u32) -> bool
+    ensures { result ≡ holds_header index header }
+{
+    match index {
+        Some(known) => known == header,
+        None => false,
+    }
+}
+
+/// Past one instruction, if what is known decides what it does.
+fn step(known: &Known, insn: Wide, spot: Spot) -> Option<Spot>
+    requires { spot.place < 2 ^ 63 }
+    ensures { result ≡ step (operation_of insn.code) known.now insn spot }
+{
+    let place = spot.place + 1;
+    match decode(insn.code) {
+        Some(Operation::LoadAbsolute(_)) => {
+            if !is_captured(known, insn.code, insn.k) {
+                return None;
+            }
+            let field = Field {
+                code: insn.code,
+                k: insn.k,
+                mask: None,
+            };
+            let other = away(known.held, field);
+            Some(Spot { place, other })
+        }
+        Some(Operation::LoadIndirect(_)) => {
+            if !holds_load(known.held, insn) {
+                return None;
+            }
+            Some(Spot { place, other: None })
+        }
+        Some(Operation::Compute(AluOperation::And, Operand::Constant)) => {
+            past_mask(known, insn.k, spot)
+        }
+        Some(Operation::LoadHeaderLength) => {
+            if !holds_header(known.index, insn.k) {
+                return None;
+            }
+            let other = spot.other;
+            Some(Spot { place, other })
+        }
+        Some(Operation::JumpIf(Test::Equal, Operand::Constant)) => past_test(known, insn, spot),
+        _ => None,
+    }
+}
+
+/// The instruction puts something into A, or ends the run, without reading A.
+fn sets(code: u16) -> bool
+    ensures { result ≡ sets (operation_of code) }
+{
+    matches!(
+        decode(code),
+        Some(
+            Operation::LoadAbsolute(_)
+                | Operation::LoadIndirect(_)
+                | Operation::Load(Register::Accumulator, _)
+                | Operation::ReturnConstant
+                | Operation::CopyToAccumulator
+        )
+    )
+}
+
+fn sets_at(code: &[Wide], place: usize) -> bool
+    ensures { result ≡ sets_at code.now place }
+{
+    match code.get(place) {
+        None => false,
+        Some(insn) => sets(insn.code),
+    }
+}
+
+/// Something is put into A from a place on before A is read.
+fn is_free(code: &[Wide], place: usize) -> bool
+    ensures { result ≡ is_free code.now place }
+{
+    match code.get(place) {
+        None => false,
+        Some(insn) => match decode(insn.code) {
+            Some(Operation::LoadHeaderLength) => sets_at(code, place + 1),
+            _ => sets(insn.code),
+        },
+    }
+}
+
+/// A run may go on where a walk is, in place of where the walk began.
+fn can_stop(code: &[Wide], spot: Spot) -> bool
+    ensures { result ≡ can_stop code.now spot }
+{
+    spot.place < code.len() && (spot.other.is_none() || is_free(code, spot.place))
+}
+
+/// The place of a walk, if a run may go on there, or the last such place.
+fn best_of(code: &[Wide], spot: Spot, best: usize) -> usize
+    ensures { result ≡ (if can_stop code.now spot then spot.place else best) }
+{
+    if can_stop(code, spot) {
+        spot.place
+    } else {
+        best
+    }
+}
+
+/// A walk goes on, past at most `fuel` instructions.
+#[tactic(auto, unfolding(crate::specs::inside::Threads::walk))]
+fn walk(fuel: usize, known: &Known, code: &[Wide], reached: Reached) -> Reached
+    ensures { result ≡ walk fuel known.now code.now reached }
+{
+    if fuel == 0 {
+        return reached;
+    }
+    match code.get(reached.spot.place) {
+        None => reached,
+        Some(insn) => match step(known, *insn, reached.spot) {
+            None => reached,
+            Some(spot) => {
+                let best = best_of(code, spot, reached.best);
+                walk(fuel - 1, known, code, Reached { spot, best })
+            }
+        },
+    }
+}
+
+/// A walk from a place.
+fn walked(known: &Known, code: &[Wide], from: usize) -> Reached
+    ensures { result ≡ walk FUEL known.now code.now
+        (record { spot = record { place = from; other = None }; best = from }) }
+{
+    let spot = Spot {
+        place: from,
+        other: None,
+    };
+    walk(FUEL, known, code, Reached { spot, best: from })
+}
+
+/// The field that A would hold where a walk ended, and the two numbers of which it is one.
+fn two_at(known: &Known, other: Option<Field>) -> Option<(Field, u32, u32)>
+    ensures { result ≡ two_at known.now (field_at known.now.held other) }
+{
+    match field_at(known.held, other) {
+        None => None,
+        Some(field) => match one_of(&known.facts, field) {
+            None => None,
+            Some((one, other)) => Some((field, one, other)),
+        },
+    }
+}
+
+/// Where a run may go on in place of a place. Where a field is one of two numbers, it is where the
+/// run goes on for each.
+fn target(known: &Known, code: &[Wide], from: usize) -> usize
+    ensures { result ≡ target known.now code.now from }
+{
+    let end = walked(known, code, from);
+    match two_at(known, end.spot.other) {
+        None => end.best,
+        Some((field, one, other)) => {
+            let first = walked(&with_fact(known, field, Claim::Is(one)), code, from);
+            let second = walked(&with_fact(known, field, Claim::Is(other)), code, from);
+            if first.best == second.best {
+                first.best
+            } else {
+                end.best
+            }
+        }
+    }
+}
+
+/// The same of the instructions that a test skips.
+fn moved(known: &Known, following: &[Wide], skipped: u32) -> u32
+    ensures { result ≡ moved known.now following.now skipped }
+{
+    let place = target(known, following, skipped as usize);
+    match u32::try_from(place) {
+        Ok(place) => place,
+        Err(_) => skipped,
+    }
+}
+
+/// A run reaches a place with this known.
+fn arrive(known: &mut [Known], at: usize, came: &Known)
+    ensures { known.new ≡ with_arrival known.old at came.now }
+{
+    if at < known.len() {
+        known[at] = joined(&known[at], came);
+    }
+}
+
+/// A test whose targets are as far as what is known decides. A run goes on there, in the code from a
+/// place on.
+fn thread_test(
+    known: &mut [Known],
+    from: usize,
+    here: &Known,
+    insn: Wide,
+    following: &[Wide],
+) -> Wide
+    requires { from < 2 ^ 63 }
+    ensures insn { result ≡ threaded_test (operation_of insn.code) here.now insn following.now }
+    ensures known { known.new ≡ with_ways from (operation_of insn.code) here.now result known.old }
+{
+    let yes = known_by_test(here, insn, true);
+    let no = known_by_test(here, insn, false);
+    let insn = Wide {
+        code: insn.code,
+        yes: moved(&yes, following, insn.yes),
+        no: moved(&no, following, insn.no),
+        k: insn.k,
+    };
+    arrive(known, from + insn.yes as usize, &yes);
+    arrive(known, from + insn.no as usize, &no);
+    insn
+}
+
+/// An instruction whose targets are as far as what is known decides, if a run comes there. The run
+/// goes on to those after it, the first of which is at a place.
+fn thread_insn(
+    known: &mut [Known],
+    from: usize,
+    here: &Known,
+    insn: Wide,
+    following: &[Wide],
+) -> Wide
+    requires { from < 2 ^ 63 }
+    ensures insn { result ≡ threaded_insn (operation_of insn.code) here.now insn following.now }
+    ensures known { known.new ≡ with_arrivals from (operation_of insn.code) here.now result known.old }
+{
+    if let Held::Unreached = here.held {
+        return insn;
+    }
+    match decode(insn.code) {
+        Some(Operation::JumpIf(_, _)) => thread_test(known, from, here, insn, following),
+        Some(Operation::Jump) => {
+            arrive(known, from + insn.k as usize, here);
+            insn
+        }
+        Some(Operation::ReturnConstant | Operation::ReturnAccumulator) => insn,
+        _ => {
+            arrive(known, from, &known_after(here, insn));
+            insn
+        }
+    }
+}
+
+/// The same for all instructions, with what is known where a run reaches each from those in front.
+fn thread_all(known: &mut [Known], insns: &mut [Wide])
+    requires { length known.old ≡ length insns.old }
+    ensures { insns.new ≡ flow known.old insns.old }
+{
+    let mut at = 0;
+    // The label names the loop in its proof.
+    'insns: while at < insns.len() {
+        let (here, old) = (known[at], insns[at]);
+        let insn = thread_insn(known, at + 1, &here, old, &insns[at + 1..]);
+        insns[at] = insn;
+        at += 1;
+    }
+}
+
+/// The code with its tests as far as what is known decides, where nothing is known so far.
+fn threaded_insns<A: Allocator, B: Allocator>(
+    mut known: Vec<Known, A>,
+    mut insns: Vec<Wide, B>,
+) -> Vec<Wide, B>
+    requires { known.items ≡ replicate (length insns.items) unreached }
+    ensures { result.items ≡ threaded insns.items }
+{
+    arrive(&mut known, 0, &nothing_known());
+    thread_all(&mut known, &mut insns);
+    insns
+}
+
+/// The same code, in which each test goes on as far as what is known there decides. It returns the
+/// same on each packet. Where there is no memory for what is known, its tests stay as they are.
+pub fn threaded<A: Allocator, B: Allocator>(
+    alloc: A,
+    insns: Vec<Wide, B>,
+) -> Result<Vec<Wide, B>, AllocError>
+    ensures { IfOk result (λ code. Threads code.items insns.items) }
+{
+    match vec![in alloc; unreached(); insns.len()] {
+        Ok(known) => Ok(threaded_insns(known, insns)),
+        Err(_) => Ok(insns),
+    }
+}

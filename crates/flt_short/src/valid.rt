@@ -1,0 +1,101 @@
+//! Whether code whose tests may skip any number of instructions breaks a rule, and how many tests
+//! it has.
+
+ghost use Rattle.std.specs.Prelude.{◌≡◌, None, true, IsTrue, count_by};
+ghost use Rattle.flt_bpf.specs.Check.{fault_of, constant_fault, is_return};
+ghost use Rattle.flt_bpf.specs.Check.{ends_in_return, IsFaultless, IsValidUnlessLong};
+ghost use Rattle.flt_bpf.specs.Instructions.{operation_of};
+ghost use Rattle.flt_bpf.specs.Layout.{is_branch};
+
+use flt_bpf::Wide;
+use flt_bpf::operation::{AluOperation, Operand, Operation, Source, decode};
+
+/// How many words of memory there are.
+const WORDS: u32 = 16;
+
+/// Arithmetic by this constant is allowed.
+fn is_constant(operator: AluOperation, k: u32) -> bool
+    ensures { IsTrue result → constant_fault operator k ≡ None }
+{
+    use AluOperation::{Divide, Remainder, ShiftLeft, ShiftRight};
+    match operator {
+        Divide | Remainder => k != 0,
+        ShiftLeft | ShiftRight => k < 32,
+        _ => true,
+    }
+}
+
+/// An instruction that has `following` after it breaks no rule.
+#[tactic(auto, unfolding(flt_bpf::specs::Check::fault_of))]
+fn is_faultless(insn: Wide, following: usize) -> bool
+    ensures { IsTrue result → fault_of insn following ≡ None }
+{
+    match decode(insn.code) {
+        None => false,
+        Some(Operation::Jump) => (insn.k as usize) < following,
+        Some(Operation::JumpIf(_, _)) => {
+            (insn.yes as usize) < following && (insn.no as usize) < following
+        }
+        Some(Operation::Load(_, Source::Memory) | Operation::Store(_)) => insn.k < WORDS,
+        Some(Operation::Compute(operator, Operand::Constant)) => is_constant(operator, insn.k),
+        Some(_) => true,
+    }
+}
+
+/// No instruction breaks a rule.
+fn are_faultless(code: &[Wide]) -> bool
+    ensures { IsTrue result → IsFaultless code.now }
+{
+    let mut at = code.len();
+    // The label names the loop in its proof.
+    'insns: while at > 0 {
+        at -= 1;
+        if !is_faultless(code[at], code.len() - 1 - at) {
+            return false;
+        }
+    }
+    true
+}
+
+/// A code is that of a return.
+fn returns(code: u16) -> bool
+    ensures { result ≡ is_return (operation_of code) }
+{
+    matches!(
+        decode(code),
+        Some(Operation::ReturnConstant | Operation::ReturnAccumulator)
+    )
+}
+
+/// The last instruction is a return.
+fn ends_in_return(code: &[Wide]) -> bool
+    ensures { IsTrue result → ends_in_return code.now ≡ true }
+{
+    let len = code.len();
+    if len == 0 {
+        return false;
+    }
+    let last = code[len - 1];
+    returns(last.code)
+}
+
+/// Code breaks no rule but for that on its length.
+pub fn are_valid(code: &[Wide]) -> bool
+    ensures { IsTrue result → IsValidUnlessLong code.now }
+{
+    are_faultless(code) && ends_in_return(code)
+}
+
+/// An instruction is a test.
+fn is_test(insn: &Wide) -> bool
+    ensures { result ≡ is_branch (operation_of insn.now.code) }
+{
+    matches!(decode(insn.code), Some(Operation::JumpIf(_, _)))
+}
+
+/// How many tests the code has.
+pub fn count_tests(code: &[Wide]) -> usize
+    ensures { result ≡ count_by (λ i. is_branch (operation_of i.code)) code.now }
+{
+    code.iter().filter(|insn| is_test(insn)).count()
+}

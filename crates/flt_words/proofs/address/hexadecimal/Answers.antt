@@ -1,7 +1,0 @@
--- Four hexadecimal digits write a number that fits.
-use Rattle.std.proofs.Common.{arith}
-use Rattle.flt_words.proofs.Groups.{small_answer}
-use Rattle.flt_words.proofs.address.hexadecimal.Goals as goal
-
-pub returns : goal.returns
-returns c = rw c.ok.ensures.value (small_answer c.args.digits.now c.args.most _ c.requires (omega arith) c.numeral.ensures)

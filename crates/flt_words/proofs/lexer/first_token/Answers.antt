@@ -1,0 +1,24 @@
+-- A word where one begins, and else a symbol.
+use Rattle.std.proofs.Common.{sym, ◌∙◌}
+use Rattle.std.proofs.lemmas.Result.{err_from_is_err_and}
+use Rattle.flt_words.specs.Tokens.IsRefused.{bad_piece, no_piece}
+use Rattle.flt_words.specs.Tokens.PieceMeans.{symbol_meaning, word_meaning}
+use Rattle.flt_words.proofs.Pieces.{longest_is_word}
+use Rattle.flt_words.proofs.lexer.first_token.Goals as goal
+
+pub returns-then-starts_word : goal.returns-then-starts_word
+returns-then-starts_word c =
+    let begins = sym c.starts_word.ensures ∙ c.if-starts_word.true in
+    record { longest = c.first_word_len-len.ensures; means = word_meaning (longest_is_word c.first_word_len-len.ensures begins) c.in_ok-kind.ensures }
+
+pub returns-in_err-kind : goal.returns-in_err-kind
+returns-in_err-kind c =
+    let begins = sym c.starts_word.ensures ∙ c.if-starts_word.true in
+    let p = err_from_is_err_and c.from_residual.result c.from_residual.ensures.1 in
+    rw (p.1, p.2) (bad_piece c.first_word_len-len.ensures (word_meaning (longest_is_word c.first_word_len-len.ensures begins) c.in_err-kind.ensures))
+
+pub returns-in-Some : goal.returns-in-Some
+returns-in-Some c = record { longest = c.in-Some.ensures.0; means = symbol_meaning c.in-Some.ensures.1 }
+
+pub returns-in-None : goal.returns-in-None
+returns-in-None c = no_piece c.in-None.ensures

@@ -1,0 +1,39 @@
+-- What the tests told, as the digits' number.
+use Rattle.std.proofs.Common.{◌≡◌, ◌<◌, length, arith, sym, ◌∙◌, ◌==◌, false, true}
+use Rattle.std.specs.Str.Parse.{digits_value}
+use Rattle.cap_octet.specs.Digits.{are_digits}
+use Rattle.flt_words.proofs.Digits.{does_not_fit, fits, some_from_test, some_unless_test, writes_from_test, writes_pass}
+use Rattle.flt_words.proofs.number.parse_digits.Goals as goal
+use Rattle.flt_words.proofs.number.parse_digits.Goals.{then-is_empty-via-then-is_empty, then-is_empty-via-else-is_empty+then-not-are_digits}
+
+pub returns-then-is_empty : goal.returns-then-is_empty
+returns-then-is_empty c = λ n w. elim c.then-is_empty.branch [
+  | then-is_empty-via-then-is_empty v ↦
+      let empty : (length c.args.digits.now == 0) ≡ true = sym c.is_empty.ensures ∙ v.if-is_empty.true in
+      some_from_test (length c.args.digits.now) w.numeral.0 empty
+  | then-is_empty-via-else-is_empty+then-not-are_digits v ↦
+      let pass : are_digits c.args.radix c.args.digits.now ≡ true = writes_pass w in
+      let fail : are_digits c.args.radix c.args.digits.now ≡ false = sym v.are_digits.ensures ∙ v.if-not-are_digits.true in
+      cc
+]
+
+pub returns-in-Some-2 : goal.returns-in-Some-2
+returns-in-Some-2 c =
+    let some : 0 < length c.args.digits.now = some_unless_test (length c.args.digits.now) (sym c.is_empty.ensures ∙ c.if-is_empty.false) in
+    let w = writes_from_test c.args.radix c.args.digits.now some (sym c.are_digits.ensures ∙ c.if-not-are_digits.false) in
+    (record { numeral = w.numeral; value = sym c.in-Some.ensures.value }, fits c.in-Some.number (omega arith))
+
+-- the number is there, and too large
+pub returns-in-Some : goal.returns-in-Some
+returns-in-Some c =
+    let some : 0 < length c.args.digits.now = some_unless_test (length c.args.digits.now) (sym c.is_empty.ensures ∙ c.if-is_empty.false) in
+    let w = writes_from_test c.args.radix c.args.digits.now some (sym c.are_digits.ensures ∙ c.if-not-are_digits.false) in
+    let value = c.in-Some.ensures.value in
+    (digits_value c.args.radix c.args.digits.now, w, does_not_fit _ (omega (arith, value)))
+
+pub returns-in-None : goal.returns-in-None
+returns-in-None c =
+    let some : 0 < length c.args.digits.now = some_unless_test (length c.args.digits.now) (sym c.is_empty.ensures ∙ c.if-is_empty.false) in
+    let w = writes_from_test c.args.radix c.args.digits.now some (sym c.are_digits.ensures ∙ c.if-not-are_digits.false) in
+    let large = c.in-None.ensures.large in
+    (digits_value c.args.radix c.args.digits.now, w, does_not_fit _ (omega (arith, large)))
