@@ -2,7 +2,7 @@
 
 ghost use Rattle.std.specs.Prelude.{◌≡◌, ◌≤◌, ◌<◌, ◌+◌, ◌++◌, length, take, drop, get_or};
 ghost use Rattle.flt_emit.specs.Formula.{whole_field, without, remaining};
-ghost use Rattle.flt_emit.specs.inside.Code.{emit_chain, emit_search, emit_among};
+ghost use Rattle.flt_emit.specs.inside.Code.{emit_chain, emit_search, levels_of, emit_among};
 ghost use Rattle.flt_emit.specs.inside.Emits.{Emits};
 
 use crate::code::{Code, Targets};
@@ -10,8 +10,12 @@ use crate::elementary::{MaskedField, Offset};
 use flt_bpf::operation::{Operand, Test, Width};
 use std::alloc::{AllocError, Allocator};
 
-/// How often numbers are halved at most.
-const LEVELS: usize = 16;
+/// How often numbers are halved at most: two aren't, since that would be one more test.
+fn levels_of(count: usize) -> usize
+    ensures { result ≡ levels_of count }
+{
+    if count < 3 { 0 } else { 16 }
+}
 
 /// A field of which all bits count.
 pub fn whole_field(offset: Offset, width: Width) -> MaskedField
@@ -52,7 +56,8 @@ fn place_of(number: u32, numbers: &[u32]) -> usize
     at
 }
 
-/// The numbers that are left after the first, in two slices, the second after the first.
+/// The numbers without `first`, the one that is first in the expression, in two slices, one after
+/// the other.
 fn remaining(first: u32, numbers: &[u32]) -> (&[u32], &[u32])
     ensures { result.0.now ++ result.1.now ≡ remaining first numbers.now }
 {
@@ -120,7 +125,7 @@ impl<A: Allocator> Code<A> {
         self.emit_among_both(field, numbers, &[], to)
     }
 
-    /// The same of those that are left after the first, which is tested before.
+    /// The same of the numbers without `first`, which is tested before.
     pub fn emit_among_others(
         &mut self,
         field: MaskedField,
@@ -146,7 +151,7 @@ impl<A: Allocator> Code<A> {
         ensures { Emits result
             (emit_among field (lower.now ++ upper.now) to.yes to.no self.old) self.new }
     {
-        self.emit_search(LEVELS, lower, upper, to)?;
+        self.emit_search(levels_of(lower.len() + upper.len()), lower, upper, to)?;
         self.emit_mask(field.mask)?;
         self.emit_field(field.offset, field.width)?;
         Ok(self.top())

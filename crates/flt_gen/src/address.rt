@@ -44,7 +44,7 @@ impl NetTest {
 pub enum Hosts {
     /// Those of a network, which may be a single one.
     Net(NetTest),
-    /// Those of the steps' numbers, of which this one stands first, on these sides.
+    /// The steps' numbers, on these sides. The number is the one that is first in the expression.
     Several(Direction, u32),
 }
 

@@ -25,7 +25,7 @@ pub enum Ports {
     One(u32),
     /// Those from the first to the second.
     Between(u32, u32),
-    /// Those of the steps' numbers, of which this one stands first.
+    /// The steps' numbers. This one is the first in the expression.
     Several(u32),
 }
 

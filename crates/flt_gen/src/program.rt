@@ -53,10 +53,9 @@ pub fn generate<A: Allocator + Clone, B: Allocator>(
 {
     let nodes = folded_nodes(alloc.clone()?, expr.expr.nodes())?;
     let code = wide_code(alloc.clone()?, &nodes, link)?;
-    // Code that gets much shorter repeats itself, so that the optimiser finds more.
+    // If much of it goes, it said the same again and again: then the optimiser finds more.
     let written = code.len();
-    let threaded = threaded(alloc.clone()?, code)?;
-    let short = shortened(alloc.clone()?, threaded)?;
+    let short = shortened(alloc.clone()?, threaded(code))?;
     let best = best_of(alloc, short, written)?;
     match check(best) {
         Ok(program) => Ok(program),

@@ -49,17 +49,13 @@ impl<A: Allocator> Steps<A> {
     fn put_ip_proto(&mut self, link: Link, protocol: u32) -> Result<(), AllocError>
         ensures { OnOk result (IsPut (ip_proto link protocol) self.old self.new) }
     {
-        self.check(kind_test(link, FrameKind::Ip))?;
-        self.check(has_ip_proto(link, protocol))?;
-        self.join(Join::And)
+        self.check_all(&[kind_test(link, FrameKind::Ip), has_ip_proto(link, protocol)])
     }
 
     fn put_ip6_proto(&mut self, link: Link, protocol: u32) -> Result<(), AllocError>
         ensures { OnOk result (IsPut (ip6_proto link protocol) self.old self.new) }
     {
-        self.check(kind_test(link, FrameKind::Ip6))?;
-        self.check(has_ip6_proto(link, protocol))?;
-        self.join(Join::And)
+        self.check_all(&[kind_test(link, FrameKind::Ip6), has_ip6_proto(link, protocol)])
     }
 
     fn put_any_proto(&mut self, link: Link, protocol: u32) -> Result<(), AllocError>
@@ -139,11 +135,13 @@ impl<A: Allocator> Steps<A> {
                 self.check_all(&[kind_test(link, FrameKind::Ethernet), is_group_address()])
             }
             (Cast::Multicast, Some(Protocol::Ip)) => {
+                // The first byte of the destination address.
                 let first = Offset::Fixed(network_offset(link) + 16);
                 let is_high = compares_at(first, Width::Byte, Comparison::AtLeast, 224);
                 self.check_all(&[kind_test(link, FrameKind::Ip), is_high])
             }
             (Cast::Multicast, Some(Protocol::Ip6)) => {
+                // The same of an IPv6 header.
                 let is_high = is_at(network_offset(link) + 24, Width::Byte, 255);
                 self.check_all(&[kind_test(link, FrameKind::Ip6), is_high])
             }

@@ -25,7 +25,7 @@ pub enum Step {
     Check(Elementary),
     /// The field is one of the numbers that are looked for.
     AmongAll(MaskedField),
-    /// It is one of those that are left after this one.
+    /// The field is one of those numbers, but not this one, which was tested before.
     AmongOthers(MaskedField, u32),
     Joined(Join),
 }
@@ -77,7 +77,7 @@ impl<A: Allocator> Steps<A> {
         self.steps.push(Step::AmongAll(field))
     }
 
-    /// Adds a step: whether a field is one of those that are left after the first.
+    /// Adds a step: whether a field is one of the numbers other than `first`.
     pub fn among_others(&mut self, field: MaskedField, first: u32) -> Result<(), AllocError>
         ensures { OnOk result
             (IsPut (Among field (remaining first self.old.numbers)) self.old self.new) }

@@ -16,6 +16,7 @@ use std::alloc::{AllocError, Allocator};
 impl<A: Allocator> Steps<A> {
     ghost use Rattle.flt_gen.specs.inside.Steps.{IsPut};
 
+    /// `host` with an address of any kind.
     fn put_host(
         &mut self,
         link: Link,
@@ -37,6 +38,7 @@ impl<A: Allocator> Steps<A> {
         }
     }
 
+    /// `net` with a network of IPv4 or IPv6.
     fn put_net(
         &mut self,
         link: Link,

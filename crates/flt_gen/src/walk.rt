@@ -44,7 +44,8 @@ const KEEP: u32 = 262_144;
 #[derive(Drop)]
 pub struct Walk<A: Allocator> {
     code: Code<A>,
-    /// The targets of the next truth; in the end both are where the program begins.
+    /// The targets of the next truth (a part of the expression that is yes or no); in the end both
+    /// are where the program begins.
     to: Targets,
     /// The word for the next left operand.
     slot: u32,
@@ -202,8 +203,8 @@ impl<A: Allocator + Clone> Walk<A> {
         }
     }
 
-    /// A value with all its qualifiers. A host or port joins the group of those after it, which
-    /// waits for one more if it is the right operand of an `or`.
+    /// A value with all its qualifiers. A host or port joins the group of those after it. As the
+    /// right operand of an `or` it waits there for one more; else the group is emitted.
     fn emit_value(
         &mut self,
         link: Link,

@@ -19,11 +19,11 @@ const TOO_MANY: usize = 0x4000_0000;
 
 /// Code of so few instructions stays as it is: they seldom become fewer, and that takes longer than
 /// all else that makes a program.
-const FEW: usize = 31;
+const FEW: usize = 28;
 
 /// Code that was written with more instructions than this, and more than twice as many as it has
 /// now, says the same again and again: it becomes much shorter, however few are left.
-const MANY: usize = 43;
+const MANY: usize = 64;
 
 /// Code that was written with some instructions, of which these are left, stays as it is.
 fn stays(left: usize, written: usize) -> bool {

@@ -323,7 +323,7 @@ module _ (p : List ℕ) where
   joins_right k came s y = by_right k.held k came s y
 
   pub nothing_holds : (s : State) → Holds nothing_known s
-  nothing_holds s = record { a = tt; x = tt; facts = nothing_says 8 }
+  nothing_holds s = record { a = tt; x = tt; facts = nothing_says 5 }
 
   pub fact_holds : (k : Known) (f : Field) (c : Claim) (s : State) → Holds k s → is_said c (value_of p f) ≡ true → Holds (with_fact k f c) s
   fact_holds k f c s y h = record { a = y.a; x = y.x; facts = set_says k.facts _ _ y.facts h }

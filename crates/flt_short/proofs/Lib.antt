@@ -1,3 +1,4 @@
+pub mod Arriving
 pub mod Basics
 pub mod Flow
 pub mod Knowing

@@ -1,5 +1,5 @@
 -- Threaded code returns the same, and keeps its length, its tests and what breaks no rule.
-use Rattle.std.proofs.Common.{◌≡◌, ℕ, zero, suc, ◌+◌, ◌%◌, ◌^◌, ◌<◌, List, [], ◌∷◌, length, count_by, get_or, cond, Bool, true, false, Option, Some, None, refl, sym, ap, ◌∙◌, subst, arith}
+use Rattle.std.proofs.Common.{◌≡◌, ℕ, zero, suc, ◌+◌, ◌%◌, ◌^◌, ◌<◌, ◌≤◌, List, [], ◌∷◌, length, count_by, get_or, cond, Bool, true, false, Option, Some, None, refl, sym, ap, ◌∙◌, subst, arith}
 use Rattle.std.specs.Prelude.{replicate, nat_lt, ◌&&◌, if◌then◌else◌, slice_get}
 use Rattle.std.specs.Option.{option_map}
 use Rattle.std.proofs.lemmas.Bool.Decides.{nat_tests}
@@ -23,45 +23,33 @@ use Rattle.flt_short.specs.Threads.{Threads}
 use Rattle.flt_short.specs.declared.facts.Held.{Held}
 use Rattle.flt_short.specs.declared.facts.Held.TheVariants as held_variant
 use Rattle.flt_short.specs.declared.facts.Known.{Known}
-use Rattle.flt_short.specs.inside.Facts.{nothing_known, unreached, masked_by, masked_held, held_if_some, without_index, known_after, known_by_test}
-use Rattle.flt_short.specs.inside.Threads.{moved, threaded_by, threaded_if, threaded_insn, with_arrival, with_arrivals_by, with_arrivals_if, with_arrivals, flow, threaded}
+use Rattle.flt_short.specs.declared.arrivals.Arrivals.{Arrivals}
+use Rattle.flt_short.specs.inside.Arrivals.{at_start, known_at, arrived}
+use Rattle.flt_short.specs.inside.Facts.{masked_by, masked_held, held_if_some, without_index, known_after, known_by_test}
+use Rattle.flt_short.specs.inside.Threads.{moved, threaded_by, threaded_if, threaded_insn, with_arrivals_by, with_arrivals_if, with_arrivals, flow, threaded}
 use Rattle.flt_short.proofs.Basics.{both_true}
+use Rattle.flt_short.proofs.Arriving.{HoldsAt, start_holds, raised_at, raised_keeps}
 use Rattle.flt_short.proofs.Flow.{by_code, threaded_code}
-use Rattle.flt_short.proofs.Knowing.{loaded, masked, value_at, loaded_at, HeldHolds, Holds, joins_left, joins_right, nothing_holds, tested}
+use Rattle.flt_short.proofs.Knowing.{loaded, masked, value_at, loaded_at, HeldHolds, Holds, tested}
 use Rattle.flt_short.proofs.Walks.{known_step, moved_same, moved_inside}
 
 module _ (p : List ℕ) (n : ℕ) where
-  abbrev pub HoldsAt : List Known → ℕ → State → Type 0
-  HoldsAt [] m s = Unit {0}
-  HoldsAt (k ∷ ks) zero s = Holds p k s
-  HoldsAt (k ∷ ks) (suc m) s = HoldsAt ks m s
+  by_keeps : (op : Option Operation) (from : ℕ) (k : Known) (i : Insn) (seen : Arrivals) (q : ℕ) (s : State) → from ≤ q → HoldsAt p seen q s → HoldsAt p (with_arrivals_by from op k i seen) q s
+  by_keeps (Some (JumpIf t o)) from k i seen q s l x = (
+      let yes = known_by_test (Some (JumpIf t o)) k.held k i.k true in
+      raised_keeps p (arrived seen from (from + i.jt) yes) from (from + i.jf) (known_by_test (Some (JumpIf t o)) k.held k i.k false) s q l (raised_keeps p seen from (from + i.jt) yes s q l x))
+  by_keeps (Some Jump) from k i seen q s l x = raised_keeps p seen from (from + i.k) k s q l x
+  by_keeps (Some ReturnConstant) from k i seen q s l x = x
+  by_keeps (Some ReturnAccumulator) from k i seen q s l x = x
+  by_keeps op from k i seen q s l x = raised_keeps p seen from from (known_after op k i) s q l x
 
-  raised_at : (ks : List Known) (m : ℕ) (k : Known) (s : State) → Holds p k s → HoldsAt (with_arrival ks m k) m s
-  raised_at [] m k s x = tt
-  raised_at (g ∷ ks) zero k s x = joins_right p g k s x
-  raised_at (g ∷ ks) (suc m) k s x = raised_at ks m k s x
-
-  raised_keeps : (ks : List Known) (at m : ℕ) (k : Known) (s : State) → HoldsAt ks m s → HoldsAt (with_arrival ks at k) m s
-  raised_keeps [] at m k s x = tt
-  raised_keeps (g ∷ ks) zero zero k s x = joins_left p g k s x
-  raised_keeps (g ∷ ks) zero (suc m) k s x = x
-  raised_keeps (g ∷ ks) (suc at) zero k s x = x
-  raised_keeps (g ∷ ks) (suc at) (suc m) k s x = raised_keeps ks at m k s x
-
-  by_keeps : (op : Option Operation) (k : Known) (i : Insn) (ks : List Known) (m : ℕ) (s : State) → HoldsAt ks m s → HoldsAt (with_arrivals_by 0 op k i ks) m s
-  by_keeps (Some (JumpIf t o)) k i ks m s x = raised_keeps _ (0 + i.jf) m _ s (raised_keeps ks (0 + i.jt) m _ s x)
-  by_keeps (Some Jump) k i ks m s x = raised_keeps ks (0 + i.k) m k s x
-  by_keeps (Some ReturnConstant) k i ks m s x = x
-  by_keeps (Some ReturnAccumulator) k i ks m s x = x
-  by_keeps op k i ks m s x = raised_keeps ks 0 m (known_after op k i) s x
-
-  if_keeps : (h : Held) (op : Option Operation) (k : Known) (i : Insn) (ks : List Known) (m : ℕ) (s : State) → HoldsAt ks m s → HoldsAt (with_arrivals_if h 0 op k i ks) m s
-  if_keeps held_variant.Unreached op k i ks m s x = x
-  if_keeps h op k i ks m s x = by_keeps op k i ks m s x
+  if_keeps : (h : Held) (op : Option Operation) (from : ℕ) (k : Known) (i : Insn) (seen : Arrivals) (q : ℕ) (s : State) → from ≤ q → HoldsAt p seen q s → HoldsAt p (with_arrivals_if h from op k i seen) q s
+  if_keeps held_variant.Unreached op from k i seen q s l x = x
+  if_keeps h op from k i seen q s l x = by_keeps op from k i seen q s l x
 
   -- the code after an instruction has the same answers wherever that is known
-  abbrev Alike : List Insn → List Insn → List Known → Type 0
-  Alike c d ks = (m : ℕ) (t : State) → HoldsAt ks m t → answer_of c p n m t ≡ answer_of d p n m t
+  abbrev Alike : ℕ → List Insn → List Insn → Arrivals → Type 0
+  Alike from c d seen = (m : ℕ) (t : State) → HoldsAt p seen (from + m) t → answer_of c p n m t ≡ answer_of d p n m t
 
   module _ (c d : List Insn) where
     abbrev Same : Next → Type 0
@@ -103,9 +91,11 @@ module _ (p : List ℕ) (n : ℕ) where
       by (Some old) q = tt
       by None q = ap (masked (Some m)) (ap (value_at p f.code f.k) (sym q) ∙ x) ∙ e
 
-  module _ (k : Known) (i : Insn) (is d : List Insn) (ks : List Known) (s : State) (x : Holds p k s) where
-    plain : (op : Option Operation) (t : State) → Alike d is (with_arrival ks 0 (known_after op k i)) → Holds p (known_after op k i) t → answer_of d p n 0 t ≡ answer_of is p n 0 t
-    plain op t f h = f 0 t (raised_at ks 0 (known_after op k i) t h)
+  module _ (from : ℕ) (k : Known) (i : Insn) (is d : List Insn) (seen : Arrivals) (s : State) (x : Holds p k s) where
+    plain : (op : Option Operation) (t : State) → Alike from d is (arrived seen from from (known_after op k i)) → Holds p (known_after op k i) t → answer_of d p n 0 t ≡ answer_of is p n 0 t
+    plain op t f h =
+        let none : from ≡ from + 0 = omega arith in
+        f 0 t (subst (λ q. HoldsAt p (arrived seen from from (known_after op k i)) q t) none (raised_at p seen from from (known_after op k i) t h))
 
     -- A is another number, of which nothing is known
     anyhow : (op : Option Operation) (v : ℕ) → known_after op k i ≡ record { held = held_variant.Unknown; index = k.index; facts = k.facts } → Holds p (known_after op k i) (record s { accumulator = v })
@@ -124,23 +114,20 @@ module _ (p : List ℕ) (n : ℕ) where
         by (held_variant.Field f) y = record { a = y; x = x.x; facts = x.facts }
         by (held_variant.AtIndex code at) y = record { a = y; x = x.x; facts = x.facts }
 
-    here : (op : Option Operation) → operation_of i.code ≡ op → Alike d is (with_arrivals_by 0 op k (threaded_by op k i is) ks) → answer_after (answer_of d p n) (does_if_known op (threaded_by op k i is) p n s) ≡ answer_after (answer_of is p n) (does_if_known op i p n s)
+    here : (op : Option Operation) → operation_of i.code ≡ op → Alike from d is (with_arrivals_by from op k (threaded_by op k i is) seen) → answer_after (answer_of d p n) (does_if_known op (threaded_by op k i is) p n s) ≡ answer_after (answer_of is p n) (does_if_known op i p n s)
     here None e f = refl
     here (Some (JumpIf t o)) e f =
         let yes = known_by_test (Some (JumpIf t o)) k.held k i.k true in
         let other = known_by_test (Some (JumpIf t o)) k.held k i.k false in
         let a = moved yes is i.jt in
         let b = moved other is i.jf in
-        let none_yes : 0 + a ≡ a = omega arith in
-        let none_no : 0 + b ≡ b = omega arith in
         way_same d is (test_holds t s.accumulator (operand_value o i.k s.index)) a b i.jt i.jf s
         (λ g. let h = tested p t o k i true s x g in
-        f a s (subst (λ m. HoldsAt (with_arrival (with_arrival ks (0 + a) yes) (0 + b) other) m s) none_yes (raised_keeps (with_arrival ks (0 + a) yes) (0 + b) (0 + a) other s (raised_at ks (0 + a) yes s h))) ∙ moved_same p n is yes i.jt s h)
+        let there : from ≤ from + a = omega arith in
+        f a s (raised_keeps p (arrived seen from (from + a) yes) from (from + b) other s (from + a) there (raised_at p seen from (from + a) yes s h)) ∙ moved_same p n is yes i.jt s h)
         (λ g. let h = tested p t o k i false s x g in
-        f b s (subst (λ m. HoldsAt (with_arrival (with_arrival ks (0 + a) yes) (0 + b) other) m s) none_no (raised_at (with_arrival ks (0 + a) yes) (0 + b) other s h)) ∙ moved_same p n is other i.jf s h)
-    here (Some Jump) e f =
-        let none : 0 + i.k ≡ i.k = omega arith in
-        f i.k s (subst (λ m. HoldsAt (with_arrival ks (0 + i.k) k) m s) none (raised_at ks (0 + i.k) k s x))
+        f b s (raised_at p (arrived seen from (from + a) yes) from (from + b) other s h) ∙ moved_same p n is other i.jf s h)
+    here (Some Jump) e f = f i.k s (raised_at p seen from (from + i.k) k s x)
     here (Some (LoadAbsolute w)) e f = into_same d is Accumulator (field p i.k w) s (λ v g. plain (Some (LoadAbsolute w)) (record s { accumulator = v }) f (record { a = ap (λ o. loaded o p i.k) e ∙ g; x = x.x; facts = x.facts }))
     here (Some (LoadIndirect w)) e f = into_same d is Accumulator (field p ((s.index + i.k) % 2 ^ 32) w) s (λ v g. plain (Some (LoadIndirect w)) (record s { accumulator = v }) f (record { a = ap (λ o. loaded_at o p s.index i.k) e ∙ g; x = x.x; facts = x.facts }))
     here (Some ReturnConstant) e f = refl
@@ -168,17 +155,17 @@ module _ (p : List ℕ) (n : ℕ) where
     here (Some CopyToIndex) e f = plain (Some CopyToIndex) _ f (elsewhere s.accumulator)
     here (Some CopyToAccumulator) e f = plain (Some CopyToAccumulator) _ f (anyhow (Some CopyToAccumulator) s.index refl)
 
-    at_top : Alike d is (with_arrivals_by 0 (operation_of i.code) k (threaded_by (operation_of i.code) k i is) ks) → answer_of (threaded_by (operation_of i.code) k i is ∷ d) p n 0 s ≡ answer_of (i ∷ is) p n 0 s
+    at_top : Alike from d is (with_arrivals_by from (operation_of i.code) k (threaded_by (operation_of i.code) k i is) seen) → answer_of (threaded_by (operation_of i.code) k i is ∷ d) p n 0 s ≡ answer_of (i ∷ is) p n 0 s
     at_top f =
         ap (answer_after (answer_of d p n)) (known_step p n (threaded_by (operation_of i.code) k i is) (operation_of i.code) s (ap operation_of (by_code (operation_of i.code) k i is)))
         ∙ here (operation_of i.code) refl f
         ∙ sym (ap (answer_after (answer_of is p n)) (known_step p n i (operation_of i.code) s refl))
 
-  reached : (h : Held) (op : Option Operation) (k : Known) (j : Insn) (ks : List Known) (s : State) → HeldHolds p h s → with_arrivals_if h 0 op k j ks ≡ with_arrivals_by 0 op k j ks
-  reached held_variant.Unreached op k j ks s x = absurd x
-  reached held_variant.Unknown op k j ks s x = refl
-  reached (held_variant.Field f) op k j ks s x = refl
-  reached (held_variant.AtIndex code m) op k j ks s x = refl
+  reached : (h : Held) (from : ℕ) (op : Option Operation) (k : Known) (j : Insn) (seen : Arrivals) (s : State) → HeldHolds p h s → with_arrivals_if h from op k j seen ≡ with_arrivals_by from op k j seen
+  reached held_variant.Unreached from op k j seen s x = absurd x
+  reached held_variant.Unknown from op k j seen s x = refl
+  reached (held_variant.Field f) from op k j seen s x = refl
+  reached (held_variant.AtIndex code m) from op k j seen s x = refl
 
   reached_insn : (h : Held) (op : Option Operation) (k : Known) (i : Insn) (is : List Insn) (s : State) → HeldHolds p h s → threaded_by op k i is ≡ threaded_if h op k i is
   reached_insn held_variant.Unreached op k i is s x = absurd x
@@ -187,28 +174,33 @@ module _ (p : List ℕ) (n : ℕ) where
   reached_insn (held_variant.AtIndex code m) op k i is s x = refl
 
   -- the code has the same answers
-  answers_same : (is : List Insn) (ks : List Known) (m : ℕ) (s : State) → HoldsAt ks m s → answer_of (flow ks is) p n m s ≡ answer_of is p n m s
-  answers_same [] ks m s x = refl
-  answers_same (i ∷ is) [] m s x = refl
-  answers_same (i ∷ is) (k ∷ ks) (suc m) s x =
+  answers_same : (is : List Insn) (at : ℕ) (seen : Arrivals) (m : ℕ) (s : State) → HoldsAt p seen (at + m) s → answer_of (flow at seen is) p n m s ≡ answer_of is p n m s
+  answers_same [] at seen m s x = refl
+  answers_same (i ∷ is) at seen (suc m) s x =
       let op = operation_of i.code in
+      let k = known_at seen at in
       let j = threaded_insn op k i is in
-      answers_same is (with_arrivals 0 op k j ks) m s (if_keeps k.held op k j ks m s x)
-  answers_same (i ∷ is) (k ∷ ks) zero s x =
+      let there : at + suc m ≡ suc at + m = omega arith in
+      let after : suc at ≤ suc at + m = omega arith in
+      answers_same is (suc at) (with_arrivals (suc at) op k j seen) m s (if_keeps k.held op (suc at) k j seen (suc at + m) s after (subst (λ q. HoldsAt p seen q s) there x))
+  answers_same (i ∷ is) at seen zero s x =
       let op = operation_of i.code in
+      let k = known_at seen at in
       let j = threaded_by op k i is in
-      subst (λ (t : Insn). answer_of (t ∷ flow (with_arrivals 0 op k t ks) is) p n 0 s ≡ answer_of (i ∷ is) p n 0 s) (reached_insn k.held op k i is s x.a)
-      (at_top k i is (flow (with_arrivals 0 op k j ks) is) ks s x
-      (λ m t y. answers_same is (with_arrivals 0 op k j ks) m t (subst (λ gs. HoldsAt gs m t) (sym (reached k.held op k j ks s x.a)) y)))
+      let here : at + 0 ≡ at = omega arith in
+      let holds : Holds p k s = subst (λ q. HoldsAt p seen q s) here x in
+      subst (λ (t : Insn). answer_of (t ∷ flow (suc at) (with_arrivals (suc at) op k t seen) is) p n 0 s ≡ answer_of (i ∷ is) p n 0 s) (reached_insn k.held op k i is s holds.a)
+      (at_top (suc at) k i is (flow (suc at) (with_arrivals (suc at) op k j seen) is) seen s holds
+      (λ m t y. answers_same is (suc at) (with_arrivals (suc at) op k j seen) m t (subst (λ gs. HoldsAt p gs (suc at + m) t) (sym (reached k.held (suc at) op k j seen s holds.a)) y)))
 
   threaded_answers : (is : List Insn) (s : State) → answer_of (threaded is) p n 0 s ≡ answer_of is p n 0 s
-  threaded_answers is s = answers_same is _ 0 s (raised_at (replicate (length is) unreached) 0 nothing_known s (nothing_holds p s))
+  threaded_answers is s = answers_same is 0 at_start 0 s (start_holds p s)
 
-length_flow : (ks : List Known) (is : List Insn) → length (flow ks is) ≡ length is
-length_flow ks [] = refl
-length_flow [] (i ∷ is) = refl
-length_flow (k ∷ ks) (i ∷ is) =
-    ap suc (length_flow (with_arrivals 0 (operation_of i.code) k (threaded_insn (operation_of i.code) k i is) ks) is)
+length_flow : (at : ℕ) (seen : Arrivals) (is : List Insn) → length (flow at seen is) ≡ length is
+length_flow at seen [] = refl
+length_flow at seen (i ∷ is) =
+    let k = known_at seen at in
+    ap suc (length_flow (suc at) (with_arrivals (suc at) (operation_of i.code) k (threaded_insn (operation_of i.code) k i is) seen) is)
 
 -- faults
 passes : (b : Bool) (f : CheckFault) → unless b f ≡ None → b ≡ true
@@ -238,16 +230,17 @@ fault_is : (i : Insn) (op : Option Operation) (m : ℕ) → operation_of i.code 
 unfolding fault_of
 fault_is i op m e = ap (λ o. fault_if_known o i m) e
 
-faultless_flow : (ks : List Known) (is : List Insn) → IsFaultless is → IsFaultless (flow ks is)
-faultless_flow ks [] f = tt
-faultless_flow [] (i ∷ is) f = f
-faultless_flow (k ∷ ks) (i ∷ is) f =
+faultless_flow : (at : ℕ) (seen : Arrivals) (is : List Insn) → IsFaultless is → IsFaultless (flow at seen is)
+faultless_flow at seen [] f = tt
+faultless_flow at seen (i ∷ is) f =
     let op = operation_of i.code in
-    let j = threaded_insn op k i is in (
-      ap (fault_of j) (length_flow (with_arrivals 0 op k j ks) is)
+    let k = known_at seen at in
+    let j = threaded_insn op k i is in
+    let bs = with_arrivals (suc at) op k j seen in (
+      ap (fault_of j) (length_flow (suc at) bs is)
           ∙ fault_is j op (length is) (ap operation_of (threaded_code op k i is))
           ∙ threaded_fault k.held op k i is (sym (fault_is i op (length is) refl) ∙ f.0),
-      faultless_flow (with_arrivals 0 op k j ks) is f.1,
+      faultless_flow (suc at) bs is f.1,
     )
 
 -- the end, the tests and the jumps
@@ -255,43 +248,45 @@ ends_after : (i : Insn) (c : List Insn) → 0 < length c → ends_in_return (i �
 ends_after i [] l = absurd (omega arith)
 ends_after i (j ∷ c) l = refl
 
-ends_flow : (ks : List Known) (is : List Insn) → ends_in_return (flow ks is) ≡ ends_in_return is
-ends_flow ks [] = refl
-ends_flow [] (i ∷ is) = refl
-ends_flow (k ∷ ks) (i ∷ []) = ap (λ c. ends_in_return (record i { code = c } ∷ [])) (threaded_code (operation_of i.code) k i [])
-ends_flow (k ∷ ks) (i ∷ j ∷ is) =
+ends_flow : (at : ℕ) (seen : Arrivals) (is : List Insn) → ends_in_return (flow at seen is) ≡ ends_in_return is
+ends_flow at seen [] = refl
+ends_flow at seen (i ∷ []) =
+    ap (λ c. ends_in_return (record i { code = c } ∷ [])) (threaded_code (operation_of i.code) (known_at seen at) i [])
+ends_flow at seen (i ∷ j ∷ is) =
     let op = operation_of i.code in
+    let k = known_at seen at in
     let t = threaded_insn op k i (j ∷ is) in
-    let gs = with_arrivals 0 op k t ks in
-    let long = length_flow gs (j ∷ is) in
-    ends_after t (flow gs (j ∷ is)) (omega arith) ∙ ends_flow gs (j ∷ is)
+    let bs = with_arrivals (suc at) op k t seen in
+    let long = length_flow (suc at) bs (j ∷ is) in
+    ends_after t (flow (suc at) bs (j ∷ is)) (omega arith) ∙ ends_flow (suc at) bs (j ∷ is)
 
-tests_flow : (ks : List Known) (is : List Insn) → count_by (λ i. is_branch (operation_of i.code)) (flow ks is) ≡ count_by (λ i. is_branch (operation_of i.code)) is
-tests_flow ks [] = refl
-tests_flow [] (i ∷ is) = refl
-tests_flow (k ∷ ks) (i ∷ is) =
+tests_flow : (at : ℕ) (seen : Arrivals) (is : List Insn) → count_by (λ i. is_branch (operation_of i.code)) (flow at seen is) ≡ count_by (λ i. is_branch (operation_of i.code)) is
+tests_flow at seen [] = refl
+tests_flow at seen (i ∷ is) =
     let op = operation_of i.code in
+    let k = known_at seen at in
     let j = threaded_insn op k i is in
-    let gs = with_arrivals 0 op k j ks in
+    let rest = flow (suc at) (with_arrivals (suc at) op k j seen) is in
     let test = λ (m : Insn). cond (is_branch (operation_of m.code)) 1 0 in
-    let new : count_by (λ m. is_branch (operation_of m.code)) (j ∷ flow gs is) ≡ test j + count_by (λ m. is_branch (operation_of m.code)) (flow gs is) = sum_by-cons test j (flow gs is) in
+    let new : count_by (λ m. is_branch (operation_of m.code)) (j ∷ rest) ≡ test j + count_by (λ m. is_branch (operation_of m.code)) rest = sum_by-cons test j rest in
     let old : count_by (λ m. is_branch (operation_of m.code)) (i ∷ is) ≡ test i + count_by (λ m. is_branch (operation_of m.code)) is = sum_by-cons test i is in
     let same : test j ≡ test i = ap (λ c. cond (is_branch (operation_of c)) 1 0) (threaded_code op k i is) in
-    new ∙ ap (λ m. m + count_by (λ m'. is_branch (operation_of m'.code)) (flow gs is)) same ∙ ap (λ m. test i + m) (tests_flow gs is) ∙ sym old
+    new ∙ ap (λ m. m + count_by (λ m'. is_branch (operation_of m'.code)) rest) same ∙ ap (λ m. test i + m) (tests_flow (suc at) (with_arrivals (suc at) op k j seen) is) ∙ sym old
 
-code_at : (ks : List Known) (is : List Insn) (m : ℕ) (e : Insn) → (get_or (flow ks is) m e).code ≡ (get_or is m e).code
-code_at ks [] m e = refl
-code_at [] (i ∷ is) m e = refl
-code_at (k ∷ ks) (i ∷ is) zero e = threaded_code (operation_of i.code) k i is
-code_at (k ∷ ks) (i ∷ is) (suc m) e = code_at (with_arrivals 0 (operation_of i.code) k (threaded_insn (operation_of i.code) k i is) ks) is m e
+code_at : (at : ℕ) (seen : Arrivals) (is : List Insn) (m : ℕ) (e : Insn) → (get_or (flow at seen is) m e).code ≡ (get_or is m e).code
+code_at at seen [] m e = refl
+code_at at seen (i ∷ is) zero e = threaded_code (operation_of i.code) (known_at seen at) i is
+code_at at seen (i ∷ is) (suc m) e =
+    let k = known_at seen at in
+    code_at (suc at) (with_arrivals (suc at) (operation_of i.code) k (threaded_insn (operation_of i.code) k i is) seen) is m e
 
 pub threads : (new old : List Insn) → new ≡ threaded old → Threads new old
 threads new old e = subst (λ c. Threads c old) (sym e) (record {
-  same_length = length_flow _ old;
-  branches = tests_flow _ old;
-  sound = λ v. record { faultless = faultless_flow _ old v.faultless; ends = ends_flow _ old ∙ v.ends };
+  same_length = length_flow 0 at_start old;
+  branches = tests_flow 0 at_start old;
+  sound = λ v. record { faultless = faultless_flow 0 at_start old v.faultless; ends = ends_flow 0 at_start old ∙ v.ends };
   runs = λ p n. threaded_answers p n old start;
-  no_jump = λ h. λ m e l f. (let long = length_flow (with_arrival (replicate (length old) unreached) 0 nothing_known) old in h m e (omega arith) (sym (code_at _ old m e) ∙ f));
+  no_jump = λ h. λ m e l f. (let long = length_flow 0 at_start old in h m e (omega arith) (sym (code_at 0 at_start old m e) ∙ f));
 })
 
 -- code stays as it is

@@ -6,7 +6,8 @@ ghost use Rattle.flt_short.specs.Alike.{Shortens};
 ghost use Rattle.flt_short.specs.inside.Alike.{reads_accumulator, reads_index};
 ghost use Rattle.flt_short.specs.inside.Alike.{sets_accumulator, sets_index, implies, landing_fits};
 ghost use Rattle.flt_short.specs.inside.Alike.{goes_on};
-ghost use Rattle.flt_short.specs.inside.Alike.{same_step, one_test, direct_code, is_number, direct_load};
+ghost use Rattle.flt_short.specs.inside.Alike.{same_step, one_test, direct_code, is_number};
+ghost use Rattle.flt_short.specs.inside.Alike.{direct_load};
 ghost use Rattle.flt_short.specs.inside.Alike.{is_indirect, adds_header, loads_alike, header_load};
 ghost use Rattle.flt_short.specs.inside.Alike.{stands, are_alike, begins, MASK, EQUAL, ANY_BIT};
 ghost use Rattle.flt_bpf.specs.Layout.{JUMP};
@@ -15,13 +16,14 @@ use crate::valid::{are_valid, count_tests};
 use flt_bpf::Wide;
 use flt_bpf::operation::{AluOperation, Operand, Operation, Register, Source, Test, decode};
 
-/// Where a new program does what the old one does from an instruction on, and what is read there
-/// before something else is put into it: so much is the same in both.
+/// Where a new program does what the old one does from an instruction on.
 #[derive(Clone, Copy)]
 pub struct Landing {
     /// The number of instructions of the new program from there to its end, or 0 for nowhere.
     pub place: usize,
+    /// A is read from there on before it is set, so both programs have the same in A there.
     pub accumulator: bool,
+    /// X is.
     pub index: bool,
 }
 

@@ -2,12 +2,17 @@
 
 ghost use Rattle.std.specs.Prelude.{◌≡◌, ◌≤◌, length, map};
 ghost use Rattle.flt_bpf.specs.Instructions.{operation_of};
-ghost use Rattle.flt_short.specs.inside.Facts.{same_mask, same_field, is_nothing, allows, is_not, entails};
-ghost use Rattle.flt_short.specs.inside.Facts.{joined_claim, nothing_claimed, joined_some, joined_fact};
+ghost use Rattle.flt_short.specs.inside.Facts.{same_mask, same_field, is_nothing, allows, is_not};
+ghost use Rattle.flt_short.specs.inside.Facts.{entails};
+ghost use Rattle.flt_short.specs.inside.Facts.{joined_claim, nothing_claimed, joined_some};
+ghost use Rattle.flt_short.specs.inside.Facts.{joined_fact};
 ghost use Rattle.flt_short.specs.inside.Facts.{joined_held};
-ghost use Rattle.flt_short.specs.inside.Facts.{same_index, joined, says, decided, one_of, gives_way};
-ghost use Rattle.flt_short.specs.inside.Facts.{place_for, with_fact, captures, any_captures, holds_field};
-ghost use Rattle.flt_short.specs.inside.Facts.{is_captured, masked_field, masked_held, without_index};
+ghost use Rattle.flt_short.specs.inside.Facts.{same_index, joined, says, decided, one_of};
+ghost use Rattle.flt_short.specs.inside.Facts.{gives_way};
+ghost use Rattle.flt_short.specs.inside.Facts.{place_for, with_fact, captures, any_captures};
+ghost use Rattle.flt_short.specs.inside.Facts.{holds_field};
+ghost use Rattle.flt_short.specs.inside.Facts.{is_captured, masked_field, masked_held};
+ghost use Rattle.flt_short.specs.inside.Facts.{without_index};
 ghost use Rattle.flt_short.specs.inside.Facts.{held_after, index_after, known_after, claim_after};
 ghost use Rattle.flt_short.specs.inside.Facts.{known_by, known_by_test, nothing_known, unreached};
 
@@ -15,7 +20,7 @@ use flt_bpf::Wide;
 use flt_bpf::operation::{AluOperation, Operand, Operation, Register, Test, decode};
 
 /// How many facts are kept at a place.
-pub const MOST_FACTS: usize = 8;
+pub const MOST_FACTS: usize = 5;
 
 /// A number of the packet: what the load with this code and this number puts into A, and of that
 /// the bits of a mask, if there is one.
@@ -176,7 +181,7 @@ fn joined_claim(claim: Claim, other: Claim) -> Claim
     }
 }
 
-/// What holds where a fact does that says something, and where all the others do.
+/// What both this fact, which says something, and one of the others claim of its field.
 fn joined_some(fact: Fact, others: &[Fact]) -> Fact
     ensures { result ≡ joined_some fact others.now }
 {
@@ -246,7 +251,7 @@ fn joined_held(one: Held, other: Held) -> Held
     }
 }
 
-/// Where both ways know of the same header.
+/// The header whose length X holds on both ways, if it is one.
 fn same_index(one: Option<u32>, other: Option<u32>) -> Option<u32>
     ensures { result ≡ same_index one other }
 {
@@ -323,7 +328,7 @@ pub fn one_of(facts: &[Fact], field: Field) -> Option<(u32, u32)>
     }
 }
 
-/// A fact says nothing, or nothing that a later one doesn't say.
+/// The old fact says nothing, or nothing that the new one doesn't.
 fn gives_way(old: Fact, fact: Fact) -> bool
     ensures { result ≡ gives_way old fact }
 {
@@ -506,7 +511,8 @@ fn known_by(known: &Known, field: Field, number: u32, outcome: bool) -> Known
 
 /// What is known once a test had an outcome.
 pub fn known_by_test(known: &Known, insn: Wide, outcome: bool) -> Known
-    ensures { result ≡ known_by_test (operation_of insn.code) known.now.held known.now insn.k outcome }
+    ensures { result
+        ≡ known_by_test (operation_of insn.code) known.now.held known.now insn.k outcome }
 {
     match decode(insn.code) {
         Some(Operation::JumpIf(Test::Equal, Operand::Constant)) => match known.held {

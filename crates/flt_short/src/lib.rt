@@ -3,6 +3,7 @@
 #![tactic(auto)]
 
 mod alike;
+mod arrivals;
 mod facts;
 mod shorten;
 mod thread;

@@ -13,9 +13,6 @@ use flt_bpf::Wide;
 use flt_bpf::operation::{AluOperation, Operand, Operation, Register, Source, Test, decode};
 use std::alloc::{AllocError, Allocator};
 
-/// How far from the beginning a test is looked for that is there already.
-const NEAREST: usize = 256;
-
 /// In longer code tests aren't shared, since the optimiser makes less of it then.
 const MERGED: usize = 256;
 
@@ -52,9 +49,14 @@ fn next_of_test(yes: Landing, no: Landing) -> Landing {
     }
 }
 
-/// The place `offset` instructions after the next one.
+/// In the old code: the index of the instruction `offset` past the next one.
 fn following(at: usize, offset: usize) -> usize {
     at.saturating_add(offset).saturating_add(1)
+}
+
+/// In the new code: the place of an instruction that stands right in front of a place.
+fn in_front_of(place: usize) -> usize {
+    place.saturating_add(1)
 }
 
 /// The run doesn't just go on at the next instruction.
@@ -112,8 +114,9 @@ fn direct_code(indirect: u16) -> Option<u16> {
 struct Shortening<'a> {
     insns: &'a [Wide],
     landings: &'a mut [Landing],
-    /// The new code, from its last instruction to its first. It has room for as many as the old
-    /// one; a program that needs more isn't taken.
+    /// The new code, from its last instruction to its first: `backwards[p]` stands right in front
+    /// of place p, so that its own place is p + 1. It has room for as many as the old one; a program
+    /// that needs more isn't taken.
     backwards: &'a mut [Wide],
     len: usize,
     /// A test that is there already isn't put again.
@@ -251,7 +254,7 @@ impl Shortening<'_> {
     }
 
     /// A test with such targets stands right in front of a place.
-    fn leads_to(&self, at: usize, yes: usize, no: usize) -> bool {
+    fn has_targets(&self, at: usize, yes: usize, no: usize) -> bool {
         self.backwards.get(at).is_some_and(|other| {
             other.yes as usize == at.saturating_sub(yes)
                 && other.no as usize == at.saturating_sub(no)
@@ -269,11 +272,11 @@ impl Shortening<'_> {
     /// The place of such a test with such targets, if there is one. One after the instruction that
     /// is in front of this one comes first, since that one is shared too.
     fn same_test(&self, at: usize, insn: Wide, yes: usize, no: usize) -> Option<usize> {
-        let low = yes.max(no).max(self.len.saturating_sub(NEAREST));
+        let low = yes.max(no);
         let mut found = None;
         for place in (low..self.len).rev() {
-            if self.is_at(place, insn) && self.leads_to(place, yes, no) {
-                let test = following(place, 0);
+            if self.is_at(place, insn) && self.has_targets(place, yes, no) {
+                let test = in_front_of(place);
                 if self.is_front_at(test, at) {
                     return Some(test);
                 }
@@ -298,7 +301,7 @@ impl Shortening<'_> {
         let top = self.len;
         let test = reaching(insn, top.saturating_sub(yes), top.saturating_sub(no))?;
         self.push(test);
-        Some(following(top, 0))
+        Some(in_front_of(top))
     }
 
     /// A test, whose targets are this far past the instruction `last` of the old code.
@@ -366,7 +369,7 @@ impl Shortening<'_> {
         }
         if landing.place < self.len {
             if self.is_at(landing.place, insn) {
-                let place = following(landing.place, 0);
+                let place = in_front_of(landing.place);
                 self.land(at, landing_before(operation, place, landing));
                 return;
             }

@@ -1,31 +1,34 @@
 //! Tests that go on as far as what is known there decides.
 
-ghost use Rattle.std.specs.Prelude.{◌≡◌, ◌<◌, ◌^◌, nat_lt, if◌then◌else◌, length, replicate};
-ghost use Rattle.std.specs.Prelude.{IfOk};
+ghost use Rattle.std.specs.Prelude.{◌≡◌, ◌<◌, ◌^◌, nat_lt, if◌then◌else◌, length};
 ghost use Rattle.flt_bpf.specs.Instructions.{operation_of};
 ghost use Rattle.flt_short.specs.Threads.{Threads};
-ghost use Rattle.flt_short.specs.inside.Facts.{unreached};
 ghost use Rattle.flt_short.specs.inside.Threads.{field_at, away, past_test, past_mask, holds_load};
 ghost use Rattle.flt_short.specs.inside.Threads.{holds_header, step, sets, sets_at, is_free};
 ghost use Rattle.flt_short.specs.inside.Threads.{can_stop, walk, two_at, target, moved};
-ghost use Rattle.flt_short.specs.inside.Threads.{threaded_test, threaded_insn, with_arrival};
+ghost use Rattle.flt_short.specs.inside.Threads.{threaded_test, threaded_insn};
 ghost use Rattle.flt_short.specs.inside.Threads.{with_ways, with_arrivals, flow, threaded};
 
+use crate::arrivals::Arrivals;
 use crate::facts::{
-    Claim, Field, Held, Known, decided, is_captured, joined, known_after, known_by_test,
-    masked_field, nothing_known, one_of, same_field, unreached, with_fact,
+    Claim, Field, Held, Known, decided, is_captured, known_after, known_by_test, masked_field,
+    one_of, same_field, with_fact,
 };
 use flt_bpf::Wide;
 use flt_bpf::operation::{AluOperation, Operand, Operation, Register, Test, decode};
-use std::alloc::{AllocError, Allocator};
+use std::alloc::Allocator;
 
 /// How many instructions a walk passes at most.
 const FUEL: usize = 128;
 
-/// Where a walk is. A would hold this field there, or what it holds where the walk began.
+/// Of how many instructions code is at most in which repeated loads are looked for one by one.
+const SHORT: usize = 64;
+
+/// Where a walk is.
 #[derive(Clone, Copy)]
 pub struct Spot {
     pub place: usize,
+    /// The field that A would hold there, if that isn't what A holds where the walk began.
     pub other: Option<Field>,
 }
 
@@ -262,7 +265,7 @@ fn two_at(known: &Known, other: Option<Field>) -> Option<(Field, u32, u32)>
 }
 
 /// Where a run may go on in place of a place. Where a field is one of two numbers, it is where the
-/// run goes on for each.
+/// run goes on for each. Places are indices into the code after the test.
 fn target(known: &Known, code: &[Wide], from: usize) -> usize
     ensures { result ≡ target known.now code.now from }
 {
@@ -281,7 +284,7 @@ fn target(known: &Known, code: &[Wide], from: usize) -> usize
     }
 }
 
-/// The same of the instructions that a test skips.
+/// How many instructions a test skips once its target is as far on as what is known decides.
 fn moved(known: &Known, following: &[Wide], skipped: u32) -> u32
     ensures { result ≡ moved known.now following.now skipped }
 {
@@ -292,19 +295,10 @@ fn moved(known: &Known, following: &[Wide], skipped: u32) -> u32
     }
 }
 
-/// A run reaches a place with this known.
-fn arrive(known: &mut [Known], at: usize, came: &Known)
-    ensures { known.new ≡ with_arrival known.old at came.now }
-{
-    if at < known.len() {
-        known[at] = joined(&known[at], came);
-    }
-}
-
-/// A test whose targets are as far as what is known decides. A run goes on there, in the code from a
-/// place on.
+/// The test with each target as far on as what is known decides. Notes what is known at both, in
+/// the code whose instruction after the test is at `from`.
 fn thread_test(
-    known: &mut [Known],
+    arrivals: &mut Arrivals,
     from: usize,
     here: &Known,
     insn: Wide,
@@ -312,7 +306,8 @@ fn thread_test(
 ) -> Wide
     requires { from < 2 ^ 63 }
     ensures insn { result ≡ threaded_test (operation_of insn.code) here.now insn following.now }
-    ensures known { known.new ≡ with_ways from (operation_of insn.code) here.now result known.old }
+    ensures arrivals { arrivals.new
+        ≡ with_ways from (operation_of insn.code) here.now result arrivals.old }
 {
     let yes = known_by_test(here, insn, true);
     let no = known_by_test(here, insn, false);
@@ -322,15 +317,15 @@ fn thread_test(
         no: moved(&no, following, insn.no),
         k: insn.k,
     };
-    arrive(known, from + insn.yes as usize, &yes);
-    arrive(known, from + insn.no as usize, &no);
+    arrivals.arrive(from, from + insn.yes as usize, &yes);
+    arrivals.arrive(from, from + insn.no as usize, &no);
     insn
 }
 
-/// An instruction whose targets are as far as what is known decides, if a run comes there. The run
-/// goes on to those after it, the first of which is at a place.
+/// The instruction with each target as far on as what is known decides, if a run comes there. Notes
+/// what is known where the run goes on. The next instruction is at `from`.
 fn thread_insn(
-    known: &mut [Known],
+    arrivals: &mut Arrivals,
     from: usize,
     here: &Known,
     insn: Wide,
@@ -338,63 +333,80 @@ fn thread_insn(
 ) -> Wide
     requires { from < 2 ^ 63 }
     ensures insn { result ≡ threaded_insn (operation_of insn.code) here.now insn following.now }
-    ensures known { known.new ≡ with_arrivals from (operation_of insn.code) here.now result known.old }
+    ensures arrivals { arrivals.new
+        ≡ with_arrivals from (operation_of insn.code) here.now result arrivals.old }
 {
     if let Held::Unreached = here.held {
         return insn;
     }
     match decode(insn.code) {
-        Some(Operation::JumpIf(_, _)) => thread_test(known, from, here, insn, following),
+        Some(Operation::JumpIf(_, _)) => thread_test(arrivals, from, here, insn, following),
         Some(Operation::Jump) => {
-            arrive(known, from + insn.k as usize, here);
+            arrivals.arrive(from, from + insn.k as usize, here);
             insn
         }
         Some(Operation::ReturnConstant | Operation::ReturnAccumulator) => insn,
         _ => {
-            arrive(known, from, &known_after(here, insn));
+            arrivals.arrive(from, from, &known_after(here, insn));
             insn
         }
     }
 }
 
 /// The same for all instructions, with what is known where a run reaches each from those in front.
-fn thread_all(known: &mut [Known], insns: &mut [Wide])
-    requires { length known.old ≡ length insns.old }
-    ensures { insns.new ≡ flow known.old insns.old }
+fn thread_all(arrivals: &mut Arrivals, insns: &mut [Wide])
+    ensures { insns.new ≡ flow 0 arrivals.old insns.old }
 {
     let mut at = 0;
     // The label names the loop in its proof.
     'insns: while at < insns.len() {
-        let (here, old) = (known[at], insns[at]);
-        let insn = thread_insn(known, at + 1, &here, old, &insns[at + 1..]);
+        let (here, old) = (arrivals.known_at(at), insns[at]);
+        let insn = thread_insn(arrivals, at + 1, &here, old, &insns[at + 1..]);
         insns[at] = insn;
         at += 1;
     }
 }
 
-/// The code with its tests as far as what is known decides, where nothing is known so far.
-fn threaded_insns<A: Allocator, B: Allocator>(
-    mut known: Vec<Known, A>,
-    mut insns: Vec<Wide, B>,
-) -> Vec<Wide, B>
-    requires { known.items ≡ replicate (length insns.items) unreached }
+/// The same code, in which each test goes on as far as what is known there decides. Its contract
+/// says how, that of `threaded` what it means.
+fn threaded_insns<A: Allocator>(mut insns: Vec<Wide, A>) -> Vec<Wide, A>
     ensures { result.items ≡ threaded insns.items }
 {
-    arrive(&mut known, 0, &nothing_known());
-    thread_all(&mut known, &mut insns);
+    thread_all(&mut Arrivals::at_start(), &mut insns);
     insns
 }
 
-/// The same code, in which each test goes on as far as what is known there decides. It returns the
-/// same on each packet. Where there is no memory for what is known, its tests stay as they are.
-pub fn threaded<A: Allocator, B: Allocator>(
-    alloc: A,
-    insns: Vec<Wide, B>,
-) -> Result<Vec<Wide, B>, AllocError>
-    ensures { IfOk result (λ code. Threads code.items insns.items) }
-{
-    match vec![in alloc; unreached(); insns.len()] {
-        Ok(known) => Ok(threaded_insns(known, insns)),
-        Err(_) => Ok(insns),
+/// An instruction is a load from the packet.
+fn is_load(insn: Wide) -> bool {
+    matches!(
+        decode(insn.code),
+        Some(
+            Operation::LoadAbsolute(_) | Operation::LoadIndirect(_) | Operation::LoadHeaderLength
+        )
+    )
+}
+
+/// Some load is there twice.
+fn repeats_a_load(insns: &[Wide]) -> bool {
+    match insns {
+        [] => false,
+        [first, others @ ..] => {
+            let again = others
+                .iter()
+                .any(|other| other.code == first.code && other.k == first.k);
+            again && is_load(*first) || repeats_a_load(others)
+        }
     }
+}
+
+/// The same code, in which each test goes on as far as what is known there decides. It returns the
+/// same on each packet. It takes no memory. Short code in which no load is there twice stays as it
+/// is, since nothing is decided in it.
+pub fn threaded<A: Allocator>(insns: Vec<Wide, A>) -> Vec<Wide, A>
+    ensures { Threads result.items insns.items }
+{
+    if insns.len() <= SHORT && !repeats_a_load(&insns) {
+        return insns;
+    }
+    threaded_insns(insns)
 }

@@ -199,13 +199,14 @@ emit_search (suc k) vs hit miss c =
     (emit_search k (take (length vs / 2) vs) hit miss upper.code) upper.entry)
 
 -- how often numbers are halved at most
-abbrev pub LEVELS : ℕ
-LEVELS = 16
+-- how often numbers are halved at most: two aren't, since that would be one more test
+abbrev pub levels_of : ℕ → ℕ
+levels_of count = if nat_lt count 3 then 0 else 16
 
 -- whether a field is one of some numbers
 abbrev pub emit_among : MaskedField → List ℕ → ℕ → ℕ → List Insn → Block
 emit_among f vs hit miss c =
-    at_top (emit_field f.offset f.width (emit_mask f.mask (emit_search LEVELS vs hit miss c).code))
+    at_top (emit_field f.offset f.width (emit_mask f.mask (emit_search (levels_of (length vs)) vs hit miss c).code))
 
 -- the code of a formula that goes on at one of two places
 abbrev pub emit_formula : Link → Formula → ℕ → ℕ → List Insn → Block

@@ -22,7 +22,7 @@ abbrev pub nothing_known : Known
 nothing_known = record {
   held = held.Unknown;
   index = None;
-  facts = replicate 8 nothing_claimed;
+  facts = replicate 5 nothing_claimed;
 }
 
 abbrev pub unreached : Known

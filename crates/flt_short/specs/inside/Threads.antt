@@ -1,5 +1,5 @@
 -- Tests that go on as far as what is known there decides.
-use Rattle.std.specs.Prelude.{ℕ, zero, suc, ◌+◌, ◌^◌, ◌==◌, nat_lt, Bool, true, false, if◌then◌else◌, ◌&&◌, ◌||◌, List, [], ◌∷◌, length, replicate, Option, Some, None, slice_get, slice_set, slice_index_or}
+use Rattle.std.specs.Prelude.{ℕ, zero, suc, ◌+◌, ◌^◌, ◌==◌, nat_lt, Bool, true, false, if◌then◌else◌, ◌&&◌, ◌||◌, List, [], ◌∷◌, length, Option, Some, None, slice_get}
 use Rattle.std.specs.Option.{is_none}
 use Rattle.flt_bpf.specs.declared.insn.Insn.{Insn}
 use Rattle.flt_bpf.specs.declared.operation.Operation.{Operation}
@@ -16,7 +16,9 @@ use Rattle.flt_short.specs.declared.facts.Held.TheVariants as held
 use Rattle.flt_short.specs.declared.facts.Known.{Known}
 use Rattle.flt_short.specs.declared.thread.Spot.{Spot}
 use Rattle.flt_short.specs.declared.thread.Reached.{Reached}
-use Rattle.flt_short.specs.inside.Facts.{nothing_known, unreached, same_field, joined, decided, one_of, with_fact, is_captured, masked_field, known_after, known_by_test}
+use Rattle.flt_short.specs.declared.arrivals.Arrivals.{Arrivals}
+use Rattle.flt_short.specs.inside.Facts.{same_field, decided, one_of, with_fact, is_captured, masked_field, known_after, known_by_test}
+use Rattle.flt_short.specs.inside.Arrivals.{at_start, known_at, arrived}
 
 -- the field that A would hold
 abbrev pub field_at : Held → Option Field → Option Field
@@ -184,41 +186,37 @@ threaded_if h op k i c = threaded_by op k i c
 abbrev pub threaded_insn : Option Operation → Known → Insn → List Insn → Insn
 threaded_insn op k i c = threaded_if k.held op k i c
 
--- a run reaches a place with this known
-abbrev pub with_arrival : List Known → ℕ → Known → List Known
-with_arrival ks at k = slice_set ks at (joined (slice_index_or ks at nothing_known) k)
-
 -- a run goes on where a test leads, in the code from a place on
-abbrev pub with_ways : ℕ → Option Operation → Known → Insn → List Known → List Known
-with_ways from op k i ks =
-    with_arrival (with_arrival ks (from + i.jt) (known_by_test op k.held k i.k true))
-    (from + i.jf) (known_by_test op k.held k i.k false)
+abbrev pub with_ways : ℕ → Option Operation → Known → Insn → Arrivals → Arrivals
+with_ways from op k i seen =
+    arrived (arrived seen from (from + i.jt) (known_by_test op k.held k i.k true))
+    from (from + i.jf) (known_by_test op k.held k i.k false)
 
-abbrev pub with_arrivals_by : ℕ → Option Operation → Known → Insn → List Known → List Known
-with_arrivals_by from (Some (JumpIf test operand)) k i ks =
-    with_ways from (Some (JumpIf test operand)) k i ks
-with_arrivals_by from (Some Jump) k i ks = with_arrival ks (from + i.k) k
-with_arrivals_by from (Some ReturnConstant) k i ks = ks
-with_arrivals_by from (Some ReturnAccumulator) k i ks = ks
-with_arrivals_by from op k i ks = with_arrival ks from (known_after op k i)
+abbrev pub with_arrivals_by : ℕ → Option Operation → Known → Insn → Arrivals → Arrivals
+with_arrivals_by from (Some (JumpIf test operand)) k i seen =
+    with_ways from (Some (JumpIf test operand)) k i seen
+with_arrivals_by from (Some Jump) k i seen = arrived seen from (from + i.k) k
+with_arrivals_by from (Some ReturnConstant) k i seen = seen
+with_arrivals_by from (Some ReturnAccumulator) k i seen = seen
+with_arrivals_by from op k i seen = arrived seen from from (known_after op k i)
 
-abbrev pub with_arrivals_if : Held → ℕ → Option Operation → Known → Insn → List Known → List Known
-with_arrivals_if held.Unreached from op k i ks = ks
-with_arrivals_if h from op k i ks = with_arrivals_by from op k i ks
+abbrev pub with_arrivals_if : Held → ℕ → Option Operation → Known → Insn → Arrivals → Arrivals
+with_arrivals_if held.Unreached from op k i seen = seen
+with_arrivals_if h from op k i seen = with_arrivals_by from op k i seen
 
 -- a run goes on from an instruction to those after it, the first of which is at a place
-abbrev pub with_arrivals : ℕ → Option Operation → Known → Insn → List Known → List Known
-with_arrivals from op k i ks = with_arrivals_if k.held from op k i ks
+abbrev pub with_arrivals : ℕ → Option Operation → Known → Insn → Arrivals → Arrivals
+with_arrivals from op k i seen = with_arrivals_if k.held from op k i seen
 
--- the code with its targets as far as what is known decides, where that is known that comes with the
--- runs from the code in front
-abbrev pub flow : List Known → List Insn → List Insn
-flow ks [] = []
-flow [] (i ∷ is) = i ∷ is
-flow (k ∷ ks) (i ∷ is) =
+-- the code from a place on with its targets as far as what is known decides, where that is known
+-- that comes with the runs from the code in front
+abbrev pub flow : ℕ → Arrivals → List Insn → List Insn
+flow at seen [] = []
+flow at seen (i ∷ is) =
+    let k = known_at seen at in
     let j = threaded_insn (operation_of i.code) k i is in
-    j ∷ flow (with_arrivals 0 (operation_of i.code) k j ks) is
+    j ∷ flow (suc at) (with_arrivals (suc at) (operation_of i.code) k j seen) is
 
 -- the same of a whole program
 abbrev pub threaded : List Insn → List Insn
-threaded is = flow (with_arrival (replicate (length is) unreached) 0 nothing_known) is
+threaded is = flow 0 at_start is

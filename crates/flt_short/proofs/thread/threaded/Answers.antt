@@ -2,8 +2,8 @@
 use Rattle.flt_short.proofs.Threading.{threads, threads_itself}
 use Rattle.flt_short.proofs.thread.threaded.Goals as goal
 
-pub returns-in-Ok : goal.returns-in-Ok
-returns-in-Ok g c = threads c.threaded_insns.result.items c.args.insns.items c.threaded_insns.ensures
+pub returns-then-not-repeats_a_load : goal.returns-then-not-repeats_a_load
+returns-then-not-repeats_a_load g c = threads_itself c.args.insns.items
 
-pub returns-in-Err : goal.returns-in-Err
-returns-in-Err g c = threads_itself c.args.insns.items
+pub returns : goal.returns
+returns g c = threads c.threaded_insns.result.items c.args.insns.items c.threaded_insns.ensures

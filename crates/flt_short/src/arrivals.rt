@@ -1,0 +1,116 @@
+//! What is known where runs go on, of a few places at a time.
+
+ghost use Rattle.std.specs.Prelude.{◌≡◌, ◌≤◌, ◌<◌, ◌-◌, ◌^◌, length};
+ghost use Rattle.flt_short.specs.inside.Arrivals.{first_at, first_free, known_at, arrived};
+ghost use Rattle.flt_short.specs.inside.Arrivals.{at_start};
+
+use crate::facts::{Known, joined, nothing_known, unreached};
+
+/// Of how many places at a time is kept what is known there.
+pub const MOST_PLACES: usize = 8;
+
+/// What is known in the runs that go on at a place, of those seen so far.
+#[derive(Clone, Copy)]
+pub struct Arrival {
+    pub place: usize,
+    pub known: Known,
+}
+
+/// What is known where runs go on.
+#[derive(Drop)]
+pub struct Arrivals {
+    /// Of these places; one that is passed gives way to another.
+    pub kept: [Arrival; MOST_PLACES],
+    /// Of a place in front of this one that isn't kept nothing is known: a run found no room.
+    pub unknown_end: usize,
+}
+
+/// The index of the entry for a place, or their count if there is none.
+fn first_at(kept: &[Arrival], place: usize) -> usize
+    ensures number { result ≡ first_at kept.now place }
+    ensures upper_bound { result ≤ length kept.now }
+{
+    match kept {
+        [] => 0,
+        [first, others @ ..] => {
+            if first.place == place {
+                0
+            } else {
+                1 + first_at(others, place)
+            }
+        }
+    }
+}
+
+/// The index of the first entry whose place is passed, so that it is free, or their count.
+fn first_free(kept: &[Arrival], from: usize) -> usize
+    ensures number { result ≡ first_free kept.now from }
+    ensures upper_bound { result ≤ length kept.now }
+{
+    match kept {
+        [] => 0,
+        [first, others @ ..] => {
+            if first.place < from {
+                0
+            } else {
+                1 + first_free(others, from)
+            }
+        }
+    }
+}
+
+impl Arrivals {
+    /// A run goes on at the first place, and nothing is known.
+    pub fn at_start() -> Self
+        ensures { result ≡ at_start }
+    {
+        // All are entries for place 0: the first one counts, and once it is passed all are free.
+        let arrival = Arrival {
+            place: 0,
+            known: nothing_known(),
+        };
+        Arrivals {
+            kept: [arrival; MOST_PLACES],
+            unknown_end: 0,
+        }
+    }
+
+    /// What is known at a place.
+    pub fn known_at(&self, place: usize) -> Known
+        ensures { result ≡ known_at self.now place }
+    {
+        let at = first_at(&self.kept, place);
+        if at < self.kept.len() {
+            self.kept[at].known
+        } else if place < self.unknown_end {
+            nothing_known()
+        } else {
+            unreached()
+        }
+    }
+
+    /// A run goes on at a place with this known. All places in front of `from` are passed.
+    pub fn arrive(&mut self, from: usize, place: usize, known: &Known)
+        requires { place < 2 ^ 64 - 1 }
+        ensures { self.new ≡ arrived self.old from place known.now }
+    {
+        let at = first_at(&self.kept, place);
+        if at < self.kept.len() {
+            let known = joined(&self.kept[at].known, known);
+            self.kept[at] = Arrival { place, known };
+            return;
+        }
+        if place < self.unknown_end {
+            return;
+        }
+        let free = first_free(&self.kept, from);
+        if free < self.kept.len() {
+            self.kept[free] = Arrival {
+                place,
+                known: *known,
+            };
+        } else {
+            self.unknown_end = place + 1;
+        }
+    }
+}
