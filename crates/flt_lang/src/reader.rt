@@ -212,8 +212,8 @@ impl<A: Allocator> Reader<A> {
         Ok((more, Some(Operand::Truth)))
     }
 
-    /// Reads an operand that begins with a protocol: an accessor as `tcp[` up to its bracket, a cast
-    /// as `ether broadcast`, or another primitive. `tokens` has the protocol first.
+    /// Reads an operand that begins with a protocol: an accessor as `tcp[` up to its bracket, a
+    /// cast as `ether broadcast`, or another primitive. `tokens` has the protocol first.
     fn begin_with_protocol(
         &mut self,
         protocol: Protocol,
