@@ -2,10 +2,10 @@
 ghost use Rattle.std.specs.Prelude.{◌≡◌, ◌&&◌, [], true, ◌<◌, ◌≤◌, ◌-◌, ◌^◌, IsTrue, false, length};
 ghost use Rattle.std.specs.Prelude.{map};
 ghost use Rattle.std.specs.Option.{IfSome};
-ghost use Rattle.cap_inputs.specs.inside.Cursor.{EntersQueue, HasPlaceFor, IsAtCursor, IsNextOfMerge};
-ghost use Rattle.cap_inputs.specs.inside.Cursor.{IsQueued};
-ghost use Rattle.cap_inputs.specs.inside.Cursor.{Leaves, first_schedule, is_merge, schedule_after};
-ghost use Rattle.cap_inputs.specs.inside.Cursor.{schedule_after_decided};
+ghost use Rattle.cap_inputs.specs.inside.Cursor.{EntersQueue, HasPlaceFor, IsAtCursor};
+ghost use Rattle.cap_inputs.specs.inside.Cursor.{IsNextOfMerge, IsQueued, Leaves};
+ghost use Rattle.cap_inputs.specs.inside.Cursor.{first_schedule, is_merge};
+ghost use Rattle.cap_inputs.specs.inside.Cursor.{schedule_after, schedule_after_decided};
 ghost use Rattle.cap_inputs.specs.Fresh.{fresh_view};
 ghost use Rattle.cap_io.specs.Sequence.{order_of};
 ghost use Rattle.cap_octet.specs.Views.{fresh_input};

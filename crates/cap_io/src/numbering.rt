@@ -89,7 +89,7 @@ impl<A: Allocator + Copy> OutputInterfaces<A> {
 impl<A: Allocator> OutputInterfaces<A> {
     ghost use Rattle.cap_io.specs.Text.{FitFile};
 
-    /// Whether a packet's interface is one of these, or one more may be had.
+    /// Whether a packet's interface is one of these already, or one more fits.
     pub fn has_room(&self, packet: &Packet<'_>) -> bool
         ensures { result ≡ nat_le (length (self.now ++ new_among self.now
             (interface_of (captured packet.now)))) most_output_interfaces }

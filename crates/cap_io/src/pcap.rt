@@ -3,8 +3,8 @@ ghost use Rattle.std.specs.Prelude.{◌≡◌, ℕ, ◌+◌, ◌^◌, ◌<◌, �
 ghost use Rattle.std.specs.Prelude.{List, [], length, IfSome, IsNone};
 ghost use Rattle.cap_pcapng.specs.Frame.{is_section};
 ghost use Rattle.cap_io.specs.Capture.{Nothing};
-ghost use Rattle.cap_io.specs.inside.Reading.{HeaderCame, Moves, NothingTaken, ReadsUnit, RecordTaken};
-ghost use Rattle.cap_io.specs.inside.Reading.{NoUnitCame, record_spans};
+ghost use Rattle.cap_io.specs.inside.Reading.{HeaderCame, Moves, NothingTaken, ReadsUnit};
+ghost use Rattle.cap_io.specs.inside.Reading.{RecordTaken, NoUnitCame, record_spans};
 ghost use Rattle.cap_pcap.specs.Record.{most_captured};
 ghost use Rattle.cap_io.specs.declared.file_state.FileState.TheVariants as state;
 
@@ -40,9 +40,9 @@ pub(crate) fn read_header<I: Input>(input: &mut I, first: &[u8; 4]) -> Result<He
     read_file_header(&bytes)
 }
 
-/// The fast way of `next_record`: copies the next record to the start of the buffer if the device has
-/// all of it at hand, the buffer has room for it, and it fails no check. `None` if not: the device is
-/// as before, the buffer may have changed.
+/// The fast way of `next_record`: copies the next record to the start of the buffer if the device
+/// has all of it at hand, the buffer has room for it, and it fails no check. `None` if not: the
+/// device is as before, the buffer may have changed.
 #[inline(always)]
 pub(crate) fn take_record<I: Input>(
     input: &mut I,

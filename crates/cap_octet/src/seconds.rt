@@ -1,6 +1,7 @@
 //! Durations: decimal numbers of seconds that are read as nanoseconds.
 ghost use Rattle.std.specs.Prelude.{◌≡◌, ◌<◌, ◌==◌, IfSome, length, position};
-ghost use Rattle.cap_octet.specs.Seconds.{fraction_nanoseconds, duration_of_parts, duration_value, time_below_end};
+ghost use Rattle.cap_octet.specs.Seconds.{fraction_nanoseconds, duration_of_parts};
+ghost use Rattle.cap_octet.specs.Seconds.{duration_value, time_below_end};
 
 use crate::date::{NANOS_PER_SECOND, TIME_END};
 use crate::digits::decimal_value;
@@ -33,7 +34,7 @@ fn duration_of_parts(seconds: Option<u64>, fraction: Option<u64>) -> Option<u64>
     time_below_end(nanos.checked_add(fraction?)?)
 }
 
-/// The place of the first point in a text, if it has one.
+/// The index of the first `.` (byte 46) in a text, if it has one.
 fn point_in(text: &[u8]) -> Option<usize>
     ensures value { result ≡ position (λ b. b == 46) text.now }
     ensures bound { IfSome result (λ point. point < length text.now) }

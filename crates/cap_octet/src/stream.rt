@@ -1,6 +1,6 @@
 //! Devices over std's buffered readers and writers.
-ghost use Rattle.std.specs.Prelude.{◌≡◌, ℕ, ◌+◌, ◌≤◌, ◌<◌, ◌^◌, ◌||◌, IsTrue, IfOk, None, Option, Some, false};
-ghost use Rattle.std.specs.Prelude.{[], List, true};
+ghost use Rattle.std.specs.Prelude.{◌≡◌, ℕ, ◌+◌, ◌≤◌, ◌<◌, ◌^◌, ◌||◌, IsTrue};
+ghost use Rattle.std.specs.Prelude.{IfOk, None, Option, Some, false, [], List, true};
 ghost use Rattle.std.specs.Prelude.{if◌then◌else◌, is_err, is_some, length};
 ghost use Rattle.std.proofs.Common.{rules};
 ghost use Rattle.std.specs.Io.Buffered.{reader_buffer, reader_remaining, writer_buffer};

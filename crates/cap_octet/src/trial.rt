@@ -77,7 +77,8 @@ impl Input for TrialInput<'_> {
             ≡ ⟦<MemInput<'static> as Input>⟧.given self.old.inner + count_of result }
         ensures bounded { ⟦<MemInput<'static> as Input>⟧.given self.new.inner < 2 ^ 63 }
         ensures failed { self.new.failures.count ≡ self.old.failures.count + failures_of result }
-        ensures sure { option_map {U = ℕ} (λ _. 0) self.new.at ≡ option_map {U = ℕ} (λ _. 0) self.old.at }
+        ensures sure { option_map {U = ℕ} (λ _. 0) self.new.at
+            ≡ option_map {U = ℕ} (λ _. 0) self.old.at }
         ensures exact { IsTrue true
             → Reads (⟦<MemInput<'static> as Input>⟧.unread self.old.inner) buf.old result
             (⟦<MemInput<'static> as Input>⟧.unread self.new.inner) buf.new }
@@ -101,7 +102,8 @@ impl Input for TrialInput<'_> {
         ensures exact { IsTrue true
             → StartsWith (⟦<MemInput<'static> as Input>⟧.unread self.now.inner) result.now }
         ensures all { self.now.at ≡ None
-            → result.now ≡ take self.now.piece (⟦<MemInput<'static> as Input>⟧.unread self.now.inner) }
+            → result.now
+            ≡ take self.now.piece (⟦<MemInput<'static> as Input>⟧.unread self.now.inner) }
     {
         if self.at.is_some() {
             return &[];
@@ -118,7 +120,8 @@ impl Input for TrialInput<'_> {
         ensures bounded { IsTrue result
             → ⟦<MemInput<'static> as Input>⟧.given self.new.inner < 2 ^ 63 }
         ensures failed { self.new.failures.count ≡ self.old.failures.count }
-        ensures sure { option_map {U = ℕ} (λ _. 0) self.new.at ≡ option_map {U = ℕ} (λ _. 0) self.old.at }
+        ensures sure { option_map {U = ℕ} (λ _. 0) self.new.at
+            ≡ option_map {U = ℕ} (λ _. 0) self.old.at }
         ensures exact { IsTrue true
             → Passes (⟦<MemInput<'static> as Input>⟧.unread self.old.inner) count result
             (⟦<MemInput<'static> as Input>⟧.unread self.new.inner) }

@@ -1,4 +1,5 @@
--- An interface by its values, and what is found of it while its options are read.
+-- An interface by its values, the interfaces that a section may have, and the one that the options
+-- of a block describe.
 use Rattle.std.specs.Prelude.{◌≡◌, ◌≤◌, ℕ, length, All, ℤ, pos, List, [], unwrap_or}
 use Rattle.std.specs.Option.{option_map_or}
 use Rattle.cap_octet.specs.declared.number.Order.{Order}

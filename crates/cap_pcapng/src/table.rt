@@ -114,7 +114,8 @@ impl<A: Allocator> Table<A> {
         ensures pushed { OnOk result (self.new ≡ self.old ++ description_of interface.now ∷ []) }
         ensures kept { OnErr result (self.new ≡ self.old) }
         ensures section { FitSection self.new }
-        ensures full { (result ≡ Err Fault.TooManyInterfaces) ↔ (length self.old ≡ most_interfaces) }
+        ensures full { (result ≡ Err Fault.TooManyInterfaces)
+            ↔ (length self.old ≡ most_interfaces) }
         ensures no_memory { IfErr result (λ fault. length self.old < most_interfaces
             → fault ≡ Fault.NoMemory) }
     {

@@ -2,8 +2,8 @@
 ghost use Rattle.std.specs.Prelude.{ℕ, ◌≡◌, ◌^◌, ◌<◌, ◌≤◌, IfSome, None, Ok, Option, length};
 ghost use Rattle.cap_octet.specs.Packet.{captured};
 ghost use Rattle.cap_io.specs.Reading.{most_in_unit};
-ghost use Rattle.cap_process.specs.Verdict.{edited_packet_with, is_before_stop, is_from_start, is_selected};
-ghost use Rattle.cap_process.specs.Verdict.{shifted_time, selects};
+ghost use Rattle.cap_process.specs.Verdict.{edited_packet_with, is_before_stop, is_from_start};
+ghost use Rattle.cap_process.specs.Verdict.{is_selected, shifted_time, selects};
 ghost use Rattle.cap_process.specs.Verdict.{bytes_within_snap, unique, without_first, without_last};
 ghost use Rattle.cap_process.specs.Selector.{marks_in, edit_rule_of};
 ghost use Rattle.cap_process.specs.inside.Selector.{IsWindowFor, ReturnsVerdict};
@@ -106,7 +106,8 @@ fn changed<'a, A: Allocator>(edit: &Edit<A>, packet: &Packet<'a>, time: u64) -> 
     }
 }
 
-/// Whether a packet is no duplicate. Its mark enters the window in either case.
+/// Whether a packet is no duplicate of one that the window remembers; from now on it is remembered
+/// too. Without a window none is a duplicate.
 fn is_unique<A: Allocator>(window: &mut Option<Window<A>>, packet: &Packet<'_>) -> bool
     requires { length packet.now.bytes.now ≤ most_in_unit }
     ensures exact { (n : Option ℕ) (passed : ℕ) (tally : Tally) → IsWindowFor n window.old

@@ -5,8 +5,8 @@ ghost use Rattle.std.specs.Prelude.{true, if◌then◌else◌};
 ghost use Rattle.std.specs.Option.{option_and_then, option_map_or};
 ghost use Rattle.cap_command.specs.Command.{is_time};
 ghost use Rattle.clap.specs.Words.{found_of, rows_of, first_of};
-ghost use Rattle.capkit.specs.Line.{flag_in, format_in, link_in, argument_number, duration_in, text_in};
-ghost use Rattle.capkit.specs.Line.{texts_in, time_in};
+ghost use Rattle.capkit.specs.Line.{flag_in, format_in, link_in, argument_number};
+ghost use Rattle.capkit.specs.Line.{duration_in, text_in, texts_in, time_in};
 
 use cap_octet::{Format, Link, read_duration, read_timestamp};
 use clap::ArgMatches;
@@ -75,7 +75,7 @@ fn number_within(number: Option<u64>, least: u64, most: u64) -> Option<u64>
     }
 }
 
-/// The number from `least` to `most` that the argument has. clap takes no other.
+/// The number that the argument has, if it is given; clap takes only those from `least` to `most`.
 pub fn number(matches: &ArgMatches<'_>, id: &str, least: u64, most: u64) -> Option<u64>
     ensures value { result ≡ argument_number least most id.now (rows_of (found_of matches.now)) }
     ensures bounds { IfSome result (λ n. (least ≤ n) × (n ≤ most)) }
@@ -83,7 +83,7 @@ pub fn number(matches: &ArgMatches<'_>, id: &str, least: u64, most: u64) -> Opti
     number_within(matches.get_one::<u64>(id), least, most)
 }
 
-/// The number of 32 bits from `least` to `most` that the argument has. clap takes no other.
+/// The same for a number of 32 bits.
 pub fn short_number(matches: &ArgMatches<'_>, id: &str, least: u32, most: u32) -> Option<u32>
     ensures value { result ≡ argument_number least most id.now (rows_of (found_of matches.now)) }
     ensures bounds { IfSome result (λ n. (least ≤ n) × (n ≤ most)) }

@@ -36,8 +36,8 @@ fn tell_written(written: Written, length: &mut usize) -> u32
     }
 }
 
-/// Puts the file header of a pcap file, with the greatest snapshot length. By 0 its bytes are at
-/// the start of the buffer; by 225 the buffer has no room for them. `length` is how many they are.
+/// Puts the file header of a pcap file, with the greatest snapshot length, at the start of the
+/// buffer. Returns 0, or 225 if the buffer has no room for it; `length` is its size in either case.
 #[unsafe(no_mangle)]
 pub extern "C" fn capkit_write_file_header(
     nanoseconds: u32,
@@ -52,7 +52,8 @@ pub extern "C" fn capkit_write_file_header(
     tell_written(write_file_header(nanoseconds, link_type, buffer), length)
 }
 
-/// Puts a record of a pcap file. By 204 and 210 its packet isn't held, and the length is 0.
+/// Puts a record of a pcap file, as `capkit_write_file_header` puts the header. A packet that no
+/// record holds is 204 (`TooLong`) or 210 (`TimeOutOfRange`), with the length 0.
 #[unsafe(no_mangle)]
 pub extern "C" fn capkit_write_record(
     nanoseconds: u32,
@@ -79,7 +80,8 @@ pub extern "C" fn capkit_write_section(buffer: &mut [u8], length: &mut usize) ->
     tell_written(write_section(buffer), length)
 }
 
-/// Puts an interface description block. By 208 its name is too long, and the length is 0.
+/// Puts an interface description block, as `capkit_write_file_header` puts a header. A name that is
+/// too long is 208 (`BadOption`), with the length 0.
 #[unsafe(no_mangle)]
 pub extern "C" fn capkit_write_interface(
     link_type: u16,
@@ -94,8 +96,9 @@ pub extern "C" fn capkit_write_interface(
     tell_written(write_interface(link_type, snap, name, buffer), length)
 }
 
-/// Puts an enhanced packet block. By 204, 208, 210 and 221 its packet isn't held, and the length is
-/// 0.
+/// Puts an enhanced packet block, as `capkit_write_file_header` puts a header. A packet that no
+/// block holds is 204 (`TooLong`), 208 (`BadOption`), 210 (`TimeOutOfRange`) or 221
+/// (`TooManyOutputInterfaces`), with the length 0.
 #[unsafe(no_mangle)]
 pub extern "C" fn capkit_write_packet(
     interface: u32,

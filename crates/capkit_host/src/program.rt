@@ -58,6 +58,7 @@ pub fn run_program<J: Engine>(rt: &HostRuntime) -> u8
     let words = match env::args(rt) {
         Ok(words) => words.skip(1).collect(rt.alloc()),
         Err(error) if error.kind() == ErrorKind::InvalidData => return refuse_not_utf8(rt),
+        // Where every word is UTF-8, the lack of memory alone keeps them from being copied.
         Err(_) => Err(AllocError),
     };
     let Ok(words) = words else {

@@ -36,10 +36,10 @@ is_out_of_range (qualified q v) = is_out_of_range_fit (fit_of q.value_type v q.p
 is_out_of_range (compared c a b) = has_wrong_size a || has_wrong_size b
 is_out_of_range _ = false
 
-abbrev pub has_past_bits : TruthTree → Bool
-has_past_bits (valued q v) = is_net (type_or_host q) && is_past_mask v
-has_past_bits (qualified q v) = is_net q.value_type && is_past_mask v
-has_past_bits _ = false
+abbrev pub has_bits_past_mask : TruthTree → Bool
+has_bits_past_mask (valued q v) = is_net (type_or_host q) && is_past_mask v
+has_bits_past_mask (qualified q v) = is_net q.value_type && is_past_mask v
+has_bits_past_mask _ = false
 
 -- a value still lacks qualifiers
 abbrev pub is_unfilled : TruthTree → Bool
@@ -67,7 +67,7 @@ first_fault false false false = None
 abbrev pub tree_fault : Expression → Option ExprFault
 tree_fault e =
     first_fault (some_primitive is_misfit e) (some_primitive is_out_of_range e)
-    (some_primitive has_past_bits e)
+    (some_primitive has_bits_past_mask e)
 
 -- the fault of an expression is reported once its bare values have their qualifiers
 abbrev pub fill_fault : Expression → Option ExprFault
@@ -78,7 +78,7 @@ pub record IsResolved (e : Expression) : Type 0 where
   pub is_filled : some_primitive is_unfilled e ≡ false
   pub fits : some_primitive is_misfit e ≡ false
   pub in_range : some_primitive is_out_of_range e ≡ false
-  pub in_mask : some_primitive has_past_bits e ≡ false
+  pub in_mask : some_primitive has_bits_past_mask e ≡ false
 
 -- the same of a node
 abbrev pub is_misfit_node : Node → Bool
@@ -93,7 +93,7 @@ is_out_of_range_node (node.Qualified q v) = is_out_of_range (qualified q v)
 is_out_of_range_node (node.Load p s) = not (is_size s)
 is_out_of_range_node _ = false
 
-abbrev pub has_past_bits_node : Node → Bool
-has_past_bits_node (node.Valued q v) = has_past_bits (valued q v)
-has_past_bits_node (node.Qualified q v) = has_past_bits (qualified q v)
-has_past_bits_node _ = false
+abbrev pub has_bits_past_mask_node : Node → Bool
+has_bits_past_mask_node (node.Valued q v) = has_bits_past_mask (valued q v)
+has_bits_past_mask_node (node.Qualified q v) = has_bits_past_mask (qualified q v)
+has_bits_past_mask_node _ = false

@@ -46,7 +46,7 @@ impl Node {
     ghost use Rattle.std.specs.Prelude.{◌≡◌, ◌≤◌, ◌<◌, ◌^◌};
     ghost use Rattle.flt_ast.specs.Filled.{completed_node};
     ghost use Rattle.flt_ast.specs.Resolved.{is_misfit_node, is_out_of_range_node};
-    ghost use Rattle.flt_ast.specs.Resolved.{has_past_bits_node};
+    ghost use Rattle.flt_ast.specs.Resolved.{has_bits_past_mask_node};
     ghost use Rattle.flt_ast.specs.Counts.{node_tests, node_size};
     ghost use Rattle.flt_ast.specs.Heights.{height_after, peak_height};
 
@@ -87,8 +87,8 @@ impl Node {
     }
 
     /// Whether the address of a network has bits set that its mask leaves out (E9).
-    pub fn has_past_bits(self) -> bool
-        ensures { result ≡ has_past_bits_node self }
+    pub fn has_bits_past_mask(self) -> bool
+        ensures { result ≡ has_bits_past_mask_node self }
     {
         match self {
             Node::Valued(qualifiers, value) => {

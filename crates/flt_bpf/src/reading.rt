@@ -6,9 +6,9 @@ ghost use Rattle.std.specs.Prelude.{Ok, IfOk, IfErr, IfSome, IfNone as OnNone, M
 ghost use Rattle.std.specs.List.{slice_split};
 ghost use Rattle.flt_bpf.specs.Listing.{lines_of, IsListing};
 ghost use Rattle.flt_bpf.specs.Refusal.{IsReasonFor};
-ghost use Rattle.flt_bpf.specs.inside.Reading.{pieces_after, numeral, after, later_numbers, line_numbers};
-ghost use Rattle.flt_bpf.specs.inside.Reading.{only_of, HasAtMostOne, insn_from, insn_of, read_insns};
-ghost use Rattle.flt_bpf.specs.inside.Reading.{read, IsFaultOf};
+ghost use Rattle.flt_bpf.specs.inside.Reading.{pieces_after, numeral, after, later_numbers};
+ghost use Rattle.flt_bpf.specs.inside.Reading.{line_numbers, only_of, HasAtMostOne, insn_from};
+ghost use Rattle.flt_bpf.specs.inside.Reading.{insn_of, read_insns, read, IsFaultOf};
 
 use crate::fault::ListingFault;
 use crate::insn::Insn;

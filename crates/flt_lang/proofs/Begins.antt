@@ -16,7 +16,7 @@ use Rattle.flt_lang.specs.declared.frame.Operand.TheVariants as operand
 use Rattle.flt_ast.specs.Tree.{len, named, TruthTree, check, cast, sized, bare, valued}
 use Rattle.flt_lang.specs.Values.{is_written}
 use Rattle.flt_lang.specs.inside.Values.{qualifiers_of, value_of}
-use Rattle.flt_lang.specs.Grammar.{is_accessor, is_check, has_casts, of_len, of_name, Truth, of_check, of_cast, of_protocol_cast, of_sized, of_valued, of_bare}
+use Rattle.flt_lang.specs.Grammar.{is_accessor, stands_alone, has_casts, of_len, of_name, Truth, of_check, of_cast, of_protocol_cast, of_sized, of_valued, of_bare}
 use Rattle.flt_ast.specs.inside.Nodes.{truth_onto}
 use Rattle.flt_lang.specs.inside.Parser.{operand_precedence, Begun, begin, valued_of, valued_or, check_of, primitive, bare_of, with_frames}
 use Rattle.flt_lang.proofs.Valued.{qualifiers_sound, value_sound, side_written, left_after}
@@ -57,7 +57,7 @@ truth_begun t ts fs d start r k n a stacked reads nodes h =
 check_sound : (t : TokenKind) (ts : List TokenKind) (fs : List Frame) (d : List Node) (start : List TokenKind) (r : Begun) → Stacked fs d start (t ∷ ts) → with_frames fs (check_of (t ∷ ts) d) ≡ Some r → After r start ts
 check_sound (token.Protocol p) ts fs d start r stacked h =
     let (w, checked, is) = some_first (check_of (token.Protocol p ∷ ts) d) (λ r. Some (r.0, (fs, r.1, r.2))) r h in
-    let (allowed, is_w) = some_then (is_check p) (Some (0, Some operand.Truth, node.Check p ∷ d)) w checked in
+    let (allowed, is_w) = some_then (stands_alone p) (Some (0, Some operand.Truth, node.Check p ∷ d)) w checked in
     truth_begun (token.Protocol p) ts fs d start r 0 (node.Check p) (check p) stacked (of_check allowed) refl (ap (with_frames fs) is_w ∙ is)
 check_sound _ ts fs d start r stacked h = cc
 

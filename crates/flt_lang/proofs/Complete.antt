@@ -17,7 +17,7 @@ use Rattle.flt_lang.specs.declared.frame.Operand.{Operand}
 use Rattle.flt_lang.specs.declared.frame.Operand.TheVariants as operand
 use Rattle.flt_ast.specs.Tree.{NumberTree, literal, TruthTree, bare, Expression}
 use Rattle.flt_lang.specs.Values.{no_mask, prefix, dotted_mask, ReadsValue, number, dotted, ip6, ip6_prefix, mac, range}
-use Rattle.flt_lang.specs.Grammar.{level, is_accessor, is_check, has_casts, Number, of_literal, of_len, of_name, enclosed, of_load, of_sized_load, minus, single, chain, Truth, of_check, of_cast, of_protocol_cast, of_sized, of_valued, of_bare, relation, denial, enclosed_truth, term, terms, IsReadAs, no_tokens, all_tokens}
+use Rattle.flt_lang.specs.Grammar.{level, is_accessor, stands_alone, has_casts, Number, of_literal, of_len, of_name, enclosed, of_load, of_sized_load, minus, single, chain, Truth, of_check, of_cast, of_protocol_cast, of_sized, of_valued, of_bare, relation, denial, enclosed_truth, term, terms, IsReadAs, no_tokens, all_tokens}
 use Rattle.flt_lang.specs.inside.Parser.{◌>>=◌, precedence, operand_precedence, token_precedence, next_precedence, as_number, as_truth, fill, run, all_run, enclosed_operand, prefix_len, next_of, after_operand, IsLoose}
 use Rattle.flt_ast.specs.inside.Nodes.{number_onto, truth_onto, expr_onto}
 use Rattle.flt_lang.proofs.Reducing.{le_true, le_false, reduce_stays}
@@ -197,7 +197,7 @@ reads_number (chain {k = k} {ts = ts} {mid = mid} {rest = rest} {a = a} {b = b} 
     (prefix_or_not o mid l.operand)
 
 -- a protocol with what may follow a truth after it is a check
-check_runs : (p : Protocol) (rest : List TokenKind) (fs : List Frame) (d : List Node) → is_check p ≡ true → 6 ≤ next_precedence rest → run (token.Protocol p ∷ rest) 0 fs None d ≡ run rest 0 fs (Some operand.Truth) (node.Check p ∷ d)
+check_runs : (p : Protocol) (rest : List TokenKind) (fs : List Frame) (d : List Node) → stands_alone p ≡ true → 6 ≤ next_precedence rest → run (token.Protocol p ∷ rest) 0 fs None d ≡ run rest 0 fs (Some operand.Truth) (node.Check p ∷ d)
 check_runs p [] fs d is h = rw is refl
 check_runs p (token.Join j ∷ ts) fs d is h = rw is refl
 check_runs p (token.Close ∷ ts) fs d is h = rw is refl

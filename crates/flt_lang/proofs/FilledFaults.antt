@@ -12,7 +12,7 @@ use Rattle.flt_ast.specs.inside.Nodes.{IsTree}
 use Rattle.flt_ast.specs.Fits.{fit_of, is_misfit_fit, is_proto, is_either}
 use Rattle.flt_ast.specs.Filled.{type_or_host, completed_qualifiers, latest, with_inherited, complete, only_host, expr_inherited, fill_expression}
 use Rattle.flt_ast.specs.inside.Filled.{inherited_nodes}
-use Rattle.flt_ast.specs.Resolved.{is_misfit, is_out_of_range, has_past_bits, is_unfilled, any_primitive, some_primitive, first_fault, fill_fault, IsResolved}
+use Rattle.flt_ast.specs.Resolved.{is_misfit, is_out_of_range, has_bits_past_mask, is_unfilled, any_primitive, some_primitive, first_fault, fill_fault, IsResolved}
 use Rattle.flt_ast.specs.inside.Resolved.{nodes_fault}
 use Rattle.flt_lang.proofs.Filling.{inherited_whole}
 use Rattle.flt_lang.proofs.Primitives.{fault_is}
@@ -75,12 +75,12 @@ no_fault false false false h = (refl, refl, refl)
 
 pub filled_resolved : (e : Expression) → fill_fault e ≡ None → IsResolved (fill_expression e)
 filled_resolved e h =
-    let (m, r, p) = no_fault (some_primitive is_misfit (expr_inherited e)) (some_primitive is_out_of_range (expr_inherited e)) (some_primitive has_past_bits (expr_inherited e)) h in
+    let (m, r, p) = no_fault (some_primitive is_misfit (expr_inherited e)) (some_primitive is_out_of_range (expr_inherited e)) (some_primitive has_bits_past_mask (expr_inherited e)) h in
     record {
       is_filled = none_bare_of e;
       fits = filled_keeps is_misfit (λ q v h. undirected (is_misfit_fit (fit_of (type_or_host q) v q.protocol)) (is_proto (type_or_host q)) q.direction h) e m;
       in_range = filled_keeps is_out_of_range (λ q v h. h) e r;
-      in_mask = filled_keeps has_past_bits (λ q v h. h) e p;
+      in_mask = filled_keeps has_bits_past_mask (λ q v h. h) e p;
     }
 
 -- the fault that the loops find

@@ -9,7 +9,7 @@ use Rattle.flt_ast.specs.declared.node.Node.TheVariants as node
 use Rattle.flt_ast.specs.Tree.{NumberTree, literal, len, named, load, negated, applied, TruthTree, check, cast, sized, bare, valued, qualified, compared, denied, joined, Expression, empty, truth}
 use Rattle.flt_ast.specs.Nodes.{number_nodes, truth_nodes, expr_nodes}
 use Rattle.flt_ast.specs.Fits.{is_size}
-use Rattle.flt_ast.specs.Resolved.{has_wrong_size, is_misfit, is_out_of_range, has_past_bits, any_primitive, some_primitive, tree_fault, is_misfit_node, is_out_of_range_node, has_past_bits_node}
+use Rattle.flt_ast.specs.Resolved.{has_wrong_size, is_misfit, is_out_of_range, has_bits_past_mask, any_primitive, some_primitive, tree_fault, is_misfit_node, is_out_of_range_node, has_bits_past_mask_node}
 use Rattle.flt_ast.specs.inside.Resolved.{nodes_fault}
 
 pub or_assoc : (a b c : Bool) → ((a || b) || c) ≡ (a || (b || c))
@@ -69,7 +69,7 @@ misfit_primitive (compared c a b) rest h =
 misfit_primitive (denied a) rest h = cc
 misfit_primitive (joined j a b) rest h = cc
 
-past_primitive : (a : TruthTree) (rest : List Node) → is_primitive a ≡ true → list_any has_past_bits_node (truth_nodes a rest) ≡ (has_past_bits a || list_any has_past_bits_node rest)
+past_primitive : (a : TruthTree) (rest : List Node) → is_primitive a ≡ true → list_any has_bits_past_mask_node (truth_nodes a rest) ≡ (has_bits_past_mask a || list_any has_bits_past_mask_node rest)
 past_primitive (check p) rest h = refl
 past_primitive (cast p c) rest h = refl
 past_primitive (sized s n) rest h = refl
@@ -77,7 +77,7 @@ past_primitive (bare v) rest h = refl
 past_primitive (valued q v) rest h = refl
 past_primitive (qualified q v) rest h = refl
 past_primitive (compared c a b) rest h =
-    number_free has_past_bits_node (λ _. refl) (λ _. refl) refl (λ _ _. refl) refl (λ _. refl) a (number_nodes b (node.Compare c ∷ rest)) ∙ number_free has_past_bits_node (λ _. refl) (λ _. refl) refl (λ _ _. refl) refl (λ _. refl) b (node.Compare c ∷ rest)
+    number_free has_bits_past_mask_node (λ _. refl) (λ _. refl) refl (λ _ _. refl) refl (λ _. refl) a (number_nodes b (node.Compare c ∷ rest)) ∙ number_free has_bits_past_mask_node (λ _. refl) (λ _. refl) refl (λ _ _. refl) refl (λ _. refl) b (node.Compare c ∷ rest)
 past_primitive (denied a) rest h = cc
 past_primitive (joined j a b) rest h = cc
 
@@ -108,5 +108,5 @@ pub fault_is : (e : Expression) → nodes_fault (expr_nodes e) ≡ tree_fault e
 fault_is e =
     let misfits = some_node is_misfit_node is_misfit (record { primitives = misfit_primitive; denials = refl; joins = λ _. refl }) e in
     let ranges = some_node is_out_of_range_node is_out_of_range (record { primitives = range_primitive; denials = refl; joins = λ _. refl }) e in
-    let pasts = some_node has_past_bits_node has_past_bits (record { primitives = past_primitive; denials = refl; joins = λ _. refl }) e in
+    let pasts = some_node has_bits_past_mask_node has_bits_past_mask (record { primitives = past_primitive; denials = refl; joins = λ _. refl }) e in
     rw (misfits, ranges, pasts) refl

@@ -18,7 +18,7 @@ use Rattle.flt_ast.specs.declared.value.Value.{Value}
 use Rattle.flt_ast.specs.declared.value.Value.TheVariants as value
 use Rattle.flt_ast.specs.Tree.{NumberTree, literal, len, named, load, negated, applied, TruthTree, check, cast, sized, bare, valued, qualified, compared, denied, joined, Expression, empty, truth}
 use Rattle.flt_ast.specs.Filled.{latest, with_inherited, complete, completed_qualifiers, only_host, fill_expression}
-use Rattle.flt_ast.specs.Resolved.{IsResolved, any_primitive, fill_fault, is_misfit, is_out_of_range, is_unfilled, has_past_bits}
+use Rattle.flt_ast.specs.Resolved.{IsResolved, any_primitive, fill_fault, is_misfit, is_out_of_range, is_unfilled, has_bits_past_mask}
 use Rattle.flt_ast.specs.Fits.{fit_of, is_either, is_misfit_fit, is_proto}
 use Rattle.flt_lang.specs.Values.{ReadsProtocol, no_protocol, protocol, ReadsDirection, no_direction, one_side, source_first, of_type, ReadsQualifiers, qualifiers, is_written, ReadsMask, no_mask, prefix, dotted_mask, ReadsValue, number, dotted, ip6, ip6_prefix, mac, range}
 use Rattle.flt_lang.specs.Grammar.{level, Number, of_literal, of_len, of_name, enclosed, of_sized_load, minus, single, chain, Truth, of_check, of_cast, of_protocol_cast, of_sized, of_valued, relation, denial, enclosed_truth, term, terms, IsReadAs, no_tokens, all_tokens}
@@ -202,7 +202,7 @@ in_range_again : (q : CompleteQualifiers) (v : Value) → is_out_of_range (quali
 unfolding as_written
 in_range_again q v h = h
 
-in_mask_again : (q : CompleteQualifiers) (v : Value) → has_past_bits (qualified q v) ≡ false → has_past_bits (valued (as_written q) v) ≡ false
+in_mask_again : (q : CompleteQualifiers) (v : Value) → has_bits_past_mask (qualified q v) ≡ false → has_bits_past_mask (valued (as_written q) v) ≡ false
 unfolding as_written
 in_mask_again q v h = h
 
@@ -217,7 +217,7 @@ faultless : (a : TruthTree) → IsResolved (truth a) → fill_fault (truth (rere
 faultless a r =
     let misfits = keeps is_misfit fits_again only_host a r.is_filled r.fits in
     let ranges = keeps is_out_of_range in_range_again only_host a r.is_filled r.in_range in
-    let masks = keeps has_past_bits in_mask_again only_host a r.is_filled r.in_mask in
+    let masks = keeps has_bits_past_mask in_mask_again only_host a r.is_filled r.in_mask in
     rw (misfits, ranges, masks) refl
 
 whole : (a : TruthTree) → IsWritableTruth a → any_primitive is_unfilled a ≡ false → Truth 1 (truth_tokens false a []) (reread a) []

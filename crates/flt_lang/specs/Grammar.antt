@@ -31,9 +31,9 @@ level operator.And = 3
 level operator.ExclusiveOr = 3
 
 -- the protocols that may stand alone, before a bracket, and before `broadcast` or `multicast`
-abbrev pub is_check : Protocol → Bool
-is_check protocol.Ether = false
-is_check _ = true
+abbrev pub stands_alone : Protocol → Bool
+stands_alone protocol.Ether = false
+stands_alone _ = true
 
 abbrev pub is_accessor : Protocol → Bool
 is_accessor protocol.Icmp6 = false
@@ -70,7 +70,7 @@ pub data Number : ℕ → List TokenKind → NumberTree → List TokenKind → T
 
 -- a truth of level 0 is a term, of level 1 a chain of terms, which associates to the left
 pub data Truth : ℕ → List TokenKind → TruthTree → List TokenKind → Type 0 where
-  of_check : {p : Protocol} {rest : List TokenKind} → is_check p ≡ true
+  of_check : {p : Protocol} {rest : List TokenKind} → stands_alone p ≡ true
       → Truth 0 (token.Protocol p ∷ rest) (check p) rest
   of_cast : {c : Cast} {rest : List TokenKind} → Truth 0 (token.Cast c ∷ rest) (cast None c) rest
   of_protocol_cast : {p : Protocol} {c : Cast} {rest : List TokenKind} → has_casts p ≡ true

@@ -10,7 +10,7 @@ use Rattle.flt_ast.specs.declared.value.Value.TheVariants as value
 use Rattle.flt_ast.specs.Tree.{NumberTree, literal, len, named, load, negated, applied, TruthTree, check, cast, sized, bare, valued, qualified, compared, denied, joined, Expression, empty, truth}
 use Rattle.flt_ast.specs.Filled.{fill_expression}
 use Rattle.flt_ast.specs.Resolved.{fill_fault}
-use Rattle.flt_lang.specs.Grammar.{IsReadAs, has_casts, is_accessor, is_check, kinds_of}
+use Rattle.flt_lang.specs.Grammar.{IsReadAs, has_casts, is_accessor, stands_alone, kinds_of}
 
 -- the numbers that have names
 abbrev pub has_name : ℕ → Bool
@@ -54,7 +54,7 @@ IsWritableNumber (applied o a b) = IsWritableNumber a × IsWritableNumber b
 
 -- and so for a check, and before `broadcast`
 abbrev pub IsWritableTruth : TruthTree → Type 0
-IsWritableTruth (check p) = is_check p ≡ true
+IsWritableTruth (check p) = stands_alone p ≡ true
 IsWritableTruth (cast None c) = Unit {0}
 IsWritableTruth (cast (Some p) c) = has_casts p ≡ true
 IsWritableTruth (sized s n) = n < 2 ^ 32

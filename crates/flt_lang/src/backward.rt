@@ -287,7 +287,8 @@ impl<A: Allocator> Writer<A> {
         protocol: Option<Protocol>,
         cast: Cast,
     ) -> Result<(), AllocError>
-        ensures { OnOk result (self.new ≡ write_node is_operand (node.Cast protocol cast) self.old) }
+        ensures { OnOk result
+            (self.new ≡ write_node is_operand (node.Cast protocol cast) self.old) }
     {
         match protocol {
             None => self.write_word(TokenKind::Cast(cast)),

@@ -1,7 +1,7 @@
 //! Where a protocol may stand: alone, before a bracket, before `broadcast` or `multicast`.
 
 ghost use Rattle.std.specs.Prelude.{◌≡◌, ◌⊎◌, ◌<◌, length};
-ghost use Rattle.flt_lang.specs.Grammar.{is_check, is_accessor, has_casts, kinds_of};
+ghost use Rattle.flt_lang.specs.Grammar.{stands_alone, is_accessor, has_casts, kinds_of};
 ghost use Rattle.flt_lang.specs.inside.Parser.{opening_of};
 
 use crate::primitive::kind_at;
@@ -28,8 +28,8 @@ pub fn read_opening(tokens: &[Token]) -> Opening
 }
 
 /// Whether a protocol may stand alone: `ether` may not.
-pub fn is_check(protocol: Protocol) -> bool
-    ensures { result ≡ is_check protocol }
+pub fn stands_alone(protocol: Protocol) -> bool
+    ensures { result ≡ stands_alone protocol }
 {
     !matches!(protocol, Protocol::Ether)
 }

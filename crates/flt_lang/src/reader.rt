@@ -4,13 +4,14 @@
 ghost use Rattle.std.specs.Prelude.{◌≡◌, ◌≤◌, ◌<◌, ◌∷◌, [], IfErr, IfNone, IfOk, IfSome};
 ghost use Rattle.std.specs.Prelude.{MatchOption, OnOk, length, reverse, List, Some, None, Err};
 ghost use Rattle.std.specs.Prelude.{drop};
-ghost use Rattle.flt_lang.specs.inside.Parser.{IsLoose, precedence, operand_precedence, begin_at};
-ghost use Rattle.flt_lang.specs.inside.Parser.{protocol_begins, opening_of, number_primitive, sized_of};
-ghost use Rattle.flt_lang.specs.inside.Parser.{primitive, bare_of, one_node, with_frames, IsReadFault};
-ghost use Rattle.flt_lang.specs.inside.Parser.{as_number, as_truth, as_sort, prefix_mask, fill, reduce};
-ghost use Rattle.flt_lang.specs.inside.Parser.{after_operator, after_load, accessor_size, after_close};
-ghost use Rattle.flt_lang.specs.inside.Parser.{after_token_at, prefix_len, after_operand, run, finish};
-ghost use Rattle.flt_lang.specs.inside.Parser.{all_run};
+ghost use Rattle.flt_lang.specs.inside.Parser.{IsLoose, precedence, operand_precedence};
+ghost use Rattle.flt_lang.specs.inside.Parser.{begin_at, protocol_begins, opening_of};
+ghost use Rattle.flt_lang.specs.inside.Parser.{number_primitive, sized_of, primitive, bare_of};
+ghost use Rattle.flt_lang.specs.inside.Parser.{one_node, with_frames, IsReadFault, as_number};
+ghost use Rattle.flt_lang.specs.inside.Parser.{as_truth, as_sort, prefix_mask, fill};
+ghost use Rattle.flt_lang.specs.inside.Parser.{reduce, after_operator, after_load, accessor_size};
+ghost use Rattle.flt_lang.specs.inside.Parser.{after_close, after_token_at, prefix_len};
+ghost use Rattle.flt_lang.specs.inside.Parser.{after_operand, run, finish, all_run};
 ghost use Rattle.flt_ast.specs.Nodes.{tree_of};
 ghost use Rattle.flt_ast.specs.inside.Nodes.{IsTree};
 ghost use Rattle.flt_words.specs.declared.token.TokenKind.{TokenKind};
@@ -19,7 +20,7 @@ ghost use Rattle.flt_lang.specs.Grammar.{kinds_of};
 
 use crate::frame::{Frame, Operand, Sort, operand_precedence, token_precedence};
 use crate::primitive::{kind_at, read_value, read_valued};
-use crate::protocols::{Opening, has_casts, is_accessor, is_check, read_opening};
+use crate::protocols::{Opening, has_casts, is_accessor, read_opening, stands_alone};
 use flt_ast::{Expr, NetMask, Node, Value};
 use flt_words::{ExprFault, Operator, Protocol, Token, TokenKind};
 use std::alloc::{AllocError, Allocator};
@@ -211,8 +212,8 @@ impl<A: Allocator> Reader<A> {
         Ok((more, Some(Operand::Truth)))
     }
 
-    /// Reads an operand that begins with a protocol: an accessor as `tcp[` up to its bracket, a cast as
-    /// `ether broadcast`, or another primitive. `tokens` has the protocol first.
+    /// Reads an operand that begins with a protocol: an accessor as `tcp[` up to its bracket, a
+    /// cast as `ether broadcast`, or another primitive. `tokens` has the protocol first.
     fn begin_with_protocol(
         &mut self,
         protocol: Protocol,
@@ -262,7 +263,8 @@ impl<A: Allocator> Reader<A> {
 
     // ---- after an operand
 
-    /// Takes the operand for a number.
+    /// Makes an operand a number: adds its nodes after the others, unless they are there already.
+    /// `NotAnExpression` for a truth.
     fn write_number(&mut self, operand: Operand) -> Result<(), ExprFault>
         ensures ok { OnOk result (as_number operand self.old.nodes ≡ Some self.new.nodes) }
         ensures frames { OnOk result (self.new.frames ≡ self.old.frames) }
@@ -284,7 +286,8 @@ impl<A: Allocator> Reader<A> {
         }
     }
 
-    /// Takes the operand for a truth.
+    /// Makes an operand a truth: adds its node after the others, unless it is there already.
+    /// `NotAnExpression` for what can only be a number.
     fn write_truth(&mut self, operand: Operand) -> Result<(), ExprFault>
         ensures ok { OnOk result (as_truth operand self.old.nodes ≡ Some self.new.nodes) }
         ensures frames { OnOk result (self.new.frames ≡ self.old.frames) }
@@ -304,7 +307,7 @@ impl<A: Allocator> Reader<A> {
         }
     }
 
-    /// Takes the operand for one of a sort.
+    /// Makes an operand one of this sort, by `write_truth` or `write_number`.
     fn write_operand(&mut self, sort: Sort, operand: Operand) -> Result<(), ExprFault>
         ensures ok { OnOk result (as_sort sort operand self.old.nodes ≡ Some self.new.nodes) }
         ensures frames { OnOk result (self.new.frames ≡ self.old.frames) }
@@ -571,7 +574,7 @@ fn read_primitive(tokens: &[Token]) -> Option<(Node, usize)>
         return Some((Node::Valued(qualifiers, value), more));
     }
     match kind_at(tokens, 0) {
-        Some(TokenKind::Protocol(protocol)) if is_check(protocol) => {
+        Some(TokenKind::Protocol(protocol)) if stands_alone(protocol) => {
             Some((Node::Check(protocol), 0))
         }
         _ => None,

@@ -7,7 +7,7 @@ ghost use Rattle.flt_ast.specs.inside.Filled.{inherited_nodes};
 ghost use Rattle.flt_ast.specs.Filled.{only_host};
 ghost use Rattle.flt_ast.specs.Resolved.{fill_fault, IsResolved, is_misfit_node};
 ghost use Rattle.flt_ast.specs.inside.Resolved.{nodes_fault};
-ghost use Rattle.flt_ast.specs.Resolved.{is_out_of_range_node, has_past_bits_node};
+ghost use Rattle.flt_ast.specs.Resolved.{is_out_of_range_node, has_bits_past_mask_node};
 
 use flt_ast::{Expr, Node, Qualifiers};
 use flt_words::{ExprFault, ValueType};
@@ -61,7 +61,7 @@ fn nodes_fault(nodes: &[Node]) -> Option<ExprFault>
         Some(ExprFault::QualifiersDoNotFit)
     } else if has_out_of_range(nodes) {
         Some(ExprFault::ValueOutOfRange)
-    } else if has_past_bits(nodes) {
+    } else if has_bits_past_mask(nodes) {
         Some(ExprFault::BitsPastMask)
     } else {
         None
@@ -83,10 +83,10 @@ fn has_out_of_range(nodes: &[Node]) -> bool
 }
 
 /// Whether some network has bits set that its mask leaves out (E9).
-fn has_past_bits(nodes: &[Node]) -> bool
-    ensures { result ≡ list_any has_past_bits_node nodes.now }
+fn has_bits_past_mask(nodes: &[Node]) -> bool
+    ensures { result ≡ list_any has_bits_past_mask_node nodes.now }
 {
-    nodes.iter().any(|node| node.has_past_bits())
+    nodes.iter().any(|node| node.has_bits_past_mask())
 }
 
 /// Fills in what is left out before each value: the type `host`, the direction `src or dst`.

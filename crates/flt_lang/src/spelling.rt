@@ -2,10 +2,10 @@
 
 ghost use Rattle.std.specs.Prelude.{◌≡◌, ◌<◌, ◌++◌, OnOk};
 ghost use Rattle.std.specs.String.{string_bytes};
-ghost use Rattle.flt_lang.specs.Texts.{protocol_word, join_word, side_word, type_word, size_word};
-ghost use Rattle.flt_lang.specs.Texts.{cast_word, comparison_sign, operator_sign, name_of_number_one};
-ghost use Rattle.flt_lang.specs.Texts.{name_word, dotted_word, mac_word, ip6_word, octet};
-ghost use Rattle.flt_lang.specs.Texts.{hex_byte, bytes_text};
+ghost use Rattle.flt_lang.specs.Texts.{protocol_word, join_word, side_word, type_word};
+ghost use Rattle.flt_lang.specs.Texts.{size_word, cast_word, comparison_sign, operator_sign};
+ghost use Rattle.flt_lang.specs.Texts.{name_of_number_one, name_word, dotted_word};
+ghost use Rattle.flt_lang.specs.Texts.{mac_word, ip6_word, octet, hex_byte, bytes_text};
 ghost use Rattle.flt_lang.specs.Texts.{group_at, groups_text, spelling, next_after};
 ghost use Rattle.flt_lang.specs.Texts.{joins_next, joins_previous, gap, tokens_text};
 

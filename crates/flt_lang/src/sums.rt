@@ -102,6 +102,7 @@ pub(crate) fn nodes_in<A: Allocator>(expr: &Expr<A>) -> u128
 pub(crate) fn words_in<A: Allocator>(expr: &Expr<A>) -> usize
     ensures { result ≡ words_of expr.now }
 {
+    // The newest of the numbers that wait is in the accumulator, which takes no word.
     most_waiting(&expr.nodes) - 1
 }
 

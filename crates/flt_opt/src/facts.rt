@@ -2,10 +2,10 @@
 //! is, and outcomes of tests leave some of these.
 
 ghost use Rattle.std.specs.Prelude.{◌≡◌, ℕ, ◌<◌, true, false, List, length, Some, IfSome, IsTrue};
-ghost use Rattle.flt_opt.specs.inside.Facts.{in_piece, in_either};
-ghost use Rattle.flt_opt.specs.inside.Facts.{before, only, starting, past, outcome, IsWithin, NeverIs};
-ghost use Rattle.flt_opt.specs.inside.Facts.{IsIn, part, HasNumbers, NeverSo, NeverAmong, CannotBe};
-ghost use Rattle.flt_opt.specs.inside.Facts.{IsDecided, AllLearnt, LearntHolds};
+ghost use Rattle.flt_opt.specs.inside.Facts.{in_piece, in_either, before, only, starting};
+ghost use Rattle.flt_opt.specs.inside.Facts.{past, outcome, IsWithin, NeverIs, IsIn};
+ghost use Rattle.flt_opt.specs.inside.Facts.{part, HasNumbers, NeverSo, NeverAmong};
+ghost use Rattle.flt_opt.specs.inside.Facts.{CannotBe, IsDecided, AllLearnt, LearntHolds};
 ghost use Rattle.flt_opt.specs.inside.Terms.{value};
 ghost use Rattle.flt_opt.specs.declared.note.Piece.{Piece};
 
@@ -58,7 +58,7 @@ const FEW_PIECES: usize = 3;
 pub const OUTCOMES: usize = 4;
 
 /// The first outcome, as a walk keeps outcomes: the places of others say nothing yet.
-pub fn kept_outcomes(learnt: &[Learnt]) -> [Learnt; OUTCOMES]
+pub fn outcomes_at_start(learnt: &[Learnt]) -> [Learnt; OUTCOMES]
     ensures { (p : List ℕ) (n : ℕ) → AllLearnt p n learnt.now → AllLearnt p n result }
 {
     let nothing = Learnt {

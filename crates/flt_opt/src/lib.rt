@@ -16,7 +16,7 @@ mod tests;
 mod validator;
 mod walk;
 
-pub use facts::{Knowledge, Learnt, OUTCOMES, decided, kept_outcomes, outcome, with_newest};
+pub use facts::{Knowledge, Learnt, OUTCOMES, decided, outcome, outcomes_at_start, with_newest};
 pub use follows::{is_there, same_accumulator, same_index, source};
 pub use note::{Both, Fact, Load, Note, Notes, Piece, Registers, Span, Term};
 pub use terms::{

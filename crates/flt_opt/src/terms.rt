@@ -2,11 +2,12 @@
 //! number.
 
 ghost use Rattle.std.specs.Prelude.{◌≡◌, IsTrue};
-ghost use Rattle.flt_opt.specs.inside.Terms.{indirect, mask_of, masked, sum, computed, accumulator_after};
-ghost use Rattle.flt_opt.specs.inside.Terms.{index_after, after, after_both, after_old, after_new, asked};
-ghost use Rattle.flt_opt.specs.inside.Terms.{reads_accumulator, reads_index, sets_accumulator, sets_index};
-ghost use Rattle.flt_opt.specs.inside.Terms.{is_known, is_sure, is_jump, leads_on, returns, test_of};
-ghost use Rattle.flt_opt.specs.inside.Terms.{after_loads, is_load};
+ghost use Rattle.flt_opt.specs.inside.Terms.{indirect, mask_of, masked, sum, computed};
+ghost use Rattle.flt_opt.specs.inside.Terms.{accumulator_after, index_after, after, after_both};
+ghost use Rattle.flt_opt.specs.inside.Terms.{after_old, after_new, asked, reads_accumulator};
+ghost use Rattle.flt_opt.specs.inside.Terms.{reads_index, sets_accumulator};
+ghost use Rattle.flt_opt.specs.inside.Terms.{sets_index, is_known, is_sure, is_jump, leads_on};
+ghost use Rattle.flt_opt.specs.inside.Terms.{returns, test_of, after_loads, is_load};
 
 use crate::note::{Both, Load, Registers, Term};
 use flt_bpf::operation::{AluOperation, Operand, Operation, Register, Source, Test, Width};
@@ -214,7 +215,8 @@ pub fn sets_index(operation: Operation) -> bool
     )
 }
 
-/// What is known of both runs after each did an operation with the same operands.
+/// What is known of both runs after each did an operation with the same operands: the register that
+/// it sets is the same in both.
 pub fn after_both(operation: Operation, k: u32, both: Both) -> Both
     ensures { result ≡ after_both operation k both }
 {

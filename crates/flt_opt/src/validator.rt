@@ -20,7 +20,7 @@ ghost use Rattle.flt_opt.specs.inside.Terms.{Agree};
 ghost use Rattle.flt_bpf.specs.Machine.{start};
 ghost use Rattle.flt_opt.specs.inside.Facts.{part, IsDecided};
 
-use crate::facts::{Knowledge, Learnt, decided, facts_in, kept_outcomes, outcome};
+use crate::facts::{Knowledge, Learnt, decided, facts_in, outcome, outcomes_at_start};
 use crate::follows::{both_fit, facts_follow, same_accumulator, same_index};
 use crate::note::{Both, Fact, Note, Notes, Registers, Term};
 use crate::terms::{
@@ -88,7 +88,7 @@ fn leads_to_note(
     let from = Stage {
         at: way.old,
         known: way.both,
-        learnt: kept_outcomes(learnt),
+        learnt: outcomes_at_start(learnt),
         met: None,
     };
     let pieces = knowledge.pieces;

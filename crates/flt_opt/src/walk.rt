@@ -11,8 +11,8 @@ ghost use Rattle.flt_bpf.specs.Machine.{test_holds};
 ghost use Rattle.flt_opt.specs.inside.Facts.{AllLearnt};
 ghost use Rattle.flt_opt.specs.inside.Terms.{Agree, Holds};
 ghost use Rattle.flt_bpf.specs.declared.machine.State.{State};
-ghost use Rattle.flt_opt.specs.inside.Alike.{IsSure, Passes, Reaches, Advances, Drifts, IsRejection};
-ghost use Rattle.flt_opt.specs.inside.Alike.{Rejects};
+ghost use Rattle.flt_opt.specs.inside.Alike.{IsSure, Passes, Reaches, Advances};
+ghost use Rattle.flt_opt.specs.inside.Alike.{Drifts, IsRejection, Rejects};
 
 use crate::facts::{Knowledge, Learnt, OUTCOMES, decided, outcome, with_newest};
 use crate::follows::{common_both, is_there};

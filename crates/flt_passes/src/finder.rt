@@ -273,7 +273,7 @@ impl<A: Allocator + Clone> Finder<'_, A> {
     }
 
     /// The index of the note on a side of a test, if one is found.
-    fn note_on_side(
+    fn arrive_on_side(
         &mut self,
         way: &Way,
         insn: Wide,
@@ -291,8 +291,8 @@ impl<A: Allocator + Clone> Finder<'_, A> {
         insn: Wide,
         rule: Rule,
     ) -> Result<Option<(usize, usize)>, AllocError> {
-        let yes = self.note_on_side(way, insn, rule, true)?;
-        let no = self.note_on_side(way, insn, rule, false)?;
+        let yes = self.arrive_on_side(way, insn, rule, true)?;
+        let no = self.arrive_on_side(way, insn, rule, false)?;
         Ok(yes.zip(no))
     }
 
@@ -312,7 +312,7 @@ impl<A: Allocator + Clone> Finder<'_, A> {
                 match way.facts.decide(&self.found.pieces, test, insn.k, term) {
                     None => self.notes_on_sides(way, insn, rule),
                     Some(holds) => {
-                        let note = self.note_on_side(way, insn, rule, holds)?;
+                        let note = self.arrive_on_side(way, insn, rule, holds)?;
                         Ok(note.map(|note| (note, note)))
                     }
                 }

@@ -183,7 +183,9 @@ impl<A: Allocator + Clone> Gathering<A> {
         Ok(at)
     }
 
-    /// Puts a test last, and a load of its field unless A holds it. Returns where they begin.
+    /// Adds nodes at the end that make the test of a link, and go on to `no` if it fails: the test,
+    /// and a load of its field unless A holds that one (`held`). Returns the index of the first to
+    /// run.
     fn put_test(
         &mut self,
         chain: &Chain<A>,
@@ -202,6 +204,7 @@ impl<A: Allocator + Clone> Gathering<A> {
         if link.field == held {
             return Ok(test);
         }
+        // A field has the code of a load, so there is one.
         let Some(operation) = decode(link.field.code) else {
             return Ok(test);
         };

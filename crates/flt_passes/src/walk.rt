@@ -8,7 +8,7 @@ use flt_bpf::Wide;
 use flt_bpf::operation::{Operation, decode};
 use flt_opt::{
     Both, Knowledge, Learnt, OUTCOMES, Piece, after_old, asked, decided, is_sure, is_there,
-    kept_outcomes, outcome, same_accumulator, same_index, test_of, with_newest,
+    outcome, outcomes_at_start, same_accumulator, same_index, test_of, with_newest,
 };
 use std::alloc::Allocator;
 
@@ -306,7 +306,7 @@ pub(crate) fn walk_to_replaced<A: Allocator>(
     let start = Way {
         here: *from,
         may_fail: false,
-        learnt: kept_outcomes(&[]),
+        learnt: outcomes_at_start(&[]),
     };
     let (way, is_goal) = walker.walk(start)?;
     if is_goal {

@@ -1,4 +1,4 @@
--- The table of a section's interfaces: what is found in it, and what is added.
+-- What is found of an interface while its options are read, one after another.
 use Rattle.std.specs.Prelude.{◌≡◌, ◌≤◌, ℕ, length, IfSome, ◌==◌, if◌then◌else◌, Bool, false, List, is_some}
 use Rattle.std.specs.Option.{option_map, option_copied, option_or}
 use Rattle.cap_octet.specs.declared.number.Order.{Order}

@@ -118,7 +118,7 @@ impl Reader {
         }
     }
 
-    /// How many interfaces of the section are known, in a table with room for `room`.
+    /// How many interfaces the section has so far; no more than `room` and 256, whatever C wrote.
     pub(crate) fn known_interfaces(&self, room: usize) -> usize
         ensures value { result ≡ most_known self.now room }
         ensures fits { result ≤ room }

@@ -203,8 +203,7 @@ fn packet_at(at: usize, placed: &UnitPacket) -> Packet
     }
 }
 
-/// How many interfaces of the section are known, in a table with room for `room`; none before the
-/// first unit.
+/// How many interfaces the section has so far, at most `room`; none before the first unit.
 fn known_interface_count(reader: &Reader, form: FileState, room: usize) -> usize
     ensures counts { Counts form reader.now room result }
     ensures bare { IsBare form result }

@@ -3,10 +3,10 @@ use Rattle.std.specs.Prelude.{List, Option}
 use Rattle.std.specs.List.{list_any}
 use Rattle.flt_words.specs.declared.fault.ExprFault.{ExprFault}
 use Rattle.flt_ast.specs.declared.node.Node.{Node}
-use Rattle.flt_ast.specs.Resolved.{first_fault, is_misfit_node, is_out_of_range_node, has_past_bits_node}
+use Rattle.flt_ast.specs.Resolved.{first_fault, is_misfit_node, is_out_of_range_node, has_bits_past_mask_node}
 
 -- and of nodes
 abbrev pub nodes_fault : List Node → Option ExprFault
 nodes_fault ns =
     first_fault (list_any is_misfit_node ns) (list_any is_out_of_range_node ns)
-    (list_any has_past_bits_node ns)
+    (list_any has_bits_past_mask_node ns)

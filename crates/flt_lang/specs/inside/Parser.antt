@@ -22,7 +22,7 @@ use Rattle.flt_lang.specs.declared.frame.Operand.TheVariants as operand
 use Rattle.flt_lang.specs.declared.frame.Sort.{Sort}
 use Rattle.flt_lang.specs.declared.frame.Sort.TheVariants as sort
 use Rattle.flt_lang.specs.inside.Values.{qualifiers_of, value_of}
-use Rattle.flt_lang.specs.Grammar.{level, is_check, is_accessor, has_casts}
+use Rattle.flt_lang.specs.Grammar.{level, stands_alone, is_accessor, has_casts}
 
 -- what the parser keeps: the frames that wait and the nodes that are written
 pub record ReaderState : Type 0 where
@@ -204,7 +204,7 @@ valued_of ts =
 
 abbrev pub check_of : List TokenKind → List Node → Option Primitive
 check_of (token.Protocol p ∷ ts) d =
-    if is_check p then Some (0, Some operand.Truth, node.Check p ∷ d) else None
+    if stands_alone p then Some (0, Some operand.Truth, node.Check p ∷ d) else None
 check_of _ d = None
 
 abbrev pub valued_or : Option (Qualifiers × Value × ℕ) → List TokenKind → List Node
