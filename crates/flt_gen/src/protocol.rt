@@ -55,7 +55,10 @@ impl<A: Allocator> Steps<A> {
     fn put_ip6_proto(&mut self, link: Link, protocol: u32) -> Result<(), AllocError>
         ensures { OnOk result (IsPut (ip6_proto link protocol) self.old self.new) }
     {
-        self.check_all(&[kind_test(link, FrameKind::Ip6), has_ip6_proto(link, protocol)])
+        self.check_all(&[
+            kind_test(link, FrameKind::Ip6),
+            has_ip6_proto(link, protocol),
+        ])
     }
 
     fn put_any_proto(&mut self, link: Link, protocol: u32) -> Result<(), AllocError>

@@ -367,8 +367,8 @@ fn thread_all(arrivals: &mut Arrivals, insns: &mut [Wide])
     }
 }
 
-/// The same code, in which each test goes on as far as what is known there decides. Its contract
-/// says how, that of `threaded` what it means.
+/// The same code, in which each test goes on as far as what is known there decides. Here the
+/// contract defines the code; that of `threaded` states what follows.
 fn threaded_insns<A: Allocator>(mut insns: Vec<Wide, A>) -> Vec<Wide, A>
     ensures { result.items ≡ threaded insns.items }
 {
@@ -380,9 +380,7 @@ fn threaded_insns<A: Allocator>(mut insns: Vec<Wide, A>) -> Vec<Wide, A>
 fn is_load(insn: Wide) -> bool {
     matches!(
         decode(insn.code),
-        Some(
-            Operation::LoadAbsolute(_) | Operation::LoadIndirect(_) | Operation::LoadHeaderLength
-        )
+        Some(Operation::LoadAbsolute(_) | Operation::LoadIndirect(_) | Operation::LoadHeaderLength)
     )
 }
 
