@@ -33,6 +33,7 @@ use Rattle.cap_tools.proofs.CommandRuns.{RunsBy}
 use Rattle.cap_tools.proofs.Runs.{JobRuns}
 use Rattle.cap_tools.specs.FirstStep.{filtering}
 use Rattle.cap_tools.specs.inside.FirstStep.{output_of, output_name}
+use Rattle.cap_octet.specs.declared.fault.Fault.TheVariants.{NoMemory}
 use Rattle.cap_tools.specs.Jobs.{JobView, end_status, end_message, first_job}
 use Rattle.cap_tools.specs.declared.step.JobEnd.{JobEnd}
 use Rattle.cap_tools.specs.declared.step.JobEnd.TheVariants as end
@@ -42,7 +43,7 @@ use Rattle.cap_tools.specs.inside.Packets.{texts}
 use Rattle.cap_process.specs.Outcome.{Outcome, JobProgress, Work, IsNextAnswer, NeedsMemory, cut_at, message, outcome, status, text_after, text_of_progress}
 use Rattle.cap_process.specs.Output.{failures_to, form_to, target_at, written_to}
 use Rattle.cap_process.specs.Reports.{name_at}
-use Rattle.cap_tools.specs.Run.{CommandRuns, HasCutInput, HasLackedMemory, HasLeft, HasLostOutput, IsPolicy, IsWhyRefused, IsWork, ends, form_asked, input_cut, listing_answer, listing_outcome, no_memory, of_listing, of_packets, of_refusal, output_failed, packets_answer, refusal_outcome, whole_inputs}
+use Rattle.cap_tools.specs.Run.{CommandRuns, HasLeft, HasLostOutput, IsPolicy, IsWhyRefused, IsWork, ends, fault_outcome, form_asked, listing_answer, listing_outcome, of_cut_input, of_events, of_listing, of_packets, of_refusal, output_failed, packets_answer, refusal_outcome, whole_inputs}
 use Rattle.cap_tools.specs.Start.{Assignment, Preparing, ReadsFilter, Compiles}
 use Rattle.cap_filter.specs.FilterRules.{Rule}
 use Rattle.flt_bpf.specs.Content.{Content}
@@ -218,7 +219,7 @@ packets-run asked call first r b runs = by_end runs.end refl runs.leaves
     says : (input : ℕ) (fault : Fault) (offset : ℕ) → runs.end ≡ end.FaultIn input fault → offset_at runs.last.inputs.cursors input ≡ offset → text ≡ fault_message (name_at names input) offset fault
     says input fault offset is place = ap (end_message names runs.last.inputs.cursors) is ∙ ap (λ n. fault_message (name_at names input) n fault) place
 
-    cuts : (input : ℕ) (fault : Fault) (after : SourceView) → runs.end ≡ end.FaultIn input fault → offset_at runs.last.inputs.cursors input ≡ after.offset → EndsByCut d runs.last input fault after → HasCutInput call w r
+    cuts : (input : ℕ) (fault : Fault) (after : SourceView) → runs.end ≡ end.FaultIn input fault → offset_at runs.last.inputs.cursors input ≡ after.offset → EndsByCut d runs.last input fault after → CommandRuns asked call r
     cuts input fault after is place cut =
         let items = cut.held in
         let text_of : From (λ (o : FreshInput). o.text) (slice_get call.inputs input) cut.past.text =
@@ -231,37 +232,36 @@ packets-run asked call first r b runs = by_end runs.end refl runs.leaves
         ∙ ap (option_map (λ (h : InputView). limits_of h.source)) cut.cursor_is) in
         let same : text_of.from ≡ limits.from = (let e = sym text_of.is ∙ limits.is in cc) in
         let known : fresh_limits text_of.from ≡ limits_of cut.cursor.source = ap fresh_limits same ∙ limits.same in
-        record {
-          place = input;
+        ends (outcome w call.names (cut_at (whole_inputs call) input items))
+        (of_cut_input w b.work input items (record {
           input = text_of.from;
           among = text_of.is;
           fault = fault;
-          held = items;
           cut = record { done = cut.cut.done; rest = cut.cut.rest; joined = text_of.same ∙ cut.cut.joined; units = cut.cut.units; ending = cut.cut.ending };
           why = elim cut.why [
             | inl failed ↦ inl (failed.0, fails-short text_of.from cut.cursor.source after cut.past.text cut.cut.done cut.cut.rest items.declared known text_of.same failed.1)
             | inr full ↦ inr full
           ];
-          left = left (cut_at (wholes_of runs.progress.past) input items) (cut_at (whole_inputs call) input items) (FaultIn input fault after.offset)
-              (ap (λ (l : List InputItems). cut_at l input items) wholes-are) cut.comes (says input fault after.offset is place) (ap end_status is);
-        }
+        }))
+        (left (cut_at (wholes_of runs.progress.past) input items) (cut_at (whole_inputs call) input items) (FaultIn input fault after.offset)
+        (ap (λ (l : List InputItems). cut_at l input items) wholes-are) cut.comes (says input fault after.offset is place) (ap end_status is))
 
-    lacks-memory : (input : ℕ) (fault : Fault) (after : SourceView) → runs.end ≡ end.FaultIn input fault → offset_at runs.last.inputs.cursors input ≡ after.offset → WantsMemory d runs.last input fault after → HasLackedMemory call w r
+    lacks-memory : (input : ℕ) (fault : Fault) (after : SourceView) → runs.end ≡ end.FaultIn input fault → offset_at runs.last.inputs.cursors input ≡ after.offset → WantsMemory d runs.last input fault after → CommandRuns asked call r
     lacks-memory input fault after is place wants =
         let V : Work → Type 0 = λ v. NeedsMemory v (wholes_of runs.progress.past) d.events input wants.packet in
         let L : List InputItems → Type 0 = λ l. NeedsMemory w l d.events input wants.packet in
-        record {
-          events = d.events;
-          input = input;
-          packet = wants.packet;
-          needs = subst L wholes-are (subst V work-is wants.needs);
+        let one : r.status ≡ 1 = runs.status_is ∙ ap end_status is in
+        ends (fault_outcome (text_after w d.events) (fault_message (name_at call.names input) wants.packet.offset NoMemory))
+        (of_events w b.work d.events input wants.packet (subst L wholes-are (subst V work-is wants.needs)))
+        (record {
           output = runs.written ∙ wants.written ∙ so-far;
           failures = runs.failures ∙ wants.device ∙ unfailed;
           message = reported (says input fault wants.packet.offset is (place ∙ wants.place)
               ∙ ap (λ (n : List (List ℕ)). fault_message (name_at n input) wants.packet.offset fault) b.names
               ∙ ap (fault_message (name_at call.names input) wants.packet.offset) wants.why);
-          status = runs.status_is ∙ ap end_status is;
-        }
+          quiet = λ zero. absurd (omega (arith, one, zero));
+          status = one;
+        })
 
     loses-output : runs.end ≡ end.OutputFailed → StopsWriting d runs.last → HasLostOutput asked call r
     loses-output is stops =
@@ -294,8 +294,8 @@ packets-run asked call first r b runs = by_end runs.end refl runs.leaves
         elim breaks.why [
           | inl comes ↦ whole-ends (FaultIn input fault breaks.cursor.source.offset) comes (says input fault breaks.cursor.source.offset is place) (ap end_status is)
           | inr other ↦ elim other [
-            | inl cut ↦ input_cut w b.work (cuts input fault breaks.cursor.source is place cut)
-            | inr wants ↦ no_memory w b.work (lacks-memory input fault breaks.cursor.source is place wants)
+            | inl cut ↦ cuts input fault breaks.cursor.source is place cut
+            | inr wants ↦ lacks-memory input fault breaks.cursor.source is place wants
           ]
         ]
     by_end end.OutputFailed is stops = output_failed (loses-output is stops)

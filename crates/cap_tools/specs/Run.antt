@@ -68,7 +68,35 @@ refusal_outcome why =
 abbrev pub listing_outcome : List Insn → Outcome
 listing_outcome prog = record { output = listing prog; messages = []; status = 0 }
 
--- what a command defines; or no memory for its filter or its expression
+abbrev pub fault_outcome : (output messages : List ℕ) → Outcome
+fault_outcome output messages = record { output = output; messages = messages; status = 1 }
+
+-- ---- what a run leaves
+
+-- Why an input is cut short after these whole units: a read failed, and the device wasn't sure of
+-- the last of the bytes that decide what follows; or there was no memory for its next unit, which is
+-- longer than each that the block held, or describes an interface.
+abbrev pub IsWhyCut : Fault → FreshInput → (done rest : List ℕ) → Declared → Type 0
+IsWhyCut fault input done rest declared =
+    ((fault ≡ ReadFailed)
+    × HasGiven input.sure (input.given + length done + (decisive_length declared rest - 1)))
+    ⊎ ((fault ≡ NoMemory) × MemoryEndsAt done rest declared)
+
+-- an input ends by a fault where one of its units would begin; before that it has these items
+pub record IsCutInput (call : Call) (place : ℕ) (held : Items) : Type 0 where
+  pub input : FreshInput
+  pub among : slice_get call.inputs place ≡ Some input
+  pub fault : Fault
+  pub cut : IsCutShort input.text fault held
+  pub why : IsWhyCut fault input cut.done cut.rest held.declared
+
+-- What a run may leave where its output doesn't fail:
+-- what the command defines of its inputs, the message on a filter or an expression that is refused,
+-- or a listing;
+-- what it defines where an input is cut short;
+-- what is written of some events, where there was no memory to write the next packet;
+-- nothing but a message, where there was no memory to begin. No clause can say that an allocation
+-- failed, so this may always be left, but then it is exactly this.
 pub data IsOutcome (asked : Assignment) (call : Call) : Outcome → Type 0 where
   of_packets : (work : Work) → IsWork asked call work
       → IsOutcome asked call (outcome work call.names (whole_inputs call))
@@ -77,9 +105,18 @@ pub data IsOutcome (asked : Assignment) (call : Call) : Outcome → Type 0 where
   of_listing : (words : List ℕ) (link : Link) (prog : List Insn)
       → asked.preparing ≡ Some (Compiles words link) → IsCompiled words link prog
       → IsOutcome asked call (listing_outcome prog)
+  of_cut_input : (work : Work) → IsWork asked call work → (place : ℕ) (held : Items)
+      → IsCutInput call place held
+      → IsOutcome asked call (outcome work call.names (cut_at (whole_inputs call) place held))
+  of_events : (work : Work) → IsWork asked call work
+      → (events : List Event) (input : ℕ) (packet : Placed)
+      → NeedsMemory work (whole_inputs call) events input packet
+      → IsOutcome asked call (fault_outcome (text_after work events)
+      (fault_message (name_at call.names input) packet.offset NoMemory))
+  of_nothing : IsOutcome asked call (fault_outcome [] no_memory_message)
 
--- The outcome is written after what the output held, and reported. The output's device didn't
--- fail.
+-- The outcome is written after what was written to the output's device before the call, and
+-- reported. The output's device didn't fail.
 pub record HasLeft (call : Call) (o : Outcome) (r : RunResult) : Type 0 where
   pub output : r.output.written ≡ call.output.written ++ o.output
   pub failures : r.output.failures ≡ call.output.failures
@@ -87,49 +124,6 @@ pub record HasLeft (call : Call) (o : Outcome) (r : RunResult) : Type 0 where
   -- where all went well the messages' device isn't called
   pub quiet : r.status ≡ 0 → r.messages ≡ call.messages
   pub status : r.status ≡ o.status
-
--- ---- an input is cut short
-
--- Why an input is cut short after these whole units: a read failed, and all that the device was sure
--- to give was one byte short, or more, of those that decide what follows; or there was no memory for its next unit, which is
--- longer than each that the block held, or describes an interface.
-abbrev pub IsWhyCut : Fault → FreshInput → (done rest : List ℕ) → Declared → Type 0
-IsWhyCut fault input done rest declared =
-    ((fault ≡ ReadFailed)
-    × HasGiven input.sure (input.given + length done + (decisive_length declared rest - 1)))
-    ⊎ ((fault ≡ NoMemory) × MemoryEndsAt done rest declared)
-
--- The outcome is that of inputs one of which ends by this fault where one of its units would begin.
-pub record HasCutInput (call : Call) (work : Work) (r : RunResult) : Type 0 where
-  pub place : ℕ
-  pub input : FreshInput
-  pub among : slice_get call.inputs place ≡ Some input
-  pub fault : Fault
-  pub held : Items
-  pub cut : IsCutShort input.text fault held
-  pub why : IsWhyCut fault input cut.done cut.rest held.declared
-  pub left : HasLeft call (outcome work call.names (cut_at (whole_inputs call) place held)) r
-
--- ---- memory runs out
-
--- after these events there was no memory to write the next packet
-pub record HasLackedMemory (call : Call) (work : Work) (r : RunResult) : Type 0 where
-  pub events : List Event
-  pub input : ℕ
-  pub packet : Placed
-  pub needs : NeedsMemory work (whole_inputs call) events input packet
-  pub output : r.output.written ≡ call.output.written ++ text_after work events
-  pub failures : r.output.failures ≡ call.output.failures
-  pub message : IsTold call.tells call.messages
-      (fault_message (name_at call.names input) packet.offset NoMemory) r.messages
-  pub status : r.status ≡ 1
-
--- There was no memory to begin: nothing is written but a message. No clause can say that an
--- allocation failed, so a run may always leave this.
-pub record NeverBegan (call : Call) (r : RunResult) : Type 0 where
-  pub status_is : r.status ≡ 1
-  pub same : r.output ≡ call.output
-  pub exact : IsTold call.tells call.messages no_memory_message r.messages
 
 -- ---- the output fails
 
@@ -156,13 +150,7 @@ pub record HasLostOutput (asked : Assignment) (call : Call) (r : RunResult) : Ty
 
 -- ---- all of it
 
--- A run leaves the outcome of its command; or an input was cut short, memory ran out, or the output
--- failed.
+-- A run leaves one of its outcomes; or the output failed.
 pub data CommandRuns (asked : Assignment) (call : Call) (r : RunResult) : Type 0 where
   ends : (o : Outcome) → IsOutcome asked call o → HasLeft call o r → CommandRuns asked call r
-  input_cut : (work : Work) → IsWork asked call work → HasCutInput call work r
-      → CommandRuns asked call r
-  no_memory : (work : Work) → IsWork asked call work → HasLackedMemory call work r
-      → CommandRuns asked call r
   output_failed : HasLostOutput asked call r → CommandRuns asked call r
-  never_began : NeverBegan call r → CommandRuns asked call r

@@ -35,7 +35,8 @@ abbrev pub preparing_of : {Z : Type 0} → Preparation Z → Preparing
 preparing_of (preparation.Filter print) = ReadsFilter (asked_by print)
 preparing_of (preparation.Listing compile) = Compiles (string_bytes compile.expr) compile.link
 
--- what is done first, the policy for packets, in which order they come, and what is written
+-- What is done first, the policy for packets, in which order they come, and what is written. A
+-- print's policy is its filter, and a compilation has no packets: there the policy says nothing.
 pub record Assignment : Type 0 where
   pub preparing : Option Preparing
   pub policy : Policy

@@ -1,9 +1,10 @@
-use Rattle.std.proofs.Common.{map, refl, ap, subst, string_bytes}
+use Rattle.std.proofs.Common.{[], map, refl, sym, ◌∙◌, ap, subst, string_bytes, arith}
+use Rattle.std.proofs.lemmas.List.{append-nil}
 use Rattle.cap_process.specs.Messages.{IsTold, no_memory_message}
 use Rattle.cap_octet.specs.Views.{OutputView, fresh_input, fresh_output, output_view}
 use Rattle.cap_command.specs.Call.{Call, call_of}
 use Rattle.cap_tools.specs.declared.job.Turn.TheVariants as turn
-use Rattle.cap_tools.specs.Run.{never_began}
+use Rattle.cap_tools.specs.Run.{ends, fault_outcome, of_nothing}
 use Rattle.cap_tools.specs.Start.{assignment}
 use Rattle.cap_tools.proofs.Calls.{call-runs}
 use Rattle.cap_tools.proofs.CommandRuns.{fresh, gives, under-more, under-done}
@@ -40,9 +41,12 @@ returns-in-Done g c = record {
 pub returns-in-Err-clause-exact : goal.returns-in-Err-clause-exact
 returns-in-Err-clause-exact g c = λ ti to.
     let P : OutputView → Type 0 = λ v. IsTold g.E.Output.tells v no_memory_message (output_view (g.E.Output.written c.report_no_memory.new.output) (g.E.Output.failures c.report_no_memory.new.output)) in
-    never_began (record {
-      status_is = refl;
-      same = ap (λ o. output_view (g.O.Output.written o) (g.O.Output.failures o)) c.in-Err.ensures.refused.0;
-      exact = subst P (ap (λ e. output_view (g.E.Output.written e) (g.E.Output.failures e)) c.in-Err.ensures.refused.1)
+    let same = ap (λ o. output_view (g.O.Output.written o) (g.O.Output.failures o)) c.in-Err.ensures.refused.0 in
+    ends (fault_outcome [] no_memory_message) of_nothing (record {
+      output = ap (λ (v : OutputView). v.written) same ∙ sym (append-nil _);
+      failures = ap (λ (v : OutputView). v.failures) same;
+      message = subst P (ap (λ e. output_view (g.E.Output.written e) (g.E.Output.failures e)) c.in-Err.ensures.refused.1)
           (record { answer = c.report_no_memory.result; exact = λ te. c.report_no_memory.ensures.exact te; counted = c.report_no_memory.ensures.failed });
+      quiet = λ zero. absurd (omega (arith, zero));
+      status = refl;
     })
