@@ -94,8 +94,8 @@ impl<A: Allocator> Compiled<A> {
     ghost use Rattle.cap_filter.specs.FilterRules.{by_reading, expression_decides};
     ghost use Rattle.cap_filter.specs.Filters.{most_cost, spent_on};
 
-    /// A checked tree, of an expression that isn't empty, with its programs, which are made here.
-    /// An error means that memory ran out.
+    /// A checked tree, of an expression that isn't empty, with its programs, which are made here;
+    /// none has run yet. An error means that memory ran out.
     #[tactic(auto, unfolding(cap_octet::specs::Link::all_links))]
     pub fn new(alloc: A, tree: Checked<A>) -> Result<Self, AllocError>
     where

@@ -1,4 +1,4 @@
-//! What stands at both ends of every block: its type and its total length.
+//! The frame of every block: its type and its total length in front, the total length at its end.
 ghost use Rattle.std.specs.Prelude.{◌≡◌};
 ghost use Rattle.cap_pcapng.specs.Frame.{magic_order, type_of_block};
 

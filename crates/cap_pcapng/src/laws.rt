@@ -1,5 +1,4 @@
-//! What the definitions say of one another: blocks that were written read back as what they were
-//! written of.
+//! Laws of the definitions: a block that was written reads back as what it was written of.
 ghost use Rattle.cap_pcapng.specs.Laws.{InterfaceBack, PacketBack, SectionBack};
 
 /// A section header that was written begins a little-endian section without interfaces.

@@ -224,7 +224,7 @@ NegationParts =
 
 -- ---- a capture that is cut
 
--- What is read of a file that is cut anywhere is a prefix of what is read of the whole.
+-- The packets of a file that is cut anywhere are the first ones of the whole file's.
 abbrev pub CutsGivePrefixes : Type 0
 CutsGivePrefixes =
     (file : List ℕ) (n : ℕ)

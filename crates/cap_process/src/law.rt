@@ -79,7 +79,7 @@ pub fn negation_parts_packets()
     ensures { NegationParts }
 {}
 
-/// What is read of a file that is cut anywhere is a prefix of what is read of the whole.
+/// The packets of a file that is cut anywhere are the first ones of the whole file's.
 pub fn cuts_give_prefixes()
     ensures { CutsGivePrefixes }
 {}

@@ -151,7 +151,7 @@ net_tests at net =
     sides net.direction (address_test net.mask net.address at.source ∷ [])
     (address_test net.mask net.address at.destination ∷ [])
 
--- hosts: those of a network, or several, whose addresses are passed beside
+-- hosts: those of a network, or several, whose addresses are these numbers
 abbrev pub hosts_sides : Link → FrameKind → Hosts → List ℕ → Formula
 hosts_sides link kind (hosts.Net net) numbers = net_tests (address_places link kind) net
 hosts_sides link kind (hosts.Several direction first) numbers =
@@ -212,7 +212,7 @@ port_places header = record {
   destination = header.destination;
 }
 
--- the ports that are looked for, of which several are passed beside
+-- the ports that are looked for: where they are several, these numbers
 abbrev pub port_sides : Ports → Direction → Transport → List ℕ → Formula
 port_sides (One n) direction header numbers =
     sides direction (port_is n header.source) (port_is n header.destination)

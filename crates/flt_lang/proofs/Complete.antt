@@ -18,7 +18,7 @@ use Rattle.flt_lang.specs.declared.frame.Operand.TheVariants as operand
 use Rattle.flt_ast.specs.Tree.{NumberTree, literal, TruthTree, bare, Expression}
 use Rattle.flt_lang.specs.Values.{no_mask, prefix, dotted_mask, ReadsValue, number, dotted, ip6, ip6_prefix, mac, range}
 use Rattle.flt_lang.specs.Grammar.{level, is_accessor, stands_alone, has_casts, Number, of_literal, of_len, of_name, enclosed, of_load, of_sized_load, minus, single, chain, Truth, of_check, of_cast, of_protocol_cast, of_sized, of_valued, of_bare, relation, denial, enclosed_truth, term, terms, IsReadAs, no_tokens, all_tokens}
-use Rattle.flt_lang.specs.inside.Parser.{◌>>=◌, precedence, operand_precedence, token_precedence, next_precedence, as_number, as_truth, fill, run, all_run, enclosed_operand, prefix_len, next_of, after_operand, IsLoose}
+use Rattle.flt_lang.specs.inside.Parser.{◌>>=◌, precedence, operand_precedence, token_precedence, next_precedence, as_number, as_truth, fill, run, all_run, enclosed_operand, number_with_prefix, next_of, after_operand, IsLoose}
 use Rattle.flt_ast.specs.inside.Nodes.{number_onto, truth_onto, expr_onto}
 use Rattle.flt_lang.proofs.Reducing.{le_true, le_false, reduce_stays}
 use Rattle.flt_lang.proofs.ValuesBack.{level_small}
@@ -41,7 +41,7 @@ no_prefix (operand.Plain n) (token.Operator Divide ∷ token.Number m ∷ ts) f 
 no_prefix _ _ f fs d h = refl
 
 -- a frame that binds as tightly as the next token takes the operand
-take_frame : (f : Frame) (fs : List Frame) (x y : Operand) (d e : List Node) (ts : List TokenKind) → precedence f ≤ next_precedence ts → fill f x d ≡ Some (y, e) → prefix_len y ts ≡ None → run ts 0 (f ∷ fs) (Some x) d ≡ run ts 0 fs (Some y) e
+take_frame : (f : Frame) (fs : List Frame) (x y : Operand) (d e : List Node) (ts : List TokenKind) → precedence f ≤ next_precedence ts → fill f x d ≡ Some (y, e) → number_with_prefix y ts ≡ None → run ts 0 (f ∷ fs) (Some x) d ≡ run ts 0 fs (Some y) e
 take_frame f fs x y d e [] h filled other = rw (le_true (precedence f) 8 h, filled)
 take_frame f fs x y d e (t ∷ ts) h filled other =
     ap (λ r. r >>= λ r. run ts r.0 r.1.0 r.1.1 r.1.2) (no_prefix x (t ∷ ts) f fs d h) ∙ rw (le_true (precedence f) (token_precedence t) h, filled, other) refl
@@ -57,7 +57,7 @@ loose m (frame.Join j ∷ fs) some other h = omega arith
 loose m (frame.Open ∷ fs) some other h = omega arith
 loose m (frame.Load p ∷ fs) some other h = omega arith
 
-operator_step : (o : Operator) (ts : List TokenKind) (fs : List Frame) (x : Operand) (d e : List Node) → level o + 1 ≤ operand_precedence fs → as_number x d ≡ Some e → prefix_len x (token.Operator o ∷ ts) ≡ None → run (token.Operator o ∷ ts) 0 fs (Some x) d ≡ run ts 0 (frame.Apply o ∷ fs) None e
+operator_step : (o : Operator) (ts : List TokenKind) (fs : List Frame) (x : Operand) (d e : List Node) → level o + 1 ≤ operand_precedence fs → as_number x d ≡ Some e → number_with_prefix x (token.Operator o ∷ ts) ≡ None → run (token.Operator o ∷ ts) 0 fs (Some x) d ≡ run ts 0 (frame.Apply o ∷ fs) None e
 operator_step o ts fs x d e h is_num other =
     let is_loose = loose (level o + 1) fs (omega arith) (λ e. absurd (omega (arith, level_small o))) h in
     rw (other, reduce_stays (level o + 1) fs x d is_loose, le_true (level o + 1) (operand_precedence fs) h, is_num)
@@ -67,7 +67,7 @@ abbrev IsNoOperator : TokenKind → Type 0
 IsNoOperator (token.Operator o) = ⊥
 IsNoOperator _ = Unit {0}
 
-no_prefix_at : (t : TokenKind) (ts : List TokenKind) (x : Operand) → IsNoOperator t → prefix_len x (t ∷ ts) ≡ None
+no_prefix_at : (t : TokenKind) (ts : List TokenKind) (x : Operand) → IsNoOperator t → number_with_prefix x (t ∷ ts) ≡ None
 no_prefix_at (token.Operator o) ts (operand.Plain n) h = absurd h
 no_prefix_at _ ts (operand.Plain n) h = refl
 no_prefix_at t ts _ h = refl
@@ -124,7 +124,7 @@ record IsPrefix (o : Operator) (ts : List TokenKind) (x : Operand) : Type 0 wher
   tokens : ts ≡ token.Number len_of ∷ rest
   plain : x ≡ operand.Plain number
 
-prefix_or_not : (o : Operator) (ts : List TokenKind) (x : Operand) → IsPrefix o ts x ⊎ (prefix_len x (token.Operator o ∷ ts) ≡ None)
+prefix_or_not : (o : Operator) (ts : List TokenKind) (x : Operand) → IsPrefix o ts x ⊎ (number_with_prefix x (token.Operator o ∷ ts) ≡ None)
 prefix_or_not Divide (token.Number m ∷ ts) (operand.Plain n) = inl (record { number = n; len_of = m; rest = ts; divides = refl; tokens = refl; plain = refl })
 prefix_or_not _ _ (operand.Plain n) = inr refl
 prefix_or_not _ _ operand.Truth = inr refl

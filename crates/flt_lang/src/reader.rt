@@ -10,7 +10,7 @@ ghost use Rattle.flt_lang.specs.inside.Parser.{number_primitive, sized_of, primi
 ghost use Rattle.flt_lang.specs.inside.Parser.{one_node, with_frames, IsReadFault, as_number};
 ghost use Rattle.flt_lang.specs.inside.Parser.{as_truth, as_sort, prefix_mask, fill};
 ghost use Rattle.flt_lang.specs.inside.Parser.{reduce, after_operator, after_load, accessor_size};
-ghost use Rattle.flt_lang.specs.inside.Parser.{after_close, after_token_at, prefix_len};
+ghost use Rattle.flt_lang.specs.inside.Parser.{after_close, after_token_at, number_with_prefix};
 ghost use Rattle.flt_lang.specs.inside.Parser.{after_operand, run, finish, all_run};
 ghost use Rattle.flt_ast.specs.Nodes.{tree_of};
 ghost use Rattle.flt_ast.specs.inside.Nodes.{IsTree};
@@ -467,7 +467,7 @@ impl<A: Allocator> Reader<A> {
             ≡ None }
         ensures err { IfErr result IsReadFault }
     {
-        match prefix_len(operand, first, rest) {
+        match number_with_prefix(operand, first, rest) {
             Some((number, len)) if self.operand_precedence() >= 1 => {
                 Ok((1, Some(Operand::Either(number, Some(len)))))
             }
@@ -603,8 +603,8 @@ fn prefix_mask(len: Option<u32>) -> NetMask
 
 /// A plain number and the length of a prefix, where `/ N` stands after it: a network, or a
 /// division.
-fn prefix_len(operand: Operand, first: TokenKind, rest: &[Token]) -> Option<(u32, u32)>
-    ensures value { result ≡ prefix_len operand (first ∷ kinds_of rest.now) }
+fn number_with_prefix(operand: Operand, first: TokenKind, rest: &[Token]) -> Option<(u32, u32)>
+    ensures value { result ≡ number_with_prefix operand (first ∷ kinds_of rest.now) }
     ensures within { IfSome result (λ _. 0 < length rest.now) }
 {
     match (operand, first, kind_at(rest, 0)) {

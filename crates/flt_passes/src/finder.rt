@@ -210,13 +210,14 @@ impl<A: Allocator + Clone> Finder<'_, A> {
     fn old_place_after(&self, rule: Rule, old: usize, holds: bool) -> usize {
         match rule {
             Rule::Own => old,
-            Rule::Same | Rule::Load => self.place_after(old, holds),
-            Rule::Bits => self.place_after(place_after(old, 0), !holds),
+            Rule::Same | Rule::Load => self.next_old_place(old, holds),
+            Rule::Bits => self.next_old_place(place_after(old, 0), !holds),
         }
     }
 
-    /// The place after an instruction of the old program, on this side if it is a test.
-    fn place_after(&self, at: usize, holds: bool) -> usize {
+    /// Where the old run goes on after its instruction at a place: after a test, on the side where
+    /// it holds or doesn't. It isn't asked of a `ja`: walks pass those.
+    fn next_old_place(&self, at: usize, holds: bool) -> usize {
         let Some(insn) = self.old.get(at) else {
             return place_after(at, 0);
         };

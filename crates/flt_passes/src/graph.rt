@@ -115,7 +115,7 @@ impl Node {
         }
     }
 
-    /// The test of A with the number k that it is, if it is one.
+    /// The test by which it compares A with the number k, if it is a test.
     pub(crate) fn test(&self) -> Option<Test> {
         test_of(self.operation)
     }

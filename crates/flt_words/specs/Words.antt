@@ -8,7 +8,7 @@ use Rattle.flt_words.specs.Addresses.{IsDotted, IsIp6, IsMac}
 use Rattle.flt_words.specs.Numbers.{IsNumber, IsRange, is_word_sized}
 use Rattle.flt_words.specs.Spellings.{keyword_of}
 
--- the word means this, its numbers as large as they may be
+-- the word means this, however large its numbers are
 pub data Stands : List ℕ → TokenKind → Type 0 where
   keyword : {word : List ℕ} {kind : TokenKind} → keyword_of word ≡ Some kind → Stands word kind
   number : {word : List ℕ} {n : ℕ} → IsNumber word n → Stands word (token.Number n)

@@ -277,9 +277,9 @@ begin [] fs d = None
 begin (t ∷ ts) fs d = begin_at t (t ∷ ts) fs d
 
 -- the number and the length of a prefix
-abbrev pub prefix_len : Operand → List TokenKind → Option (ℕ × ℕ)
-prefix_len (operand.Plain n) (token.Operator Divide ∷ token.Number m ∷ ts) = Some (n, m)
-prefix_len _ _ = None
+abbrev pub number_with_prefix : Operand → List TokenKind → Option (ℕ × ℕ)
+number_with_prefix (operand.Plain n) (token.Operator Divide ∷ token.Number m ∷ ts) = Some (n, m)
+number_with_prefix _ _ = None
 
 -- the tokens after an operand, once the tight frames have taken it
 abbrev pub next_of : List TokenKind → List Frame → Operand → List Node → Option Begun
@@ -293,7 +293,7 @@ with_prefix (Some p) ts fs x d =
 with_prefix None ts fs x d = next_of ts fs x d
 
 abbrev pub after_operand : List TokenKind → List Frame → Operand → List Node → Option Begun
-after_operand ts fs x d = with_prefix (prefix_len x ts) ts fs x d
+after_operand ts fs x d = with_prefix (number_with_prefix x ts) ts fs x d
 
 abbrev pub whole : List Frame → Operand → List Node → Option (List Node)
 whole [] x d = as_truth x d
