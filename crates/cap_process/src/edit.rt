@@ -17,6 +17,7 @@ use cap_octet::{Fault, Packet};
 use cap_window::Window;
 use std::alloc::Allocator;
 
+/// Whether a time is `start` or later; without a `start` each is. Both are in nanoseconds.
 fn is_from_start(start: Option<u64>, time: u64) -> bool
     ensures { result ≡ is_from_start start time }
 {
@@ -26,6 +27,7 @@ fn is_from_start(start: Option<u64>, time: u64) -> bool
     }
 }
 
+/// Whether a time is earlier than `stop`, which is itself left out; without a `stop` each is.
 fn is_before_stop(stop: Option<u64>, time: u64) -> bool
     ensures { result ≡ is_before_stop stop time }
 {
@@ -43,6 +45,7 @@ fn is_selected<A: Allocator>(edit: &Edit<A>, number: u64, packet: &Packet<'_>) -
     edit.keeps(number) && in_time
 }
 
+/// What follows the first `count` bytes; nothing of fewer.
 fn without_first(count: u32, bytes: &[u8]) -> &[u8]
     ensures { result.now ≡ without_first count bytes.now }
 {
@@ -50,6 +53,7 @@ fn without_first(count: u32, bytes: &[u8]) -> &[u8]
     &bytes[count..]
 }
 
+/// What is before the last `count` bytes; nothing of fewer.
 fn without_last(count: u32, bytes: &[u8]) -> &[u8]
     ensures { result.now ≡ without_last count bytes.now }
 {
@@ -57,7 +61,7 @@ fn without_last(count: u32, bytes: &[u8]) -> &[u8]
     &bytes[..count]
 }
 
-/// At most `snap` bytes.
+/// The first `snap` bytes, or all where there are fewer or no `snap` is given.
 fn snapped(snap: Option<u32>, bytes: &[u8]) -> &[u8]
     ensures { result.now ≡ bytes_within_snap snap bytes.now }
 {
@@ -67,7 +71,7 @@ fn snapped(snap: Option<u32>, bytes: &[u8]) -> &[u8]
     }
 }
 
-/// A time that is moved, where it stays in range.
+/// A time moved by a shift, in nanoseconds; `None` where it would be before 1970, or 2^63 or more.
 fn moved(shift: Shift, time: u64) -> Option<u64>
     requires { time < 2 ^ 63 }
     ensures value { result ≡ shifted_time shift time }
@@ -86,7 +90,8 @@ fn moved(shift: Shift, time: u64) -> Option<u64>
     }
 }
 
-/// The packet at this time, with the bytes that the edit leaves of it.
+/// The packet at this time, with the bytes that the edit leaves of it: its start is cut, then its
+/// end, then what is past the snap length. Its original length and its comment are kept.
 fn changed<'a, A: Allocator>(edit: &Edit<A>, packet: &Packet<'a>, time: u64) -> Packet<'a>
     requires { time < 2 ^ 63 }
     ensures value { captured result
@@ -122,8 +127,9 @@ fn is_unique<A: Allocator>(window: &mut Option<Window<A>>, packet: &Packet<'_>) 
     }
 }
 
-/// Whether a packet passes: it is selected by its number and its time, cut and moved, and no
-/// duplicate. It is made what it passes as. The one error is `TimeOutOfRange`.
+/// Whether a packet passes an edit: it is selected by its number and its time, and no duplicate
+/// once its bytes are cut. One that passes is changed into what it passes as. The one error is
+/// `TimeOutOfRange`: its time, moved, is out of range.
 pub(crate) fn selects<A: Allocator>(
     edit: &Edit<A>,
     window: &mut Option<Window<A>>,

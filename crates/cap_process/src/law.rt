@@ -1,4 +1,5 @@
-//! Laws of the definitions: each is the contract of a function that does nothing.
+//! Laws of the definitions: each is the contract of a function that does nothing, or calls a law
+//! that its proof needs.
 ghost use Rattle.cap_process.specs.Lists.{CountsAll, EndsWithoutTime, HasLastMarks, PassesFiltered};
 ghost use Rattle.cap_process.specs.Whole.{EditWrites, InfosReports, MergeWrites, PrintLines};
 ghost use Rattle.cap_process.specs.Whole.{PrintWrites, EditKeeps, EditsAlike, MergesOne};
@@ -40,7 +41,7 @@ pub fn print_writes_matching()
     ensures { PrintWrites }
 {}
 
-/// A print of lines writes those of the packets that match, or of the first `count`.
+/// A print of lines writes the lines of the packets that match, or of the first `count` of them.
 pub fn print_has_their_lines()
     ensures { PrintLines }
 {}
@@ -50,7 +51,7 @@ pub fn merge_writes_all()
     ensures { MergeWrites }
 {}
 
-/// A report is that of each input, up to the first that ends by a fault.
+/// `infos` writes the report of each input, up to the first that ends by a fault.
 pub fn infos_has_each_report()
     ensures { InfosReports }
 {}

@@ -1,4 +1,7 @@
 //! What is reported of how a command ended, a line each.
+//!
+//! An error of these functions means that the messages' device failed in the call, after a prefix
+//! of the line that isn't the whole.
 ghost use Rattle.std.specs.Prelude.{◌≡◌, ◌+◌, ◌++◌, IsTrue, codes};
 ghost use Rattle.cap_octet.specs.Device.{AppendsOrStops, failures_of};
 ghost use Rattle.flt_bpf.specs.Message.{check_message, listing_message};
@@ -13,7 +16,7 @@ use flt_bpf::{CheckFault, ListingFault};
 use flt_words::ExprFault;
 use itoa::Buffer;
 
-/// Writes the parts of a fault's message, whose offset is in digits.
+/// Writes the message of a fault: the input's name, the offset, in digits, and the fault's text.
 fn write_fault<'a, O: Output>(
     output: &mut O,
     name: &'a [u8],
@@ -55,7 +58,8 @@ pub fn report_write_failed<O: Output>(output: &mut O, name: &str) -> Result<(), 
     write_parts(output, &parts)
 }
 
-/// Reports that there was no memory, where there was no current packet or block.
+/// Reports that memory ran out where no unit was read, so that there is no input and no offset to
+/// name.
 pub fn report_no_memory<O: Output>(output: &mut O) -> Result<(), DeviceFault>
     ensures exact { IsTrue O.tells → AppendsOrStops result (O.written output.old) no_memory_message
         (O.written output.new) }
@@ -64,8 +68,8 @@ pub fn report_no_memory<O: Output>(output: &mut O) -> Result<(), DeviceFault>
     write_parts(output, &[b"capkit: no memory\n"])
 }
 
-/// Writes the parts of a refusal's message: of what, the text, and words before a number in digits,
-/// where there is one.
+/// Writes the message of a refusal: what is refused (`of`), why (`text`), and where: words and a
+/// number in digits, both empty where there is no place to name.
 fn write_refusal<'a, O: Output>(
     output: &mut O,
     of: &'a [u8],
@@ -82,7 +86,8 @@ fn write_refusal<'a, O: Output>(
     write_parts(output, &parts)
 }
 
-/// Reports why an expression was refused.
+/// Reports why an expression was refused, and at which of its bytes, counted from 1, where the
+/// fault has a place.
 fn report_expression<O: Output>(output: &mut O, fault: ExprFault) -> Result<(), DeviceFault>
     ensures exact { IsTrue O.tells → AppendsOrStops result (O.written output.old)
         (expression_message (message_of fault)) (O.written output.new) }
@@ -99,7 +104,7 @@ fn report_expression<O: Output>(output: &mut O, fault: ExprFault) -> Result<(), 
     }
 }
 
-/// Reports why a text is no listing.
+/// Reports why a text is no listing, and in which line, counted from 1, where the fault has one.
 fn report_listing<O: Output>(output: &mut O, fault: ListingFault) -> Result<(), DeviceFault>
     ensures exact { IsTrue O.tells → AppendsOrStops result (O.written output.old)
         (code_message (listing_message fault)) (O.written output.new) }
@@ -116,7 +121,8 @@ fn report_listing<O: Output>(output: &mut O, fault: ListingFault) -> Result<(), 
     }
 }
 
-/// Reports which rule instructions break, and where.
+/// Reports which rule instructions break, and the index, from 0, of the one that breaks it; a rule
+/// on the whole has no index.
 fn report_check<O: Output>(output: &mut O, fault: CheckFault, at: usize) -> Result<(), DeviceFault>
     ensures exact { IsTrue O.tells → AppendsOrStops result (O.written output.old)
         (code_message (check_message fault at)) (O.written output.new) }
@@ -132,7 +138,8 @@ fn report_check<O: Output>(output: &mut O, fault: CheckFault, at: usize) -> Resu
     }
 }
 
-/// Reports why a filter was refused.
+/// Reports why a filter was refused: its expression, its listing or the listing's program; or that
+/// there was no memory for it.
 pub fn report_refusal<O: Output>(output: &mut O, refusal: Refusal) -> Result<(), DeviceFault>
     ensures exact { IsTrue O.tells → AppendsOrStops result (O.written output.old)
         (refusal_message refusal) (O.written output.new) }

@@ -26,6 +26,7 @@ pub enum Writing {
     Lines(Options),
 }
 
+/// What packets, lines or a text are written into.
 #[derive(Drop)]
 pub(crate) enum Device<O: Output, A: Allocator> {
     Capture(Sink<O, A>),
@@ -72,7 +73,7 @@ impl<O: Output, A: Allocator> JobOutput<O, A> {
         JobOutput { device }
     }
 
-    /// Writes a packet, where packets are written.
+    /// Writes a packet into a capture, or its line; a text has no packets, and is left unchanged.
     pub fn put(&mut self, packet: &Packet<'_>) -> Result<(), Fault>
         ensures exact { IsTrue O.tells
             → PutsIntoOutput (captured packet.now) self.old result self.new }
@@ -97,7 +98,7 @@ impl<O: Output, A: Allocator> JobOutput<O, A> {
         }
     }
 
-    /// Writes the report of the input of this name, where reports are written.
+    /// Writes the report of the input of this name into a text; other outputs are left unchanged.
     pub fn report(&mut self, name: &str, report: &Report) -> Result<(), DeviceFault>
         ensures exact { IsTrue O.tells → Reports (file_report name.now report.now.kind
             report.now.size report.now.tally) self.old result self.new }
@@ -124,7 +125,8 @@ impl<O: Output, A: Allocator> JobOutput<O, A> {
         }
     }
 
-    /// Ends what is written: a capture without packets gets its file header, with this link type.
+    /// Ends what is written: a capture without packets gets its file header, with this link type,
+    /// or 1 where there is none.
     pub fn finish(&mut self, first: Option<u16>) -> Result<(), DeviceFault>
         ensures exact { IsTrue O.tells → EndsOutput first self.old result self.new }
         ensures upper_bound { HasFewOutputInterfaces self.old → HasFewOutputInterfaces self.new }

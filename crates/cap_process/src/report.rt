@@ -38,7 +38,7 @@ pub fn write_report<O: Output>(
     write_times(output, report.tally)
 }
 
-/// The format's name, empty where there is none.
+/// The format's name; empty where there is none, which no input that is reported has.
 fn kind_name(kind: Option<Kind>) -> &'static [u8]
     ensures { result.now ≡ kind_name kind }
 {
@@ -50,6 +50,7 @@ fn kind_name(kind: Option<Kind>) -> &'static [u8]
     }
 }
 
+/// Writes the line on a file's name, which begins its report.
 fn write_name<O: Output>(output: &mut O, name: &str) -> Result<(), DeviceFault>
     ensures exact { IsTrue O.tells → AppendsOrStops result (O.written output.old)
         (lines ((codes "File", name.now) ∷ []) []) (O.written output.new) }
@@ -87,20 +88,21 @@ fn write_sizes<O: Output>(output: &mut O, report: &Report) -> Result<(), DeviceF
     write_parts(output, &parts)
 }
 
-/// The date, or the word `none` without packets.
+/// The date, or the word `none` where no packet was counted.
 fn date_or_none(count: u128, date: &[u8]) -> &[u8]
     ensures { result.now ≡ (if count == 0 then codes "none" else date.now) }
 {
     if count == 0 { b"none" } else { date }
 }
 
+/// The word `yes` or `no`, as a report prints it.
 fn yes_or_no(yes: bool) -> &'static [u8]
     ensures { result.now ≡ yes_or_no yes }
 {
     if yes { b"yes" } else { b"no" }
 }
 
-/// Writes the lines on the times of packets, and the empty line after them.
+/// Writes the lines on the times of packets, and the empty line that ends the report.
 fn write_times<O: Output>(output: &mut O, tally: Tally) -> Result<(), DeviceFault>
     ensures exact { IsTrue O.tells → AppendsOrStops result (O.written output.old)
         (lines (time_lines tally) (10 ∷ [])) (O.written output.new) }

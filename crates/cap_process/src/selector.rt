@@ -25,7 +25,7 @@ use cap_window::Window;
 use std::alloc::{AllocError, Allocator};
 use std::marker::Model;
 
-/// From this number on there are too many packets.
+/// The first number that no packet can have, 2^63, as a job counts: in 128 bits.
 const MOST_PACKETS: u128 = PACKET_NUMBER_END as u128;
 
 /// What becomes of a packet that is not refused.
@@ -41,6 +41,7 @@ pub enum Verdict {
 #[derive(Drop)]
 pub enum Policy<A: Allocator> {
     Edit(Edit<A>),
+    /// By what matches; with a number, until that many packets passed.
     Filter(Filter<A>, Option<u64>),
     KeepAll,
     /// All are counted, and none passes.
@@ -53,6 +54,7 @@ pub struct Selector<A: Allocator> {
     policy: Policy<A>,
     /// Where duplicates are searched for.
     window: Option<Window<A>>,
+    /// How many packets passed so far.
     passed: u64,
     /// Of the packets of the current input, where they are counted.
     tally: Tally,
@@ -79,6 +81,8 @@ impl<A: Allocator> Model for Selector<A> {
     ghost invariant = { λ j. IsWindowFor (window_of (policy_of j.policy)) j.window };
 }
 
+/// Whether the packet with which `passed` packets have passed is the last one; without a `count`
+/// none is.
 fn is_last(count: Option<u64>, passed: u64) -> bool
     ensures { result ≡ is_last count passed }
 {
@@ -88,7 +92,8 @@ fn is_last(count: Option<u64>, passed: u64) -> bool
     }
 }
 
-/// How many marks a window has for `packets` packets in a row, the last among them.
+/// An empty window for a search among `packets` packets in a row, the current one among them: it
+/// has room for the marks of the others. An error means that memory ran out.
 fn window_for<A: Allocator>(alloc: A, packets: u32) -> Result<Window<A>, AllocError>
 where
     A: Copy,
@@ -98,9 +103,11 @@ where
 }
 
 impl<A: Allocator> Policy<A> {
-    /// Whether a packet passes, which is made what it passes as. The errors are
+    /// Whether a packet passes; an edit changes it into what it passes as. The errors are
     /// `LinkTypeNotFiltered`, where an expression isn't read on its link type, and
-    /// `TimeOutOfRange`.
+    /// `TimeOutOfRange`, of an edit.
+    ///
+    /// Where packets are only counted `judge` doesn't call it, and the clause `exact` says nothing.
     fn keeps(
         &mut self,
         window: &mut Option<Window<A>>,
@@ -130,7 +137,8 @@ impl<A: Allocator> Policy<A> {
         }
     }
 
-    /// The window that is asked for, which is empty.
+    /// The window of an edit that searches for duplicates, still empty; `None` of all others. An
+    /// error means that memory ran out.
     fn window(&self, alloc: A) -> Result<Option<Window<A>>, AllocError>
     where
         A: Copy,
@@ -146,13 +154,14 @@ impl<A: Allocator> Policy<A> {
         }
     }
 
-    /// Whether packets are counted alone.
+    /// Whether packets are only counted, for a report, and none passes.
     fn counts(&self) -> bool
         ensures { result ≡ is_count (policy_of self.now) }
     {
         matches!(self, Policy::Count)
     }
 
+    /// After how many packets that pass nothing more is read; `None` where all are.
     fn count(&self) -> Option<u64>
         ensures { result ≡ count_limit (policy_of self.now) }
     {
@@ -214,7 +223,9 @@ impl<A: Allocator> Selector<A> {
         }
     }
 
-    /// What becomes of the packet with this number, which is made what it passes as.
+    /// What becomes of the packet with this number, from 1 on in the job's order; it is changed
+    /// into what it passes as. The errors are `TooManyPackets`, from number 2^63 on,
+    /// `LinkTypeNotFiltered` and `TimeOutOfRange`.
     pub fn judge(&mut self, number: u128, packet: &mut Packet<'_>) -> Result<Verdict, Fault>
     where
         A: Copy + Drop,
@@ -243,6 +254,7 @@ impl<A: Allocator> Selector<A> {
             return Ok(Verdict::Skip);
         }
         let passed = self.passed;
+        // Always so, as fewer packets passed than were judged: it bounds the sum.
         if passed < number {
             self.passed = passed + 1;
         }
@@ -250,7 +262,8 @@ impl<A: Allocator> Selector<A> {
         Ok(passing(last))
     }
 
-    /// What was counted of the current input, where packets are counted. The count begins anew.
+    /// What was counted of the current input, and counts anew for the next one; `None` where
+    /// packets aren't counted.
     pub fn close(&mut self) -> Option<Tally>
         ensures closes { TakesTally (is_count self.old.policy) (policy_state self.old) result
             (policy_state self.new) }
@@ -266,6 +279,7 @@ impl<A: Allocator> Selector<A> {
     }
 }
 
+/// The verdict on a packet that passes, by whether it is the last one.
 fn passing(last: bool) -> Verdict
     ensures { (p : Captured) → verdict_of result p ≡ verdict_if p last }
 {

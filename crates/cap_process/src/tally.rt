@@ -70,7 +70,8 @@ impl Tally {
         }
     }
 
-    /// The tally with one packet more, exact where there is room for it.
+    /// The tally with one packet more. It is exact while its sums are below 2^127 (`FitsTally`), as
+    /// those of every job are; beyond they would stop at the greatest number, and not overflow.
     pub fn counted(self, packet: &Packet<'_>) -> Self
         ensures counted { FitsTally self → result ≡ tally_with self (captured packet.now) }
         ensures count { result.count ≤ self.count + 1 }

@@ -100,6 +100,7 @@ impl<I: Input, O: Output, E: Output, A: Allocator> Model for Job<I, O, E, A> {
         }) };
 }
 
+/// The status of a job that ended so: 0 where all is written, else 1.
 fn status_at_end(end: JobEnd) -> u8
     ensures { result ≡ end_status end }
 {
@@ -199,7 +200,8 @@ impl<I: Input, O: Output, E: Output, A: Allocator + Copy + Drop> Job<I, O, E, A>
         }
     }
 
-    /// Reads the filter of a print. It is one step.
+    /// Reads the filter of a print, by which packets are judged from then on; or reports why it is
+    /// refused, and ends the job. It is one step.
     fn read_filter(&mut self, print: &Print<A>) -> Turn
         requires fresh { IsFresh self.old }
         requires taken { self.old.preparing ≡ None }
@@ -268,7 +270,8 @@ impl<I: Input, O: Output, E: Output, A: Allocator + Copy + Drop> Job<I, O, E, A>
         }
     }
 
-    /// Decides the current packet of an input.
+    /// Decides the current packet of an input. It returns the end where the job ends here: after
+    /// the last packet that passes, or where the packet is refused or can't be written.
     fn decide_next(&mut self, input: usize) -> Option<JobEnd>
         requires prepared { self.old.preparing ≡ None }
         requires next { input_spec.IsNext self.old.state.inputs (Next.Decide input) }
@@ -291,8 +294,8 @@ impl<I: Input, O: Output, E: Output, A: Allocator + Copy + Drop> Job<I, O, E, A>
         }
     }
 
-    /// Reads an input on; after what is decided, where somebody may be waiting for it while the
-    /// input is.
+    /// Reads an input on. Where somebody may be waiting for the output, and the read may wait, what
+    /// was written is released first. It returns the end where the job ends here.
     fn read_next(&mut self, input: usize) -> Option<JobEnd>
         requires prepared { self.old.preparing ≡ None }
         requires next { input_spec.IsNext self.old.state.inputs (Next.Read input) }
@@ -305,8 +308,9 @@ impl<I: Input, O: Output, E: Output, A: Allocator + Copy + Drop> Job<I, O, E, A>
         self.read_input(input)
     }
 
-    /// Releases the output before an input is read on, where its next packet isn't at hand; and
-    /// returns whether it could.
+    /// Releases the output before an input is read on, unless the input's next packet is at hand.
+    /// It returns false where the output couldn't be released.
+    // Out of line, since few jobs have an output that is awaited.
     #[inline(never)]
     fn release_before(&mut self, input: usize) -> bool
         ensures kept { self.new ≡ self.old }
@@ -315,7 +319,8 @@ impl<I: Input, O: Output, E: Output, A: Allocator + Copy + Drop> Job<I, O, E, A>
         self.inputs.has_next_at_hand(input) || self.output.release()
     }
 
-    /// Reads an input on.
+    /// Reads an input on: to its next packet, its clean end, where it is reported if reports are
+    /// asked for, or a fault, which ends the job.
     fn read_input(&mut self, input: usize) -> Option<JobEnd>
         requires prepared { self.old.preparing ≡ None }
         requires next { input_spec.IsNext self.old.state.inputs (Next.Read input) }
@@ -339,7 +344,7 @@ impl<I: Input, O: Output, E: Output, A: Allocator + Copy + Drop> Job<I, O, E, A>
         }
     }
 
-    /// Ends the output.
+    /// Ends the output, and with it the job: all inputs were read.
     fn finish(&mut self) -> Option<JobEnd>
         requires prepared { self.old.preparing ≡ None }
         requires next { input_spec.IsNext self.old.state.inputs Next.Finish }

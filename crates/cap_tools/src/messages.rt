@@ -92,7 +92,7 @@ impl<E: Output, A: Allocator> Messages<E, A> {
     }
 }
 
-/// Reports how a job ended.
+/// Writes the message of how a job ended, if it has one: none where all is written.
 fn tell<I: Input, E: Output, A: Allocator + Copy + Drop>(
     device: &mut E,
     names: &Vec<String<A>, A>,
@@ -114,6 +114,7 @@ fn tell<I: Input, E: Output, A: Allocator + Copy + Drop>(
     }
 }
 
+/// The name at an index; empty where there is none.
 fn name_of<A: Allocator>(names: &Vec<String<A>, A>, index: usize) -> &str
     ensures { result.now ≡ name_at (map string_bytes names.now.items) index }
 {

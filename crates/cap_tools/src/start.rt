@@ -31,7 +31,8 @@ pub struct Assignment<A: Allocator> {
     /// By what packets are judged.
     pub policy: Policy<A>,
     pub writing: Writing,
-    /// Whether the inputs are merged by their times, in place of one after another.
+    /// Whether the inputs are merged by the times of their packets; else they are read one after
+    /// another.
     pub merges: bool,
 }
 
@@ -51,7 +52,8 @@ fn writing_of<A: Allocator>(print: &Print<A>) -> Writing
     }
 }
 
-/// Packets are judged by this from the first step on.
+/// What a command asks for that prepares nothing: packets are judged by this policy from the first
+/// step on.
 fn packets_alone<A: Allocator>(policy: Policy<A>, writing: Writing, merges: bool) -> Assignment<A>
     ensures preparing { result.preparation ≡ None }
     ensures policy { result.policy ≡ policy }
@@ -66,7 +68,8 @@ fn packets_alone<A: Allocator>(policy: Policy<A>, writing: Writing, merges: bool
     }
 }
 
-/// Something is read or compiled first.
+/// What a command asks for that reads a filter or compiles first. By its policy no packet is
+/// judged: the filter takes its place, and a compilation has no packets.
 fn prepared_by<A: Allocator>(preparation: Preparation<A>, writing: Writing) -> Assignment<A>
     ensures preparing { result.preparation ≡ Some preparation }
     ensures policy { result.policy ≡ Policy.KeepAll }
@@ -112,7 +115,8 @@ pub fn assignment_of<A: Allocator>(command: Command<A>) -> Assignment<A>
     }
 }
 
-/// The filter that a print is asked for.
+/// The filter that a print is asked for, of its listing if it has one, else of its words; or why it
+/// is refused.
 pub fn read_filter<A: Allocator + Copy + Drop>(
     alloc: A,
     print: &Print<A>,

@@ -25,7 +25,7 @@ pub enum JobEnd {
     OutputFailed,
 }
 
-/// Writes a packet that passes.
+/// Writes a packet if it passes; one that is skipped leaves the output unchanged.
 fn put<O: Output, A: Allocator>(
     verdict: Verdict,
     packet: &Packet<'_>,
@@ -42,7 +42,8 @@ fn put<O: Output, A: Allocator>(
     }
 }
 
-/// Decides the current packet of an input, which is written where it passes.
+/// Decides the current packet of an input, the `number`-th of the job, and writes it if it passes.
+/// An error is why it is refused, or why it can't be written.
 pub(crate) fn decide<I: Input, O: Output, A: Allocator + Copy + Drop>(
     cursor: &InputCursor<I, A>,
     selector: &mut Selector<A>,
@@ -68,7 +69,8 @@ pub(crate) fn decide<I: Input, O: Output, A: Allocator + Copy + Drop>(
     Ok(verdict)
 }
 
-/// The last packet that passes ends the job.
+/// How a job ends after a packet with this verdict: complete after the last one that passes. `None`
+/// where it goes on.
 pub(crate) fn end_after(verdict: Verdict) -> Option<JobEnd>
     ensures { result ≡ end_after verdict }
 {
@@ -78,8 +80,8 @@ pub(crate) fn end_after(verdict: Verdict) -> Option<JobEnd>
     }
 }
 
-/// Reports an input that was read to its end, where files are counted, one after another. It
-/// returns the end where the job ends here.
+/// Reports an input that was read to its end, where packets are counted, and begins their count
+/// anew. It returns the end where the job ends here: the output's device failed.
 pub(crate) fn close<I: Input, O: Output, E: Output, A: Allocator>(
     inputs: &Inputs<I, A>,
     input: usize,
@@ -100,6 +102,7 @@ pub(crate) fn close<I: Input, O: Output, E: Output, A: Allocator>(
         → output.new ≡ output.old }
 {
     let cursor = inputs.cursor(input);
+    // A count of merged inputs, which no command asks for, would be of no one input.
     if !inputs.is_in_turn() {
         return None;
     }
@@ -117,7 +120,8 @@ pub(crate) fn close<I: Input, O: Output, E: Output, A: Allocator>(
     }
 }
 
-/// Where a packet was not decided: the output's device failed, or the packet is refused.
+/// How a job ends whose current packet, of this input, was not decided: the output's device failed,
+/// or the packet is refused by this fault.
 pub(crate) fn unwritten(input: usize, fault: Fault) -> JobEnd
     ensures { result ≡ end_of_failed_write input fault }
 {
