@@ -12,7 +12,7 @@ use crate::line::Line;
 use crate::names::uses_name_twice;
 use crate::range::range_in;
 use crate::usage::Usage;
-use crate::values::{duration, flag, format, optional_text, short_number, text, texts, time};
+use crate::values::{duration, flag, format, number_u32, optional_text, text, texts, time};
 use cap_command::{Command, Edit, LEAST_WINDOW, MOST_RANGES, MOST_WINDOW, Shift};
 use capkit_args::ids;
 use clap::ArgMatches;
@@ -40,14 +40,14 @@ fn ranges_in(alloc: Global, words: &[&str]) -> Result<Vec<(u64, u64)>, Usage>
     Ok(ranges)
 }
 
-/// Whether the argument has a text that is no time.
+/// Whether the argument has a text that is no time; false where it isn't given.
 fn is_bad_time(matches: &ArgMatches<'_>, id: &str) -> bool
     ensures { result ≡ is_bad_time id.now (rows_of (found_of matches.now)) }
 {
     optional_text(matches, id).is_some() && time(matches, id).is_none()
 }
 
-/// Whether the argument has a text that is no number of seconds.
+/// Whether the argument has a text that is no number of seconds; false where it isn't given.
 fn is_bad_duration(matches: &ArgMatches<'_>, id: &str) -> bool
     ensures { result ≡ is_bad_duration id.now (rows_of (found_of matches.now)) }
 {
@@ -64,7 +64,7 @@ fn has_bad_time(matches: &ArgMatches<'_>) -> bool
         || is_bad_duration(matches, ids::EARLIER)
 }
 
-/// Whether times are to be shifted both ways.
+/// Whether times are to be shifted both later and earlier, which excludes each other.
 fn has_two_shifts(matches: &ArgMatches<'_>) -> bool
     ensures { result ≡ has_two_shifts (rows_of (found_of matches.now)) }
 {
@@ -99,13 +99,15 @@ fn time_shift(matches: &ArgMatches<'_>) -> Shift
         duration(matches, ids::LATER),
         duration(matches, ids::EARLIER),
     ) {
+        // Of both, which `check_edit` refuses, it would be the first.
         (Some(span), _) => Shift::Later(span),
         (None, Some(span)) => Shift::Earlier(span),
         (None, None) => Shift::None,
     }
 }
 
-/// The edit of these ranges, by its options.
+/// The edit of these ranges, by its options. One that isn't given changes nothing, and the format is
+/// pcapng then.
 fn edit_of(matches: &ArgMatches<'_>, ranges: Vec<(u64, u64)>) -> Edit
     requires { has_proper_ranges ranges.items ≡ true }
     ensures ranges { result.ranges ≡ ranges }
@@ -117,11 +119,11 @@ fn edit_of(matches: &ArgMatches<'_>, ranges: Vec<(u64, u64)>) -> Edit
         keep: flag(matches, ids::KEEP),
         start: time(matches, ids::START),
         stop: time(matches, ids::STOP),
-        chop_start: short_number(matches, ids::CHOP_START, 0, u32::MAX).unwrap_or(0),
-        chop_end: short_number(matches, ids::CHOP_END, 0, u32::MAX).unwrap_or(0),
-        snap: short_number(matches, ids::SNAP, 1, u32::MAX),
+        chop_start: number_u32(matches, ids::CHOP_START, 0, u32::MAX).unwrap_or(0),
+        chop_end: number_u32(matches, ids::CHOP_END, 0, u32::MAX).unwrap_or(0),
+        snap: number_u32(matches, ids::SNAP, 1, u32::MAX),
         shift: time_shift(matches),
-        window: short_number(matches, ids::WINDOW, LEAST_WINDOW, MOST_WINDOW),
+        window: number_u32(matches, ids::WINDOW, LEAST_WINDOW, MOST_WINDOW),
         format: format(matches, ids::FORMAT),
     }
 }

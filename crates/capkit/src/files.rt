@@ -13,7 +13,8 @@ use capkit_args::ids;
 use clap::ArgMatches;
 use std::alloc::{AllocError, Global};
 
-/// The names of the inputs, in order: there is one at least.
+/// The names of the inputs, in order, lent from the words: there is one at least. An error means
+/// that memory ran out.
 fn names_in<'a>(alloc: Global, matches: &ArgMatches<'a>) -> Result<Vec<&'a str>, AllocError>
     ensures { IfOk result (λ names. map (λ name. name.now) names.items
         ≡ files_in (rows_of (found_of matches.entry.now))) }

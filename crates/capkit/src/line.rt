@@ -67,6 +67,7 @@ pub fn command_of(alloc: Global, words: Vec<String>) -> Result<Line, Usage>
         Ok(matches) => matches,
         Err(error) => return Err(Usage::Refused(error)),
     };
+    // clap refuses words without a subcommand.
     let Some((name, matches)) = matches.subcommand() else {
         unreachable!()
     };

@@ -23,7 +23,8 @@ fn standard_stream_count(names: &[&str]) -> usize
 }
 
 /// Whether the output, unless it is standard output, is an input too, or standard input is two
-/// inputs.
+/// inputs. Names are compared as they are written; that two may lead to one file is seen by
+/// `overwrites_input` of capkit_host.
 pub fn uses_name_twice(inputs: &[&str], output: Option<&str>) -> bool
     ensures { result ≡ uses_name_twice (map (λ name. name.now) inputs.now)
         (option_map (λ name. name.now) output.entry) }

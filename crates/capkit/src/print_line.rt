@@ -23,7 +23,8 @@ use capkit_args::ids;
 use clap::ArgMatches;
 use std::alloc::{AllocError, Global};
 
-/// The text of an expression: its words, with a blank between each two.
+/// The text of an expression: its words, with a blank between each two; empty without words. An
+/// error means that memory ran out.
 pub fn expression_text(alloc: Global, matches: &ArgMatches<'_>) -> Result<String, AllocError>
     ensures { IfOk result (λ expr. string_bytes expr
         ≡ expression_in (rows_of (found_of matches.now))) }
@@ -43,7 +44,7 @@ fn copy_of_text(alloc: Global, text: Option<&str>) -> Result<Option<String>, All
     }
 }
 
-/// Whether the output is an input too, or standard input is two of them; a listing is an input.
+/// Whether a print uses a name twice (`uses_name_twice`): its capture and its listing are inputs.
 fn names_clash(input: &str, listing: Option<&str>, output: Option<&str>) -> bool
     ensures { result ≡ uses_name_twice
         (input.now ∷ option_to_list (option_map (λ name. name.now) listing.entry))
@@ -55,14 +56,14 @@ fn names_clash(input: &str, listing: Option<&str>, output: Option<&str>) -> bool
     }
 }
 
-/// Whether there are words beside a listing.
+/// Whether there are both a listing and words of an expression, which excludes each other.
 fn has_two_filters(matches: &ArgMatches<'_>) -> bool
     ensures { result ≡ has_two_filters (rows_of (found_of matches.now)) }
 {
     optional_text(matches, ids::LISTING).is_some() && !texts(matches, ids::WORD).is_empty()
 }
 
-/// Whether lines are to have link headers or bytes, where packets are written in place of lines.
+/// Whether packets are to be written to a capture and yet lines are to have link headers or bytes.
 fn has_two_outputs(matches: &ArgMatches<'_>) -> bool
     ensures { result ≡ has_two_outputs (rows_of (found_of matches.now)) }
 {
@@ -70,14 +71,14 @@ fn has_two_outputs(matches: &ArgMatches<'_>) -> bool
         && (flag(matches, ids::LINK_HEADER) || flag(matches, ids::BYTES))
 }
 
-/// Whether there is a format, and no capture that is written.
+/// Whether a format is given though no capture is written.
 fn has_idle_format(matches: &ArgMatches<'_>) -> bool
     ensures { result ≡ has_idle_format (rows_of (found_of matches.now)) }
 {
     optional_text(matches, ids::FORMAT).is_some() && optional_text(matches, ids::OUT).is_none()
 }
 
-/// Whether options are given that exclude each other.
+/// Whether options are given that exclude each other: one of the three cases above.
 fn has_exclusion(matches: &ArgMatches<'_>) -> bool
     ensures { result ≡ has_exclusion (rows_of (found_of matches.now)) }
 {

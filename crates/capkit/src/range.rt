@@ -14,7 +14,8 @@ fn has_digits_alone(text: &str) -> bool
     text.bytes().all(|byte| byte.is_ascii_digit())
 }
 
-/// The number that a text of decimal digits alone, one or more, writes, if it is below 2^64.
+/// The number that a text of decimal digits alone, one or more, writes, if it is below 2^64. Other
+/// texts have none; `parse` would take a plus sign too.
 fn number_in(text: &str) -> Option<u64>
     ensures number { IfSome result (λ n. range_number text.now ≡ Some n) }
     ensures none { IfNone result (IfSome (range_number text.now) (λ n. 2 ^ 64 ≤ n)) }

@@ -31,6 +31,7 @@ pub enum Usage {
     Memory,
 }
 
+/// A failed allocation, as `?` returns it.
 impl From<AllocError> for Usage {
     ghost from_gives = { λ _ usage. usage ≡ Memory };
 
@@ -39,6 +40,7 @@ impl From<AllocError> for Usage {
     }
 }
 
+/// A failed allocation that hands a value back, which is dropped.
 impl<T: Drop> From<AllocFailed<T>> for Usage {
     ghost from_gives = { λ _ usage. usage ≡ Memory };
 

@@ -11,7 +11,7 @@ ghost use Rattle.capkit.specs.Line.{duration_in, text_in, texts_in, time_in};
 use cap_octet::{Format, Link, read_duration, read_timestamp};
 use clap::ArgMatches;
 
-/// Whether the flag of this id is set.
+/// Whether the flag of this id is set; false where clap has no value of it.
 pub fn flag(matches: &ArgMatches<'_>, id: &str) -> bool
     ensures { result ≡ flag_in id.now (rows_of (found_of matches.now)) }
 {
@@ -27,7 +27,7 @@ pub fn optional_text<'a>(matches: &ArgMatches<'a>, id: &str) -> Option<&'a str>
     matches.get_str(id)
 }
 
-/// The first value of the argument, or no text where it has none.
+/// The first value of the argument, or the empty text where it has none.
 pub fn text<'a>(matches: &ArgMatches<'a>, id: &str) -> &'a str
     ensures { result.now ≡ text_in id.entry.now (rows_of (found_of matches.entry.now)) }
 {
@@ -63,7 +63,8 @@ pub fn link(matches: &ArgMatches<'_>, id: &str) -> Link
     }
 }
 
-/// The number, if it is one from `least` to `most`.
+/// The number, if it is one from `least` to `most`. clap has made the same test, by the row of the
+/// argument; here it is made so that the contract knows the bounds.
 fn number_within(number: Option<u64>, least: u64, most: u64) -> Option<u64>
     ensures value { result ≡ option_and_then
         (λ n. if nat_le least n && nat_le n most then Some n else None) number }
@@ -83,8 +84,8 @@ pub fn number(matches: &ArgMatches<'_>, id: &str, least: u64, most: u64) -> Opti
     number_within(matches.get_one::<u64>(id), least, most)
 }
 
-/// The same for a number of 32 bits.
-pub fn short_number(matches: &ArgMatches<'_>, id: &str, least: u32, most: u32) -> Option<u32>
+/// The number that the argument has, as `number` gives it, where its bounds are of 32 bits.
+pub fn number_u32(matches: &ArgMatches<'_>, id: &str, least: u32, most: u32) -> Option<u32>
     ensures value { result ≡ argument_number least most id.now (rows_of (found_of matches.now)) }
     ensures bounds { IfSome result (λ n. (least ≤ n) × (n ≤ most)) }
 {

@@ -20,10 +20,11 @@ use std::alloc::{AllocError, Global};
 /// The program's name.
 const NAME: &str = "capkit";
 
-/// The names of the formats that can be written.
+/// The names of the formats that can be written, as `Format::name` has them, which `whole_line`
+/// states.
 static FORMATS: [&str; 3] = ["pcap", "nsecpcap", "pcapng"];
 
-/// The names of the links that an expression can be compiled for.
+/// The names of the links that an expression can be compiled for, as `Link::name` has them.
 static LINKS: [&str; 3] = ["ether", "raw", "cooked"];
 
 /// What a line asks for.
@@ -36,7 +37,8 @@ pub enum Subcommand {
     Compile,
 }
 
-/// The subcommand of this name, which clap knows to be one of the five.
+/// The subcommand of this name. clap takes no other names than the five, so what isn't one of the
+/// first four is `compile`.
 pub fn subcommand_of_name(name: &str) -> Subcommand
     ensures { result ≡ subcommand_of_name name.now }
 {
@@ -57,6 +59,7 @@ pub struct Choices<'a> {
 }
 
 /// An argument of clap's with the id, the name and the help of a row, and nothing of its value yet.
+/// Like all here it isn't global: it belongs to its own subcommand.
 fn arg_with_name<'a>(alloc: Global, argument: Argument) -> Arg<'a>
     ensures rule { rule_of result ≡ with_name argument.name (new_rule argument.id.now) }
     ensures local { result.global ≡ false }
@@ -92,7 +95,8 @@ fn arg_of_row<'a>(alloc: Global, argument: Argument, choices: Choices<'a>) -> Ar
     }
 }
 
-/// A command of clap's with the arguments of these rows after its own.
+/// A command of clap's with the arguments of these rows after its own. An error means that memory
+/// ran out.
 fn with_arguments<'a>(
     alloc: Global,
     mut command: Command<'a>,
@@ -110,7 +114,8 @@ fn with_arguments<'a>(
     Ok(command)
 }
 
-/// The subcommand of clap's that a row of the table describes, with its arguments.
+/// The subcommand of clap's that a row of the table describes, with its arguments. An error means
+/// that memory ran out.
 fn command_of_row<'a>(
     alloc: Global,
     row: &CommandRow,
@@ -125,7 +130,8 @@ fn command_of_row<'a>(
     with_arguments(alloc, bare, row.arguments, choices)
 }
 
-/// The command of clap's that is the whole line, before its subcommands are added.
+/// The command of clap's that is the whole line, before its subcommands are added. An error means
+/// that memory ran out.
 fn line_without_commands<'a>(alloc: Global) -> Result<Command<'a>, AllocError>
     ensures { IfOk result (λ command. app_of command ≡ line_without_commands) }
 {
@@ -140,7 +146,8 @@ fn line_without_commands<'a>(alloc: Global) -> Result<Command<'a>, AllocError>
         .bin_name(NAME)
 }
 
-/// The command of clap's that is the whole line, with the subcommands of these rows.
+/// The command of clap's that is the whole line, with the subcommands of these rows. An error means
+/// that memory ran out.
 fn line_with_commands<'a>(
     alloc: Global,
     rows: &[CommandRow],
@@ -156,7 +163,8 @@ fn line_with_commands<'a>(
     Ok(command)
 }
 
-/// The command of clap's that is the whole line: all subcommands, formats and links.
+/// The command of clap's that is the whole line: all subcommands, formats and links. An error means
+/// that memory ran out.
 fn whole_line<'a>(alloc: Global) -> Result<Command<'a>, AllocError>
     ensures { IfOk result (λ command. (formats links : _) × AreChoices format_names formats
         × AreChoices link_names links
@@ -169,8 +177,8 @@ fn whole_line<'a>(alloc: Global) -> Result<Command<'a>, AllocError>
     line_with_commands(alloc, &COMMANDS, choices)
 }
 
-/// Parses the words after the program's name: clap's matches, or its refusal of them, which a
-/// request for help is too, and out of memory.
+/// Parses the words after the program's name: clap's matches, or its refusal of them. A request for
+/// help or the version is such a refusal too, and so is running out of memory.
 pub fn matches_of<'a>(alloc: Global, words: &'a [String]) -> Result<ArgMatches<'a>, Error>
     ensures taken { IfOk result (λ matches. TakesWords (map string_bytes words.entry.now)
         (subcommand_rows_of matches)) }

@@ -10,16 +10,16 @@ returns-clause-options c = record {
   keep = c.flag.ensures;
   start = c.time.ensures.value;
   stop = c.time-2.ensures.value;
-  chop_start = c.unwrap_or.ensures ∙ ap (λ o. unwrap_or o 0) c.short_number.ensures.value;
-  chop_end = c.unwrap_or-2.ensures ∙ ap (λ o. unwrap_or o 0) c.short_number-2.ensures.value;
-  snap = c.short_number-3.ensures.value;
+  chop_start = c.unwrap_or.ensures ∙ ap (λ o. unwrap_or o 0) c.number_u32.ensures.value;
+  chop_end = c.unwrap_or-2.ensures ∙ ap (λ o. unwrap_or o 0) c.number_u32-2.ensures.value;
+  snap = c.number_u32-3.ensures.value;
   shift = c.time_shift.ensures.value;
-  window = c.short_number-4.ensures.value;
+  window = c.number_u32-4.ensures.value;
   format = c.format.ensures;
 }
 
 pub returns-clause-proper : goal.returns-clause-proper
 returns-clause-proper c =
     and_from _ _ c.requires (and_from _ _ c.time.ensures.proper (and_from _ _ c.time-2.ensures.proper
-    (and_from _ _ (one_or_more most_32 _ c.short_number-3.ensures.bounds) (and_from _ _ c.time_shift.ensures.proper
-    (proper_window _ c.short_number-4.ensures.bounds)))))
+    (and_from _ _ (one_or_more most_32 _ c.number_u32-3.ensures.bounds) (and_from _ _ c.time_shift.ensures.proper
+    (proper_window _ c.number_u32-4.ensures.bounds)))))
