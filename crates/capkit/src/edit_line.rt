@@ -106,8 +106,8 @@ fn time_shift(matches: &ArgMatches<'_>) -> Shift
     }
 }
 
-/// The edit of these ranges, by its options. One that isn't given changes nothing, and the format is
-/// pcapng then.
+/// The edit of these ranges, by its options. One that isn't given changes nothing, and the format
+/// is pcapng then.
 fn edit_of(matches: &ArgMatches<'_>, ranges: Vec<(u64, u64)>) -> Edit
     requires { has_proper_ranges ranges.items ≡ true }
     ensures ranges { result.ranges ≡ ranges }

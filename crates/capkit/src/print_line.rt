@@ -45,7 +45,7 @@ fn copy_of_text(alloc: Global, text: Option<&str>) -> Result<Option<String>, All
 }
 
 /// Whether a print uses a name twice (`uses_name_twice`): its capture and its listing are inputs.
-fn names_clash(input: &str, listing: Option<&str>, output: Option<&str>) -> bool
+fn print_uses_name_twice(input: &str, listing: Option<&str>, output: Option<&str>) -> bool
     ensures { result ≡ uses_name_twice
         (input.now ∷ option_to_list (option_map (λ name. name.now) listing.entry))
         (option_map (λ name. name.now) output.entry) }
@@ -96,7 +96,7 @@ fn check_print(matches: &ArgMatches<'_>) -> Result<(), Usage>
         return Err(Usage::OptionsExclude);
     }
     let listing = optional_text(matches, ids::LISTING);
-    if names_clash(
+    if print_uses_name_twice(
         text(matches, ids::FILE),
         listing,
         optional_text(matches, ids::OUT),

@@ -7,7 +7,7 @@ use cap_filter::expression::read_expression;
 use flt_lang::bound;
 use std::alloc::Global;
 
-/// The bound of the expression that a text is, in instructions; or why the text is none.
+/// The bound of the expression that a text is, in instructions; or why the text is no expression.
 fn bound_in(alloc: Global, text: &[u8]) -> Result<usize, Failure>
     ensures bounded { IfOk result (IsBound text.now) }
     ensures failed { IfErr result (IsTextFailure text.now) }

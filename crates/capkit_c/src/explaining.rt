@@ -10,7 +10,7 @@ use flt_lang::explain;
 use flt_words::ExprFault;
 use std::alloc::Global;
 
-/// What the expression that a text is means, written out; or why the text is none.
+/// What the expression that a text is means, written out; or why the text is no expression.
 fn meaning_of(alloc: Global, text: &[u8]) -> Result<String, Failure>
     ensures meaning { IfOk result (λ meaning. Explains text.now (string_bytes meaning)) }
     ensures failed { IfErr result (IsTextFailure text.now) }
@@ -25,6 +25,7 @@ fn meaning_of(alloc: Global, text: &[u8]) -> Result<String, Failure>
     };
     match explain(alloc, &checked.expr) {
         Ok(meaning) => Ok(meaning),
+        // Nothing else keeps an expression from being written out.
         Err(_) => Err(Failure::Text(ExprFault::Memory)),
     }
 }

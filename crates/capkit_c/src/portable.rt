@@ -13,8 +13,8 @@ const MOST_ATTACHED: usize = 4096;
 /// How many words of memory a program has.
 const WORDS: u32 = 16;
 
-/// From this offset on loads mean something else on Linux, and an index of up to as much less one
-/// can't wrap below it.
+/// 2^31. Linux takes a load's offset from here on as negative, which means something else there.
+/// And where X and an offset are both below it, their sum doesn't wrap.
 const HALF_OF_PLACES: u32 = 0x8000_0000;
 
 /// Whether X holds less than 2^31 after an instruction if it does before it: it isn't loaded from
@@ -29,14 +29,17 @@ fn keeps_x_small(insn: &Insn) -> bool
     }
 }
 
-/// Whether an instruction does the same on Linux as on libpcap's machine, where X is small or not.
+/// Whether an instruction does the same on Linux's and libpcap's machines as on the one here, where
+/// `small` says that X is below 2^31. `docs/LIBRARY.md` (Programs elsewhere) has what is different.
 fn runs_alike(insn: &Insn, small: bool) -> bool
     ensures { result ≡ runs_alike small insn.now }
 {
     match decode(insn.code) {
         Some(Operation::LoadAbsolute(_) | Operation::LoadHeaderLength) => insn.k < HALF_OF_PLACES,
         Some(Operation::LoadIndirect(_)) => small && insn.k < HALF_OF_PLACES,
+        // The length is the captured one on Linux.
         Some(Operation::Load(_, Source::Length)) => false,
+        // A shift by 32 or more gives 0 here, and is taken modulo 32 on Linux.
         Some(Operation::Compute(AluOperation::ShiftLeft, Operand::IndexRegister)) => false,
         Some(Operation::Compute(AluOperation::ShiftRight, Operand::IndexRegister)) => false,
         _ => true,
@@ -51,14 +54,16 @@ fn all_keep_x_small(insns: &[Insn]) -> bool
     insns.iter().all(|insn| keeps_x_small(insn))
 }
 
-/// Whether every instruction does the same elsewhere, where X is small or not.
+/// Whether every instruction does the same elsewhere, where `small` says that X is below 2^31
+/// throughout.
 fn all_run_alike(insns: &[Insn], small: bool) -> bool
     ensures { result ≡ list_all (runs_alike small) insns.now }
 {
     insns.iter().all(|insn| runs_alike(insn, small))
 }
 
-/// What is noted of the place that comes after `place` others; `false` past the last one.
+/// What is noted in `following`, of the instructions after one, of that at index `place`; `false`
+/// past the last one.
 fn is_live_at(following: &[bool], place: usize) -> bool
     ensures { result ≡ is_live_at following.now place }
 {
@@ -68,8 +73,8 @@ fn is_live_at(following: &[bool], place: usize) -> bool
     }
 }
 
-/// Whether a run may read a word of memory before it writes it, from an instruction on, by what
-/// holds of the places after it.
+/// Whether a run may read a word of memory before it writes it, from an instruction on. `following`
+/// has the same of each instruction after it.
 fn is_live_before(insn: &Insn, word: u32, following: &[bool]) -> bool
     ensures { result ≡ is_live_before word insn.now following.now }
 {
@@ -85,8 +90,8 @@ fn is_live_before(insn: &Insn, word: u32, following: &[bool]) -> bool
     }
 }
 
-/// Notes of each place whether a run from there on may read a word of memory before it writes it,
-/// from the last instruction to the first: jumps go forward.
+/// Notes of each instruction whether a run from there on may read a word of memory before it writes
+/// it. It goes from the last one to the first, since jumps go forward.
 fn mark_live(insns: &[Insn], word: u32, marks: &mut [bool])
     requires { length marks.old ≡ length insns.now }
     ensures { marks.new ≡ live_places word insns.now }
@@ -99,8 +104,8 @@ fn mark_live(insns: &[Insn], word: u32, marks: &mut [bool])
     }
 }
 
-/// Whether a run may read a word of memory before it writes it. libpcap finds there what lay in its
-/// memory, and Linux refuses the program.
+/// Whether a run may read a word of memory before it writes it. The machine here finds 0 then,
+/// libpcap what lay in its memory, and Linux refuses the program.
 fn may_read_unwritten(insns: &[Insn], word: u32) -> bool
     requires { length insns.now ≤ MOST_ATTACHED }
     ensures { result ≡ is_live_at (live_places word insns.now) 0 }

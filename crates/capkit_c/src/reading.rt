@@ -10,7 +10,8 @@ use crate::memory::{Found, Interface, Packet, Reader, comment_of, next_unit};
 use crate::texts::put_text;
 use cap_octet::Fault;
 
-/// The number of a fault as C sees it, 201 to 221 (`library/include/capkit.h`).
+/// The number of a fault as C sees it, 201 to 221 (`library/include/capkit.h`). No call returns 215
+/// to 220, which are faults of devices and jobs.
 pub(crate) fn fault_number(fault: Fault) -> u32
     ensures { result ≡ fault_number fault }
 {

@@ -42,8 +42,9 @@ pub extern "C" fn capkit_check(insns: &[Insn], index: &mut usize) -> u32
     }
 }
 
-/// What a valid program returns on a packet of original length `len`. C sees to it that the
-/// instructions passed the check, or were compiled.
+/// What a valid program returns on a packet of original length `len`; `steps` becomes the number of
+/// instructions that the run met. C sees to it that the instructions passed the check, or were
+/// compiled.
 #[unsafe(no_mangle)]
 pub extern "C" fn capkit_run(insns: &[Insn], packet: &[u8], len: u32, steps: &mut usize) -> u32
     requires { IsValid insns.now }
@@ -54,8 +55,8 @@ pub extern "C" fn capkit_run(insns: &[Insn], packet: &[u8], len: u32, steps: &mu
     answer
 }
 
-/// What a valid program returns on a packet of original length `len`, where its steps aren't asked
-/// for: 0 where it doesn't match.
+/// What a valid program returns on a packet of original length `len`: 0 where it doesn't match. It
+/// is `capkit_run` without the number of steps.
 #[unsafe(no_mangle)]
 pub extern "C" fn capkit_matches(insns: &[Insn], packet: &[u8], len: u32) -> u32
     requires { IsValid insns.now }
@@ -65,8 +66,8 @@ pub extern "C" fn capkit_matches(insns: &[Insn], packet: &[u8], len: u32) -> u32
     run_insns(insns, packet, len).0
 }
 
-/// What a run of a valid program is before each instruction that it meets, as far as there is room;
-/// gives how many it meets.
+/// Puts into `steps` what the machine is before each instruction that a run of a valid program
+/// meets, as far as there is room, and returns how many the run meets; what is after them stays.
 #[unsafe(no_mangle)]
 pub extern "C" fn capkit_trace(insns: &[Insn], packet: &[u8], len: u32, steps: &mut [Step]) -> usize
     requires { IsValid insns.now }

@@ -41,7 +41,7 @@ fn status_text(status: u32) -> &'static str
     }
 }
 
-/// What the rule is called that has this number after `RULES`.
+/// What the rule is called that has this number after `RULES`; nothing where none has it.
 fn rule_text(rule: u32) -> &'static str
     ensures { result.now ≡ rule_text rule }
 {
@@ -66,13 +66,14 @@ pub(crate) fn put_text(bytes: &[u8], buffer: &mut [u8]) -> usize
 {
     if !buffer.is_empty() {
         let count = bytes.len().min(buffer.len() - 1);
-        put_front(&bytes[..count], buffer);
+        put_with_nul(&bytes[..count], buffer);
     }
     bytes.len()
 }
 
-/// Puts bytes into a buffer that has room for them, and a NUL after them.
-fn put_front(bytes: &[u8], buffer: &mut [u8])
+/// Puts bytes at the start of a buffer that has room for them, and a NUL after them; what follows
+/// is unchanged.
+fn put_with_nul(bytes: &[u8], buffer: &mut [u8])
     requires { length bytes.now < length buffer.old }
     ensures { buffer.new ≡ bytes.now ++ 0 ∷ drop (length bytes.now + 1) buffer.old }
 {
@@ -81,7 +82,7 @@ fn put_front(bytes: &[u8], buffer: &mut [u8])
     buffer[count] = 0;
 }
 
-/// What a number after `FOUND` is called, of a reading or a write.
+/// What a number after `FOUND` is called, of a reading or a write; nothing where none has it.
 fn found_text(number: u32) -> &'static str
     ensures { result.now ≡ found_text number }
 {
@@ -100,6 +101,7 @@ fn found_text(number: u32) -> &'static str
         12 => Fault::BadTimeResolution.text(),
         13 => Fault::BadLinkTypeField.text(),
         14 => Fault::ObsoletePacketBlock.text(),
+        // 15 to 20 are faults of devices and jobs, which no call for C returns.
         21 => Fault::TooManyOutputInterfaces.text(),
         22 => "end",
         23 => "no packet",

@@ -72,7 +72,8 @@ pub extern "C" fn capkit_write_record(
     tell_written(written, length)
 }
 
-/// Puts the section header block that a pcapng file begins with.
+/// Puts the section header block that a pcapng file begins with, as `capkit_write_file_header` puts
+/// a header.
 #[unsafe(no_mangle)]
 pub extern "C" fn capkit_write_section(buffer: &mut [u8], length: &mut usize) -> u32
     ensures { WriteTells None section_text buffer.old buffer.new length.new result }

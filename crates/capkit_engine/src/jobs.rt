@@ -14,6 +14,7 @@ pub struct Jobs;
 impl Engine for Jobs {
     ghost leaves = { λ command. CommandRuns (assignment command) };
 
+    /// Runs the job of the command to its end.
     fn run<I: Input + Drop, O: Output, E: Output>(
         alloc: Global,
         command: Command,

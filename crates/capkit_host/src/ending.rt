@@ -71,6 +71,7 @@ fn tell_message<W: Write>(alloc: Global, errors: &mut W, message: &[u8]) {
     if let Some(text) = message_line(message) {
         let _ = match format!(in alloc; "{}\n", Shown { text }) {
             Ok(line) => errors.write_all(line.as_bytes()),
+            // No memory for the line: it is written in parts.
             Err(_) => writeln!(errors, "{}", Shown { text }),
         };
     }
@@ -96,7 +97,8 @@ fn status_after_writes(
 }
 
 /// Tells the message of a run and how its output ended, by the causes of the last write that failed
-/// in it and of the one after it; and returns the status.
+/// in it and of the one after it; and returns the status. The error is a failure of the latter,
+/// which is still to be told.
 ///
 /// Where the reader of a pipe went away, as of `| head`, nobody hears that the rest can't be
 /// written.

@@ -63,12 +63,14 @@ fn help_text(alloc: Global) -> Result<String, AllocError> {
     let mut words = Vec::new(alloc);
     words.push(String::from_str(alloc, "--help")?)?;
     match command_of(alloc, words) {
+        // Never so: what clap returns of a request for help is an error.
         Ok(_) => Ok(String::new(alloc)),
         Err(usage) => format!(in alloc; "{usage}"),
     }
 }
 
-/// Adds to a text the list of the commands with what they do, as the help of the program has it.
+/// Adds to a text the list of the commands with what they do, as the help of the program has it. An
+/// error means that memory ran out.
 pub(crate) fn add_commands(alloc: Global, text: &mut String) -> Result<(), AllocError> {
     let help = help_text(alloc)?;
     if let Some((_, list)) = help.split_once(COMMANDS)

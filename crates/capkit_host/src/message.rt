@@ -83,14 +83,17 @@ fn add_line(
 }
 
 /// Why clap refuses the words, without advice that fails, with what does here what a habit of other
-/// tools asks for, and where there is no command with what each is for.
+/// tools asks for, and where there is no command with what each is for. An error means that memory
+/// ran out.
 pub fn refusal_text(alloc: Global, error: &clap::Error) -> Result<String, AllocError> {
     let told = format!(in alloc; "{error}")?;
     let hint = hint_for_refusal(&told);
     let mut text = String::new(alloc);
     let mut is_after_blank = false;
     for line in told.lines() {
+        // Where advice is left out, one of the blank lines around it is too.
         let is_second_blank = is_after_blank && line.is_empty();
+        // A hint stands in place of clap's guess at what was meant.
         let is_worse = hint.is_some() && line.starts_with(TIP);
         if is_second_blank || is_worse || line.starts_with(VALUE_TIP) {
             continue;
@@ -123,6 +126,7 @@ impl<R: Errors, A: Allocator> Errors for (R, A) {
 pub fn tell(rt: &(impl AllocGlobal + Errors), message: impl fmt::Display + Drop) {
     let _ = match format!(in rt.alloc(); "capkit: {message}\n") {
         Ok(line) => rt.write_text(&line),
+        // No memory for the line: it is written in parts.
         Err(_) => rt.eprintln(format_args!("capkit: {message}")),
     };
 }

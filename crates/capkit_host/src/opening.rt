@@ -96,7 +96,8 @@ pub fn open_inputs<'a, 'p>(
     Ok(inputs)
 }
 
-/// Creates the output of this name, with what it holds.
+/// Creates the output of this name. A file that is there is opened, and keeps its bytes until the
+/// first write or the end of the run.
 pub fn create_output<'a>(rt: &HostRuntime, name: &'a str) -> Result<Created, Stop<'a>> {
     match Created::create(rt, name) {
         Ok(created) => Ok(created),
@@ -105,7 +106,7 @@ pub fn create_output<'a>(rt: &HostRuntime, name: &'a str) -> Result<Created, Sto
 }
 
 /// The output with its buffer: none on a terminal; one that is written out before each read where a
-/// read may wait; else one that is written out when it is full.
+/// read may wait; else one that is written out when it is full. An error means that memory ran out.
 pub fn buffer_output<'a>(
     rt: &HostRuntime,
     created: Created,

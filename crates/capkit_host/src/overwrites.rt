@@ -32,7 +32,7 @@ pub(crate) fn output_path(name: Option<&str>) -> &str
     }
 }
 
-/// Whether the input of this name is the file of that identity.
+/// Whether the input of this name is the file of that identity; false where it can't be looked up.
 fn is_read_as(files: &impl Identify, name: &str, file: Identity) -> bool {
     files.identity_of(input_path(name)) == Some(file)
 }

@@ -26,6 +26,7 @@ pub fn first_word_not_utf8(rt: &impl Env, buf: &mut [u8]) -> Option<usize>
     for place in 0..usize::MAX {
         match rt.arg(place, buf) {
             Ok(count) if str::from_utf8(&buf[..count]).is_err() => return Some(count),
+            // A word that is longer than the buffer isn't looked at.
             Ok(_) | Err(FillError::TooLong) => {}
             Err(FillError::NotPresent) => return None,
         }
@@ -65,7 +66,7 @@ pub fn run_program<J: Engine>(rt: &HostRuntime) -> u8
         return refuse(rt, Usage::Memory);
     };
     let parsed = line_of_words(rt, words);
-    carry_out(
+    run_or_refuse(
         rt,
         parsed,
         |line: Line| -> u8
@@ -75,8 +76,8 @@ pub fn run_program<J: Engine>(rt: &HostRuntime) -> u8
     )
 }
 
-/// Runs the line by `run`, or reports why there is none; returns the status of either.
-fn carry_out<R: FnOnce(Line) -> u8 + Drop>(
+/// Runs the line by `run`, or reports why the words are none; returns the status of either.
+fn run_or_refuse<R: FnOnce(Line) -> u8 + Drop>(
     rt: &HostRuntime,
     parsed: Result<Line, Usage>,
     run: R,

@@ -40,7 +40,8 @@ fn is_file(rt: &HostRuntime, output: &str) -> bool {
     }
 }
 
-/// Whether a line can be written over on a terminal of that name.
+/// Whether a line can be written over on standard error: it is a terminal, and its name, as `TERM`
+/// has it, isn't `dumb`.
 pub fn can_write_over(is_terminal: bool, name: Option<&str>) -> bool {
     is_terminal && name != Some("dumb")
 }
@@ -67,6 +68,7 @@ pub fn is_in_foreground(status: &str) -> bool {
         return true;
     };
     let mut fields = fields.split_whitespace();
+    // After the name, the third is the fifth of all, and the third after that the eighth.
     match (fields.nth(2), fields.nth(2)) {
         (Some(group), Some(foreground)) => group == foreground,
         _ => true,
@@ -96,8 +98,8 @@ pub struct Progress<'a> {
     is_shown: Cell<bool>,
 }
 
-/// When a job begins that shows its progress. None where that could meet lines, or another
-/// program's progress, on the terminal, or where none can be drawn on.
+/// The time now, at which a job begins that shows its progress. None where it shows none, as that
+/// could meet lines, or another program's progress, on the terminal, or where it can't be drawn.
 pub fn progress_start(rt: &HostRuntime, output: &str, is_drawable: bool) -> Option<Instant> {
     if !is_drawable || !is_file(rt, output) {
         return None;
@@ -138,23 +140,23 @@ impl<'a> Progress<'a> {
             let elapsed = start.elapsed(self.rt);
             // Where the clock can't be read, nothing is shown.
             let seconds = elapsed.map_or(0, |elapsed| elapsed.as_secs());
-            if self.is_due(bytes, seconds) && has_terminal(self.rt) {
+            if self.count_and_check_due(bytes, seconds) && has_terminal(self.rt) {
                 self.show(self.rt, seconds);
             }
         }
     }
 
     /// Counts bytes that were read by that second of the job, and shows progress on this terminal,
-    /// once a second at most.
+    /// once a second at most. Tests call it, with a time and a terminal of their own.
     pub fn count_at(&self, terminal: &impl Eprint, bytes: usize, seconds: u64) {
-        if self.is_due(bytes, seconds) {
+        if self.count_and_check_due(bytes, seconds) {
             self.show(terminal, seconds);
         }
     }
 
     /// Counts bytes that were read by that second of the job, and returns whether progress is to be
     /// shown: once a second at most.
-    fn is_due(&self, bytes: usize, seconds: u64) -> bool {
+    fn count_and_check_due(&self, bytes: usize, seconds: u64) -> bool {
         self.read.set(self.read.get().saturating_add(bytes as u64));
         let is_due = seconds >= self.next.get();
         if is_due {
@@ -163,7 +165,8 @@ impl<'a> Progress<'a> {
         is_due
     }
 
-    /// Writes the line of progress, over the one that is there.
+    /// Writes the line of progress, over the one that is there: `\r` goes back to its start, and
+    /// `\x1b[K` erases it. What can't be written is lost.
     fn show(&self, terminal: &impl Eprint, seconds: u64) {
         self.is_shown.set(true);
         let read = self.read.get();

@@ -23,7 +23,7 @@ fn print_answer(rt: &(impl AllocGlobal + Print + Errors), answer: &clap::Error) 
     }
 }
 
-/// Reports why clap refuses the words.
+/// Reports why clap refuses the words; where memory runs out, in clap's own words.
 pub fn tell_refusal(rt: &(impl AllocGlobal + Print + Errors), error: &clap::Error) {
     let _ = match refusal_text(rt.alloc(), error) {
         Ok(text) => rt.write_text(&text),
@@ -43,7 +43,8 @@ fn tell_usage(rt: &(impl AllocGlobal + Print + Errors), usage: &Usage) -> bool {
     true
 }
 
-/// The status of words that are no command line, and of an answer that could be written or not.
+/// The status of words that are no command line: 2, or 1 of `Usage::Memory`. Of a request, as for
+/// help, it is 0 where the answer could be written, and else 1.
 fn status_of(usage: &Usage, is_written: bool) -> u8
     ensures { result ≡ status_of usage.now is_written }
 {

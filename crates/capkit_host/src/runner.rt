@@ -72,7 +72,8 @@ fn run_over<J: Engine>(
     }
 }
 
-/// The names of the inputs, and that of the output after them. An error means that memory ran out.
+/// The names of the inputs, and that of the output after them, as an engine takes them. An error
+/// means that memory ran out.
 fn with_output_name(
     rt: &HostRuntime,
     mut names: Vec<String>,

@@ -30,19 +30,21 @@ impl fmt::Display for Stop<'_> {
     }
 }
 
+/// A failed allocation, as `?` returns it.
 impl From<AllocError> for Stop<'_> {
     fn from(_error: AllocError) -> Self {
         Stop::NoMemory
     }
 }
 
+/// A failed allocation that hands a value back, which is dropped.
 impl<T: Drop> From<AllocFailed<T>> for Stop<'_> {
     fn from(_error: AllocFailed<T>) -> Self {
         Stop::NoMemory
     }
 }
 
-/// Reports why a command was not run to its end on standard error, and returns the status of that.
+/// Reports on standard error why a command was not run to its end, and returns the status of that.
 pub fn report_stop(rt: &(impl AllocGlobal + Errors), stop: Stop<'_>) -> u8
     ensures { result ≡ 1 }
 {

@@ -10,7 +10,8 @@ use std::alloc::{AllocError, Global};
 /// The word that asks for help, as many programs take it.
 const HELP: &str = "help";
 
-/// The words, where `help [COMMAND]` is read as `[COMMAND] --help`.
+/// The words, where `help [COMMAND]` is read as `[COMMAND] --help`. An error means that memory ran
+/// out.
 pub fn with_help_option(alloc: Global, words: Vec<String>) -> Result<Vec<String>, AllocError>
     ensures { IfOk result (λ after. map string_bytes after.items
         ≡ with_help_option (map string_bytes words.items)) }
@@ -25,8 +26,8 @@ pub fn with_help_option(alloc: Global, words: Vec<String>) -> Result<Vec<String>
     Ok(asked)
 }
 
-/// The line that the words ask for, where `help` may be the first one; `NameUsedTwice` too where
-/// its output is a file that it reads.
+/// The line that the words ask for, where `help` may be the first one. The errors are those of
+/// `command_of`, and `NameUsedTwice` also where its output is a file that it reads.
 pub fn line_of_words(rt: &HostRuntime, words: Vec<String>) -> Result<Line, Usage>
     ensures ready { IfOk result (λ line. is_ready line ≡ true) }
     ensures line { IfOk result (SaysLine (with_help_option (map string_bytes words.items))) }

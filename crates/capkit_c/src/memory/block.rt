@@ -41,14 +41,16 @@ pub(crate) enum Refusal {
     NoRoom,
 }
 
-/// A block that passed all of its checks: how many interfaces there are after it, and its packet.
+/// A block that passed all of its checks, as the caller's table sees it: how many interfaces there
+/// are after it, and its packet. `cap_pcapng` has the effect without a table (`Effect` here).
 #[derive(Clone, Copy)]
 pub(crate) struct BlockEffect {
     pub(crate) interfaces: usize,
     pub(crate) packet: Option<UnitPacket>,
 }
 
-/// The interface with this number, from 0, among the first `count` of a table, if it is there.
+/// The interface with this number, from 0, among the first `count` of a table, if it is there: the
+/// table's own entry, where `KnownInterfaces::get` has it as blocks read it.
 fn interface_by_number(table: &[Interface], count: usize, number: u32) -> Option<&Interface>
     requires { count ≤ length table.now }
     ensures { option_map (λ i. described_of i.now) result
@@ -80,10 +82,12 @@ struct KnownInterfaces<'a> {
 impl Interfaces for KnownInterfaces<'_> {
     ghost list = { λ known. first_interfaces known.count known.entries.now };
 
+    /// How many there are: `count`, which is never more than the table has.
     fn count(&self) -> usize {
         self.count.min(self.entries.len())
     }
 
+    /// The interface with this number, from 0, with its name lent; `None` where there is none.
     fn get(&self, number: u32) -> Option<ReadInterface<'_>> {
         if number as usize >= self.count {
             return None;
@@ -92,8 +96,8 @@ impl Interfaces for KnownInterfaces<'_> {
     }
 }
 
-/// A packet with link type and snap length of its interface, which is among the first `count` of a
-/// table.
+/// The packet that a block has at these places, with link type and snap length of its interface,
+/// which is among the first `count` of a table.
 fn unit_packet(table: &[Interface], count: usize, spans: &PacketSpans) -> UnitPacket
     requires known { count ≤ length table.now }
     requires there { is_some (slice_get (first_interfaces count table.now) spans.now.interface)
@@ -115,8 +119,8 @@ fn unit_packet(table: &[Interface], count: usize, spans: &PacketSpans) -> UnitPa
     }
 }
 
-/// Makes the checks of a whole block of this frame, and adds the interface that it describes to the
-/// first `count` of a table. A refusal leaves the table unchanged.
+/// Makes the checks of a whole block of this frame, and adds the interface that it describes, if it
+/// describes one, to the first `count` of a table. A refusal leaves the table unchanged.
 fn apply_block(
     table: &mut [Interface],
     count: usize,
@@ -193,6 +197,7 @@ pub(crate) fn read_block(
         (length table.old)) }
     ensures kept { OnErr result (table.new ≡ table.old) }
 {
+    // By 12 bytes, the length of the shortest block, its frame is known.
     let Some(first) = text.first_chunk::<12>() else {
         return Err(Refusal::Fault(Fault::Truncated));
     };

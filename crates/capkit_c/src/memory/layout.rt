@@ -8,7 +8,7 @@ use cap_octet::Order;
 use cap_pcap::{Head, Resolution};
 use cap_pcapng::{Clock, Interface as ReadInterface, MOST_INTERFACES};
 
-/// The most bytes of an interface's name.
+/// The most bytes of an interface's name, as `Interface::name` has room for them.
 const MOST_NAME: usize = 255;
 
 /// How far a capture is read, and what its units declare of those after them. All zeros is the
@@ -127,7 +127,8 @@ impl Reader {
         (self.interfaces as usize).min(room).min(MOST_INTERFACES)
     }
 
-    /// A reader at place `offset`, of a file of which this is declared, with as many interfaces.
+    /// A reader at `offset` bytes from the start, of a file of which this is declared, with this
+    /// many interfaces. What isn't declared is 0.
     pub(crate) fn new_at(offset: usize, form: FileState, interfaces: usize) -> Self
         requires { interfaces ≤ 256 }
         ensures offset { result.offset ≡ offset }
@@ -171,7 +172,7 @@ impl Reader {
 }
 
 impl Interface {
-    /// An interface that was read, with its name copied.
+    /// An interface that was read, with its name copied; the bytes after the name are 0.
     pub(crate) fn of_read(read: &ReadInterface<'_>) -> Self
         ensures { described_of result ≡ description_of read.now }
     {
@@ -199,7 +200,8 @@ impl Interface {
         }
     }
 
-    /// How the ticks of its packets become times.
+    /// How the ticks of its packets become times. A caller may have left `units` at 0, which counts
+    /// as 1: nothing is divided by 0.
     fn clock(&self) -> Clock
         ensures units { result.units ≡ (described_of self.now).units }
         ensures offset { result.offset ≡ self.now.offset }

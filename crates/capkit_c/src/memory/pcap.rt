@@ -10,8 +10,9 @@ use cap_pcap::{Head, RecordHead, read_file_header, read_magic, read_record_heade
 /// The bytes of a record in front of its data.
 pub(crate) const RECORD_HEADER: u32 = 16;
 
-/// The file header that a text begins with, or the first check that fails; beside those of the
-/// header that it is there.
+/// The file header that a text begins with, or the first check that fails: `NotACaptureFile`
+/// without a magic number in the first four bytes, `Truncated` where fewer than the header's 24 are
+/// there, and then those of the header.
 pub(crate) fn header_in(text: &[u8]) -> Result<Head, Fault>
     ensures { result ≡ checked (header_fault text.now) (header_in text.now) }
 {
@@ -24,8 +25,9 @@ pub(crate) fn header_in(text: &[u8]) -> Result<Head, Fault>
     read_file_header(bytes)
 }
 
-/// The header of the record that a text begins with, or the first check that fails; beside those of
-/// the header that the record is there with its data.
+/// The header of the record that a text begins with, or the first check that fails: `Truncated`
+/// where fewer than the header's 16 bytes are there, then those of the header, and `Truncated`
+/// where the data aren't all there.
 pub(crate) fn record_header_in(head: &Head, text: &[u8]) -> Result<RecordHead, Fault>
     ensures { result ≡ checked (record_fault head.now text.now) (record_header_in head.now
         text.now) }

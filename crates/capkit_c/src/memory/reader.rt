@@ -35,8 +35,11 @@ pub enum Found {
 /// A unit that was read.
 #[derive(Clone, Copy)]
 struct ReadUnit {
+    /// In bytes.
     size: usize,
+    /// What is declared of the file after it.
     form: FileState,
+    /// How many interfaces the section has after it.
     interfaces: usize,
     packet: Option<UnitPacket>,
 }
@@ -61,7 +64,8 @@ fn is_pcapng(text: &[u8]) -> bool
     }
 }
 
-/// The first link type of a file after a block, given that before it and the interfaces after it.
+/// The first link type of a file after a block: the one known before it, else that of the first of
+/// `count` interfaces, which the section has after it; `None` if there are none.
 fn first_link_type(first: Option<u16>, table: &[Interface], count: usize) -> Option<u16>
     requires { count ≤ length table.now }
     ensures { (order : Order) → result ≡ first_link_after first
@@ -73,8 +77,8 @@ fn first_link_type(first: Option<u16>, table: &[Interface], count: usize) -> Opt
     first.or(table.first().map(|interface| interface.link_type))
 }
 
-/// Reads the record that a text begins with, in a pcap file with this header; `interfaces` are
-/// handed on.
+/// Reads the record that a text begins with, in a pcap file with this header. The count of
+/// interfaces, which says nothing in pcap, is handed on as the caller's reader has it.
 fn read_record_unit(head: &Head, text: &[u8], interfaces: usize) -> Result<ReadUnit, Refusal>
     ensures ok { IfOk result (λ step. (known : List Described) (table : List Interface)
         → interfaces ≤ length table → interfaces ≤ 256 → BeginsWithUnit (form.Pcap head.now) known
@@ -163,6 +167,7 @@ fn read_unit(
                 return read_block_unit(form, None, None, table, count, text);
             }
             match header_in(text) {
+                // A pcap file header has 24 bytes.
                 Ok(head) => Ok(ReadUnit {
                     size: 24,
                     form: FileState::Pcap(head),
@@ -203,7 +208,8 @@ fn packet_at(at: usize, placed: &UnitPacket) -> Packet
     }
 }
 
-/// How many interfaces the section has so far, at most `room`; none before the first unit.
+/// How many interfaces the section has so far, at most `room` and 256; none before the first unit,
+/// whatever C wrote.
 fn known_interface_count(reader: &Reader, form: FileState, room: usize) -> usize
     ensures counts { Counts form reader.now room result }
     ensures bare { IsBare form result }
@@ -216,7 +222,8 @@ fn known_interface_count(reader: &Reader, form: FileState, room: usize) -> usize
     }
 }
 
-/// Whether a capture is at its clean end, where `text` is left of it: not before its first unit.
+/// Whether a capture is at its clean end, where `text` is left of it. An empty one, of which no
+/// unit was read, isn't: its file header is missing.
 fn is_at_end(form: FileState, text: &[u8]) -> bool
     ensures over { IsTrue result → IsAtEnd form text.now }
     ensures some { result ≡ false → IsSomeFor form text.now }

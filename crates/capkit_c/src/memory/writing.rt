@@ -25,10 +25,10 @@ const COMMENT_CODE: u16 = 1;
 /// The code of an interface's name (option if_name).
 const NAME_CODE: u16 = 2;
 
-/// The most bytes of a comment.
+/// The most bytes of a comment: its option has 16 bits for their number.
 const MOST_COMMENT: usize = 65535;
 
-/// The most bytes of an interface's name.
+/// The most bytes of an interface's name, as a capture that is read may have them.
 const MOST_NAME: usize = 255;
 
 /// The most interfaces that a file is given.
@@ -158,8 +158,10 @@ fn put_interface(packet: &Packet<'_>, buffer: &mut [u8]) -> Written
     let name = packet.name;
     let padding = padding_after(name.len());
     let option = option_header(NAME_CODE, name);
+    // The header has no data to pad; and where there is no name, its option's header goes too.
     let start = if name.is_empty() { 7 } else { 3 };
     let option = &option[start..];
+    // 16 bytes before the option, and 16 after the name's padding.
     let size = 32 + option.len() + name.len() + padding;
     let head = interface_header(size as u32, packet);
     let end = interface_end(size as u32);
@@ -213,6 +215,8 @@ fn put_packet(number: u32, packet: &Packet<'_>, buffer: &mut [u8]) -> Written
         result }
 {
     let padding = padding_after(packet.bytes.len());
+    // 32 are the header's 28 bytes and the total length at the end; of the seven zeros before that
+    // as many are put as the padding needs.
     if packet.comment.is_empty() {
         let size = 32 + packet.bytes.len() + padding;
         let head = packet_header(size as u32, number, packet);
@@ -222,6 +226,7 @@ fn put_packet(number: u32, packet: &Packet<'_>, buffer: &mut [u8]) -> Written
     let comment = packet.comment;
     let option = option_header(COMMENT_CODE, comment);
     let option = &option[3 - padding..];
+    // The comment's padding, and the four that end the options.
     let zeros = padding_after(comment.len()) + 4;
     let size = 32 + packet.bytes.len() + option.len() + comment.len() + zeros;
     let head = packet_header(size as u32, number, packet);
