@@ -156,7 +156,8 @@ pub(crate) fn selects<A: Allocator>(
 }
 
 /// A law of the definitions, the contract of a function that does nothing: what passes of an edit,
-/// decided packet by packet, is what is unique of what is selected, as lists.
+/// decided packet by packet, is what is unique of what is selected, as lists. Laws of whole
+/// commands are in `law`.
 pub fn edit_passes_unique()
     ensures { PassesUnique }
 {}

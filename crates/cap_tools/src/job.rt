@@ -175,9 +175,9 @@ impl<I: Input, O: Output, E: Output, A: Allocator + Copy + Drop> Job<I, O, E, A>
         })
     }
 
-    /// One step on: reads the filter or compiles; then reads one input on, decides one packet, or
-    /// ends the output. It reports how the job ended where it did. A message that can't be written
-    /// is lost.
+    /// One step on. The first one reads the filter or compiles, where that is asked for; each other
+    /// one reads one input on, decides one packet, or ends the output. It reports how the job ended
+    /// where it did. A message that can't be written is lost.
     #[inline(always)]
     pub fn step(&mut self) -> Turn
         ensures after { (s : ℕ) → self.old.done ≡ Some s → (result ≡ Turn.Done s)

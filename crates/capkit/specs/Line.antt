@@ -37,12 +37,15 @@ use Rattle.capkit.specs.declared.usage.Usage.TheVariants.{BadRange, BadTime, Mem
 
 -- ---- clap's matches
 
+-- the first value of an argument, or the empty text
 abbrev pub text_in : Text → List Row → Text
 text_in id matches = unwrap_or (first_of id matches) []
 
+-- all values of an argument, in order
 abbrev pub texts_in : Text → List Row → List Text
 texts_in id matches = unwrap_or (all_of id matches) []
 
+-- a flag is set
 abbrev pub flag_in : Text → List Row → Bool
 flag_in id matches = option_map_or (λ text. bytes_eq text (codes "true")) (one_of id matches) false
 
@@ -95,6 +98,7 @@ expression_in matches =
 
 -- ---- faults of usage
 
+-- the first of two faults
 abbrev pub or_else : Option Usage → Option Usage → Option Usage
 or_else (Some fault) next = Some fault
 or_else None next = next
@@ -268,6 +272,7 @@ fault_in sub.Infos matches = infos_fault matches
 fault_in sub.Print matches = print_fault matches
 fault_in sub.Compile matches = None
 
+-- the line is what the matches of a subcommand ask for
 abbrev pub IsLineOf : Subcommand → List Row → Line → Type 0
 IsLineOf sub.Edit matches line = IsEditOf matches line
 IsLineOf sub.Merge matches line = IsMergeOf matches line
@@ -283,11 +288,14 @@ IsUsageOf fault usage = (usage ≡ Memory) ⊎ (fault ≡ Some usage)
 abbrev pub Asks : List Text → Subcommand → List Row → Type 0
 Asks words asked matches = TakesWords words (Some (name_of asked, matches))
 
+-- the words ask for the line: clap takes them, and their matches have no fault
 abbrev pub SaysLine : List Text → Line → Type 0
 SaysLine words line =
     (asked : Subcommand) × (matches : List Row) × Asks words asked matches
     × (fault_in asked matches ≡ None) × IsLineOf asked matches line
 
+-- the words are no line: clap refuses them, or it takes them, and memory ran out or this is their
+-- first fault
 abbrev pub SaysFault : List Text → Usage → Type 0
 SaysFault words (Refused error) = RefusesWords words error
 SaysFault words usage =

@@ -30,36 +30,38 @@ by_name name id = record (new_rule id) { long = Some name }
 abbrev pub by_place : (id : Text) → Rule
 by_place id = new_rule id
 
--- it has no value
+-- an argument that takes no value
 abbrev pub flag : Rule → Rule
 flag rule = record rule { action = Some SetTrue }
 
--- it has one
+-- an argument that takes one value
 abbrev pub with_one_value : Rule → Rule
 with_one_value rule = record rule { value_names = 1 }
 
--- it has a number from `least` to `most`, below 2^63, or below 2^64
+-- an argument that takes a number from `least` to `most`, below 2^63
 abbrev pub with_bounds : (least most : ℕ) → Rule → Rule
 with_bounds least most rule =
     record (with_one_value rule) { parser = Some (parser.Signed (pos least) (pos most)) }
 
+-- the same below 2^64
 abbrev pub with_wide_bounds : (least most : ℕ) → Rule → Rule
 with_wide_bounds least most rule = record (with_one_value rule) { parser = Some (parser.Unsigned least most) }
 
--- it has one of some names
+-- an argument that takes one of some names
 abbrev pub with_choices : ValueParser → Rule → Rule
 with_choices names rule = record rule { parser = Some names }
 
--- its command needs it
+-- an argument that its command needs
 abbrev pub as_required : Rule → Rule
 as_required rule = record rule { required = true }
 
--- it has any number of values
+-- an argument that takes any number of values
 abbrev pub many : Rule → Rule
 many rule = record rule {
   range = Some (record { start_inclusive = 0; end_inclusive = most_64 });
 }
 
+-- the names of the subcommands
 abbrev pub name_of : Subcommand → Text
 name_of sub.Edit = codes "edit"
 name_of sub.Merge = codes "merge"
@@ -67,6 +69,7 @@ name_of sub.Infos = codes "infos"
 name_of sub.Print = codes "print"
 name_of sub.Compile = codes "compile"
 
+-- the arguments of each subcommand, in the order in which its help lists them
 abbrev pub edit_rules : (formats : ValueParser) → List Rule
 edit_rules formats =
     flag (by_letter (codes "r") ids.KEEP.now)
@@ -112,7 +115,7 @@ abbrev pub compile_rules : (links : ValueParser) → List Rule
 compile_rules links =
     with_choices links (by_name (codes "link") ids.LINK.now) ∷ many (by_place ids.WORD.now) ∷ []
 
--- with these arguments after its own
+-- a command with these arguments after its own
 abbrev pub with_rules : App → List Rule → App
 with_rules = fold with_rule
 
@@ -120,7 +123,7 @@ with_rules = fold with_rule
 abbrev pub shape_of : Text → List Rule → Shape
 shape_of name rules = (with_rules (new_app name) rules).top
 
--- with these subcommands after its own
+-- a command with these subcommands after its own
 abbrev pub with_shapes : App → List Shape → App
 with_shapes = fold with_subcommand
 
@@ -137,6 +140,7 @@ line_without_commands =
       };
     }
 
+-- the subcommands, in the order in which help lists them
 abbrev pub line_shapes : (formats links : ValueParser) → List Shape
 line_shapes formats links =
     shape_of (name_of sub.Edit) (edit_rules formats)
@@ -158,6 +162,7 @@ LineIsSimple = (formats links : ValueParser) → is_simple (line_app formats lin
 abbrev pub LineIsFree : Type 0
 LineIsFree = (formats links : ValueParser) → is_simple_and_free (line_app formats links) ≡ true
 
+-- the names of all formats, and of all links
 abbrev pub format_names : List Text
 format_names = map format_name all_formats
 

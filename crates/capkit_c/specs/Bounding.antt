@@ -23,6 +23,7 @@ IsTextFailure text (NotUtf8 at) = IsNotUtf8 text at
 IsTextFailure text LinkType = ⊥
 IsTextFailure text (NoRoom needed) = ⊥
 
+-- the text is no expression: its failure, and the two numbers of it
 pub record HasNoBound (text : List ℕ) (number status : ℕ) : Type 0 where
   pub failure : Failure
   pub why : IsTextFailure text failure

@@ -28,6 +28,7 @@ written_packet time orig bytes comment =
 abbrev pub written_record_checks : Captured → List (Bool × Fault)
 written_record_checks p = (nat_lt p.time TIME_END, TimeOutOfRange) ∷ pcap.record_fit_checks p
 
+-- the same of a packet that is to be written as a block, whose interface has this number
 abbrev pub written_block_checks : (number : ℕ) → Captured → List (Bool × Fault)
 written_block_checks number p =
     (nat_lt p.time TIME_END, TimeOutOfRange)
@@ -36,10 +37,11 @@ written_block_checks number p =
     ++ (nat_lt number most_output_interfaces, TooManyOutputInterfaces)
     ∷ []
 
+-- the checks of an interface that is to be described
 abbrev pub interface_checks : (name : List ℕ) → List (Bool × Fault)
 interface_checks name = (nat_le (length name) 255, BadOption) ∷ []
 
--- they stand whole at the start of the buffer, and what is after them is as it was
+-- the bytes stand whole at the start of the buffer, and what is after them is as it was
 pub record StandWhole (bytes old new : List ℕ) (count : ℕ) : Type 0 where
   pub counted : count ≡ length bytes
   pub fits : length bytes ≤ length old

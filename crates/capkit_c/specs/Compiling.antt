@@ -42,7 +42,7 @@ pub record IsNotUtf8 (text : List ℕ) (at : ℕ) : Type 0 where
   pub valid : IsValidUpTo text before
   pub counted : at ≡ before + 1
 
--- why there is none; memory may be refused whatever the text is
+-- why there is no program; memory may be refused whatever the text is
 abbrev pub IsFailure : List ℕ → ℕ → ℕ → Failure → Type 0
 IsFailure text link_type room (Text refusal) = IsTextFault text refusal
 IsFailure text link_type room (NotUtf8 at) = IsNotUtf8 text at
@@ -50,7 +50,7 @@ IsFailure text link_type room LinkType = link_of (file_link_type link_type) ≡ 
 IsFailure text link_type room (NoRoom needed) =
     (room < needed) × ((prog : List Insn) × IsFor text link_type prog × (length prog ≡ needed))
 
--- its number
+-- the status of a failure
 abbrev pub failure_status : Failure → ℕ
 failure_status (Text fault.TooLong) = 1
 failure_status (Text (fault.UnknownCharacter at)) = 2
@@ -69,13 +69,15 @@ failure_status (NotUtf8 at) = 14
 failure_status LinkType = 15
 failure_status (NoRoom needed) = 16
 
--- where the text is wrong, in bytes from 1; how many instructions are needed; else 0
+-- the number beside the status: where the text is wrong, in bytes from 1; how many instructions are
+-- needed; else 0
 abbrev pub failure_number : Failure → ℕ
 failure_number (Text refusal) = unwrap_or (messages.place_of refusal) 0
 failure_number (NotUtf8 at) = at
 failure_number LinkType = 0
 failure_number (NoRoom needed) = needed
 
+-- nothing is compiled: why, the two numbers of that, and the instructions as they were
 pub record Fails (text : List ℕ) (link_type : ℕ) (old new : List Insn)
     (number status : ℕ) : Type 0 where
   pub failure : Failure

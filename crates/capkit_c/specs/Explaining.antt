@@ -21,6 +21,7 @@ pub record PutsMeaning (text old new : List ℕ) (number : ℕ) : Type 0 where
   pub put : new ≡ put_text meaning old
   pub count : number ≡ length meaning
 
+-- the text is no expression: its failure, the two numbers of it, and the buffer as it was
 pub record HasNoMeaning (text old new : List ℕ) (number status : ℕ) : Type 0 where
   pub failure : Failure
   pub why : IsTextFailure text failure

@@ -16,9 +16,11 @@ use Rattle.capkit_c.specs.declared.memory.layout.Reader.{Reader}
 abbrev pub order_of_flag : ℕ → Order
 order_of_flag flag = if flag == 0 then Little else Big
 
+-- what ticks of a pcap file are, by the flag for nanoseconds
 abbrev pub resolution_by : ℕ → Resolution
 resolution_by flag = if flag == 0 then Microseconds else Nanoseconds
 
+-- the first link type of a pcapng file, by the flag that says whether there is one
 abbrev pub link_by : ℕ → ℕ → Option ℕ
 link_by flag link = if flag == 0 then None else Some link
 
@@ -36,7 +38,7 @@ reader_form r =
     (link_by r.has_link_type r.link_type)
     else form.Unknown)
 
--- how many interfaces it knows, in a table with so much room
+-- how many interfaces a reader knows, in a table that has room for `room` of them
 abbrev pub most_known : Reader → ℕ → ℕ
 most_known r room = min (min r.interfaces room) 256
 
@@ -51,7 +53,7 @@ described_of i =
       offset = i.offset;
     }
 
--- the first of a table
+-- the first `count` interfaces of a table, as blocks look them up
 abbrev pub first_interfaces : ℕ → List Interface → List Described
 first_interfaces count table = map described_of (take count table)
 

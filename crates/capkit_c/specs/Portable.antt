@@ -11,6 +11,7 @@ use Rattle.flt_bpf.specs.declared.operation.Operation.TheVariants.{LoadAbsolute,
 use Rattle.flt_bpf.specs.declared.operation.Register.TheVariants.{Index}
 use Rattle.flt_bpf.specs.declared.operation.Source.TheVariants.{Immediate, Memory, Length}
 
+-- Linux takes the offsets of loads from here on as negative
 abbrev pub half_of_places : ℕ
 half_of_places = 2 ^ 31
 
@@ -21,6 +22,7 @@ operation_keeps (Some (Load Index _)) k = false
 operation_keeps (Some CopyToIndex) k = false
 operation_keeps _ k = true
 
+-- the same of an instruction
 abbrev pub keeps_x_small : Insn → Bool
 keeps_x_small i = operation_keeps (operation_of i.code) i.k
 
@@ -34,6 +36,7 @@ operation_alike (Some (Compute ShiftLeft IndexRegister)) k small = false
 operation_alike (Some (Compute ShiftRight IndexRegister)) k small = false
 operation_alike _ k small = true
 
+-- the same of an instruction
 abbrev pub runs_alike : Bool → Insn → Bool
 runs_alike small i = operation_alike (operation_of i.code) i.k small
 
@@ -54,6 +57,7 @@ operation_wants (Some ReturnConstant) w i following = false
 operation_wants (Some ReturnAccumulator) w i following = false
 operation_wants _ w i following = is_live_at following 0
 
+-- the same by an instruction
 abbrev pub is_live_before : ℕ → Insn → List Bool → Bool
 is_live_before w i following = operation_wants (operation_of i.code) w i following
 
@@ -71,6 +75,7 @@ none_read_unwritten (suc n) insns = none_read_unwritten n insns && not (is_live_
 abbrev pub most_attached : ℕ
 most_attached = 4096
 
+-- 1 where a program that is valid runs alike elsewhere, as far as its instructions tell; else 0
 abbrev pub is_portable : List Insn → ℕ
 is_portable insns =
     if nat_le (length insns) most_attached

@@ -101,6 +101,7 @@ pub fn run_command<J: Engine>(
     let Ok(names) = with_output_name(rt, names, output) else {
         return report_stop(rt, Stop::NoMemory);
     };
+    // The last name is the output's.
     let inputs = &names[..names.len() - 1];
     match open_devices(rt, inputs, output, progress) {
         Ok(devices) => run_over::<J>(rt, command, names, devices, output, progress),

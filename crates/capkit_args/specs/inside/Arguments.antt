@@ -14,11 +14,13 @@ use Rattle.capkit_args.specs.declared.options.Value.{Value}
 use Rattle.capkit_args.specs.declared.options.Value.TheVariants as value
 use Rattle.capkit_args.specs.Arguments.{flag, with_one_value, with_wide_bounds, with_choices, as_required, many, name_of, with_rules}
 
+-- an argument with the name of a row
 abbrev pub with_name : Name → Rule → Rule
 with_name name.Place rule = rule
 with_name (name.Letter letter) rule = record rule { short = Some letter }
 with_name (name.Long long) rule = record rule { long = Some long.now }
 
+-- an argument that takes what a row says
 abbrev pub with_value : Choices → Value → Rule → Rule
 with_value choices value.Flag rule = flag rule
 with_value choices (value.Text shown) rule = with_one_value rule
@@ -36,6 +38,7 @@ abbrev pub rule_by : Choices → Argument → Rule
 rule_by choices argument =
     with_value choices argument.value (with_name argument.name (new_rule argument.id.now))
 
+-- the command that a row describes, with its arguments
 abbrev pub app_by : Choices → CommandRow → App
 app_by choices row = with_rules (new_app row.name.now) (map (rule_by choices) row.arguments.now)
 

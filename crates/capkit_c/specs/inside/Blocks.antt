@@ -39,7 +39,7 @@ abbrev pub IsOfIfAny : List Described → Option UnitPacket → Type 0
 IsOfIfAny interfaces None = Unit {0}
 IsOfIfAny interfaces (Some p) = IsOf interfaces p
 
--- the first check that a block fails; or that it declares an interface, and a table of so much room
+-- the first check that a block fails; or that it declares an interface, and a table with this room
 -- is full
 abbrev pub IsRefusal : Frame → List Described → List ℕ → ℕ → Refusal → Type 0
 IsRefusal frame interfaces block room (refusal.Fault fault) =
@@ -87,6 +87,7 @@ pub record BlockStands (before : Option Section) (text : List ℕ) (order : Orde
   pub there : size ≤ length text
   pub some : 0 < size
 
+-- the text begins with a block, read after a section of this byte order or after none
 pub record BlockIs (section : Option Order) (interfaces : List Described) (text : List ℕ)
     (table' : List Interface) (read : BlockRead) : Type 0 where
   pub stands : Following section interfaces
@@ -104,7 +105,7 @@ pub record Declares (before : Option Section) (text : List ℕ)
   pub interface : Described
   pub stands : BlockStands before text order size (interfaces ++ interface ∷ []) None
 
--- the first check that fails; or the table of so much room is full, and the block declares an
+-- the first check that fails; or the table with this room is full, and the block declares an
 -- interface
 abbrev pub IsNoBlock : Option Order → List Described → List ℕ → ℕ → Refusal → Type 0
 IsNoBlock section interfaces text room (refusal.Fault fault) =

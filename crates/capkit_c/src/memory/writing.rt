@@ -85,7 +85,7 @@ pub fn write_file_header(nanoseconds: u32, link_type: u16, buffer: &mut [u8]) ->
 }
 
 /// Puts the record of a packet in a pcap file. It is refused where its time is 2^63 nanoseconds or
-/// more, and then as `cap_pcap::check_record_fits` says.
+/// more (`TimeOutOfRange`), and then as `cap_pcap::check_record_fits` says.
 pub fn write_record(
     nanoseconds: u32,
     time: u64,
@@ -100,6 +100,7 @@ pub fn write_record(
     if time >= TIME_END {
         return Written::Refused(Fault::TimeOutOfRange);
     }
+    // A record has nothing of link type, snapshot length, name and comment.
     let packet = Packet {
         link: 0,
         snap: 0,
@@ -136,6 +137,7 @@ pub fn write_interface(link_type: u16, snap: u32, name: &[u8], buffer: &mut [u8]
     if name.len() > MOST_NAME {
         return Written::Refused(Fault::BadOption);
     }
+    // `cap_pcapng` describes the interface of a packet; nothing else of the packet counts.
     let packet = Packet {
         link: link_type,
         snap,
@@ -169,9 +171,9 @@ fn put_interface(packet: &Packet<'_>, buffer: &mut [u8]) -> Written
 }
 
 /// Puts the block of a packet of this interface, after its section and the descriptions of its
-/// interfaces. It is refused where its time is 2^63 nanoseconds or more, its comment has over
-/// 65,535 bytes (`BadOption`), as `cap_pcapng::check_block_fits` says, and where the interface
-/// isn't among the first 4,096.
+/// interfaces. It is refused where its time is 2^63 nanoseconds or more (`TimeOutOfRange`), its
+/// comment has over 65,535 bytes (`BadOption`), as `cap_pcapng::check_block_fits` says, and where
+/// the interface isn't among the first 4,096 (`TooManyOutputInterfaces`).
 pub fn write_packet(
     interface: u32,
     time: u64,
@@ -191,6 +193,7 @@ pub fn write_packet(
     if comment.len() > MOST_COMMENT {
         return Written::Refused(Fault::BadOption);
     }
+    // The block names its interface by number, which has link type, snapshot length and name.
     let packet = Packet {
         link: 0,
         snap: 0,
