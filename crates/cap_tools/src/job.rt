@@ -337,7 +337,8 @@ impl<I: Input, O: Output, E: Output, A: Allocator + Copy + Drop> Job<I, O, E, A>
                 &self.messages,
             ),
             Err(fault) => {
-                // The bytes of a broken unit pay for no step: none is counted from here on.
+                // The job ends here, before `end`: while it is under way its invariant bounds its
+                // steps by the bytes that were read, and those of a broken unit don't count.
                 self.done = Some(1);
                 Some(JobEnd::FaultIn(input, fault))
             }

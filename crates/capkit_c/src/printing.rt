@@ -1,4 +1,5 @@
-//! Instructions and packets as lines.
+//! Instructions and packets as lines. A text is put into a buffer as far as there is room in front
+//! of a NUL, and the length that is returned is that of the whole (`put_text`).
 ghost use Rattle.std.specs.Prelude.{◌≡◌, ◌≤◌, length};
 ghost use Rattle.flt_trace.specs.Text.{insn_text};
 ghost use Rattle.capkit_c.specs.Printing.{packet_line};

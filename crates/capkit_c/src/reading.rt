@@ -40,7 +40,7 @@ pub(crate) fn fault_number(fault: Fault) -> u32
     }
 }
 
-/// The number of what a call found, as C sees it: 0 is a packet.
+/// The number of what a call found, as C sees it (`library/include/capkit.h`): 0 is a packet.
 fn found_number(found: Found) -> u32
     ensures { result ≡ found_number found }
 {

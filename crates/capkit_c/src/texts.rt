@@ -122,7 +122,8 @@ fn number_text(number: u32) -> &'static str
     }
 }
 
-/// Puts what a number of any call is called into a buffer, and gives its length.
+/// Puts what a number that any call returned is called into a buffer, as far as there is room, and
+/// gives the whole text's length.
 #[unsafe(no_mangle)]
 pub extern "C" fn capkit_text(number: u32, buffer: &mut [u8]) -> usize
     ensures count { result ≡ length (number_text number) }

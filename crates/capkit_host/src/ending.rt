@@ -115,6 +115,7 @@ pub fn tell_end<'a, W: Write>(
     ensures within { status ≤ 2 → IfOk result (λ ended. ended ≤ 2) }
 {
     let (cause, flushed) = causes;
+    // The message is lost with the reader only if it is of a failed write.
     if !(is_unread(cause) || cause.is_some() && is_unread(flushed)) {
         tell_message(alloc, errors, message);
     }

@@ -18,6 +18,7 @@ pub trait Identify {
 }
 
 impl Identify for HostRuntime {
+    /// By device and inode, as the system has them for the path.
     fn identity_of(&self, path: &str) -> Option<Identity> {
         let metadata = fs::metadata(self, path).ok()?;
         if !metadata.is_file() {

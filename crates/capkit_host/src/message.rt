@@ -26,6 +26,7 @@ pub struct Shown<'a> {
 }
 
 impl fmt::Display for Shown<'_> {
+    /// Writes the text; each control character as `\x` and two hexadecimal digits.
     fn fmt<W: fmt::Write>(&self, f: &mut fmt::Formatter<W>) -> fmt::Result {
         for letter in self.text.chars() {
             if letter.is_control() {
@@ -46,6 +47,7 @@ pub struct ShownBytes<'a> {
 }
 
 impl fmt::Display for ShownBytes<'_> {
+    /// Writes what is UTF-8 as `Shown` does, and each other byte as `\x` and two digits.
     fn fmt<W: fmt::Write>(&self, f: &mut fmt::Formatter<W>) -> fmt::Result {
         for chunk in self.bytes.utf8_chunks() {
             write!(
@@ -111,12 +113,14 @@ pub trait Errors: Eprint {
 }
 
 impl Errors for HostRuntime {
+    /// Writes the text by std's `write_all`, whose first write has all of it.
     fn write_text(&self, text: &str) -> io::Result<()> {
         self.stderr().write_all(text.as_bytes())
     }
 }
 
 impl<R: Errors, A: Allocator> Errors for (R, A) {
+    /// As the runtime writes it, whatever the allocator beside it.
     fn write_text(&self, text: &str) -> io::Result<()> {
         self.0.write_text(text)
     }

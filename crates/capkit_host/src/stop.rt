@@ -19,6 +19,7 @@ pub enum Stop<'a> {
 }
 
 impl fmt::Display for Stop<'_> {
+    /// Writes `NAME: ` and why, or `no memory`; a name as `Shown` has it.
     fn fmt<W: fmt::Write>(&self, f: &mut fmt::Formatter<W>) -> fmt::Result {
         let (name, fault) = match self {
             Stop::CannotOpen(name) => (*name, "cannot open"),

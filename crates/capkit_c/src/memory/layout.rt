@@ -172,7 +172,8 @@ impl Reader {
 }
 
 impl Interface {
-    /// An interface that was read, with its name copied; the bytes after the name are 0.
+    /// An interface that was read, with its name copied, which has 255 bytes at most; the bytes
+    /// after the name are 0.
     pub(crate) fn of_read(read: &ReadInterface<'_>) -> Self
         ensures { described_of result ≡ description_of read.now }
     {

@@ -109,7 +109,7 @@ fn read_record_unit(head: &Head, text: &[u8], interfaces: usize) -> Result<ReadU
 
 /// Reads the block that a text begins with, after a section of this byte order or after none.
 /// `first` is the file's first link type so far; the first `count` of `table` are the section's
-/// interfaces.
+/// interfaces. `form`, what is declared before the block, is there for the contract alone.
 fn read_block_unit(
     form: FileState,
     section: Option<Order>,
