@@ -7,7 +7,8 @@ ghost use Rattle.cap_process.specs.Whole.{CutsGivePrefixes, NegationParts};
 
 use cap_io::laws::items_back;
 
-/// What is counted of the packets of a file are their sums and times, as lists.
+/// What is counted packet by packet is what the list of a file's packets has: how many there are,
+/// the sums of their lengths, their least, greatest and last time, and whether times ascend.
 pub fn report_counts_all()
     ensures { CountsAll }
 {}
@@ -23,8 +24,8 @@ pub fn window_has_last_marks()
     ensures { HasLastMarks }
 {}
 
-/// An edit ends at the first packet that is selected and whose time leaves its range, and only
-/// there. What passes is what is unique of what is selected in front of it.
+/// An edit ends at the first packet that is selected and whose time, once moved, is out of range,
+/// and only there. What passes is what is unique of what is selected in front of it.
 pub fn edit_ends_without_time()
     ensures { EndsWithoutTime }
 {}

@@ -55,7 +55,7 @@ fn found_number(found: Found) -> u32
 
 /// Reads the unit at the reader's place. By 0 it has a packet, by 223 none, and the reader is after
 /// it; 222 is the clean end; by 224 the table has no room for its interface; any other number is
-/// that of the first check that it fails. By these nothing is written.
+/// that of the first check that it fails. By all but 0 and 223 nothing is written.
 #[unsafe(no_mangle)]
 pub extern "C" fn capkit_next(
     reader: &mut Reader,

@@ -26,7 +26,7 @@ pub fn finish<'a, W: Write + Drop>(
     requires { status ≤ 2 }
     ensures within { IfOk result (λ ended. ended ≤ 2) }
 
-    // The job told why, so that it isn't told again; and a failed write is no success.
+    // A failed write of the job is told by its message, and not again here; and it is no success.
     ensures exact { is_some target.cause ≡ true → IsOkAnd result (λ ended. 0 < ended) }
 {
     let (mut target, cause) = target.into_inner();

@@ -126,7 +126,8 @@ impl<R: Errors, A: Allocator> Errors for (R, A) {
     }
 }
 
-/// Writes a message to standard error. One that can't be written is lost.
+/// Writes `capkit: ` and a message, as one line, to standard error. One that can't be written is
+/// lost.
 pub fn tell(rt: &(impl AllocGlobal + Errors), message: impl fmt::Display + Drop) {
     let _ = match format!(in rt.alloc(); "capkit: {message}\n") {
         Ok(line) => rt.write_text(&line),

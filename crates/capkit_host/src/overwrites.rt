@@ -11,7 +11,7 @@ const STANDARD_INPUT: &str = "/dev/stdin";
 /// The path of the file that is standard output, on systems that have one.
 const STANDARD_OUTPUT: &str = "/dev/stdout";
 
-/// The path of the input of this name.
+/// The path of the input of this name; `/dev/stdin` for `-`.
 pub(crate) fn input_path(name: &str) -> &str
     ensures { result.now ≡ input_path name.now }
 {
@@ -22,7 +22,7 @@ pub(crate) fn input_path(name: &str) -> &str
     }
 }
 
-/// The path of the output of this name; of standard output where there is none.
+/// The path of the output of this name; `/dev/stdout` for `-`, and where there is no name.
 pub(crate) fn output_path(name: Option<&str>) -> &str
     ensures { result.now ≡ output_path (option_map (λ name. name.now) name.entry) }
 {
