@@ -38,7 +38,7 @@ pub fn write_report<O: Output>(
     write_times(output, report.tally)
 }
 
-/// The format's name; empty where there is none, which no input that is reported has.
+/// The format's name; empty where there is none, but an input without a format isn't reported.
 fn kind_name(kind: Option<Kind>) -> &'static [u8]
     ensures { result.now ≡ kind_name kind }
 {

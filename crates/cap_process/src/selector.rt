@@ -41,7 +41,7 @@ pub enum Verdict {
 #[derive(Drop)]
 pub enum Policy<A: Allocator> {
     Edit(Edit<A>),
-    /// By what matches; with a number, until that many packets passed.
+    /// What matches passes; with a number, no more than that many packets.
     Filter(Filter<A>, Option<u64>),
     KeepAll,
     /// All are counted, and none passes.

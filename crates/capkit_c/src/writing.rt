@@ -53,8 +53,9 @@ pub extern "C" fn capkit_write_file_header(
     tell_written(write_file_header(nanoseconds, link_type, buffer), length)
 }
 
-/// Puts a record of a pcap file, as `capkit_write_file_header` puts the header. A packet that no
-/// record holds is 204 (`TooLong`) or 210 (`TimeOutOfRange`), with the length 0.
+/// Puts a record of a pcap file, as `capkit_write_file_header` puts the header. `time` is in
+/// nanoseconds since 1970. A packet that no record holds is 204 (`TooLong`) or 210
+/// (`TimeOutOfRange`), with the length 0.
 #[unsafe(no_mangle)]
 pub extern "C" fn capkit_write_record(
     nanoseconds: u32,
@@ -98,9 +99,9 @@ pub extern "C" fn capkit_write_interface(
     tell_written(write_interface(link_type, snap, name, buffer), length)
 }
 
-/// Puts an enhanced packet block, as `capkit_write_file_header` puts a header. A packet that no
-/// block holds is 204 (`TooLong`), 208 (`BadOption`), 210 (`TimeOutOfRange`) or 221
-/// (`TooManyOutputInterfaces`), with the length 0.
+/// Puts an enhanced packet block, as `capkit_write_file_header` puts a header. `time` is in
+/// nanoseconds since 1970. A packet that no block holds is 204 (`TooLong`), 208 (`BadOption`), 210
+/// (`TimeOutOfRange`) or 221 (`TooManyOutputInterfaces`), with the length 0.
 #[unsafe(no_mangle)]
 pub extern "C" fn capkit_write_packet(
     interface: u32,

@@ -28,6 +28,7 @@ pub(crate) struct UnitPacket {
     pub(crate) interface: u32,
     pub(crate) link_type: u16,
     pub(crate) snap: u32,
+    /// Nanoseconds since 1970-01-01 00:00:00 UTC.
     pub(crate) time: u64,
     pub(crate) orig: u32,
 }
@@ -172,6 +173,7 @@ fn apply_block(
 /// A block that was read.
 #[derive(Clone, Copy)]
 pub(crate) struct BlockRead {
+    /// Its length in bytes.
     pub(crate) size: usize,
     /// The byte order of its section.
     pub(crate) order: Order,
