@@ -110,7 +110,8 @@ impl<W: Write + Drop> CountingWriter<W> {
         self.writer.flush()
     }
 
-    /// Whether its buffer has room for `count` bytes and one more.
+    /// Whether its buffer has room for `count` bytes and one more; std's `BufWriter` then copies
+    /// them there and calls nothing. No clause: it only chooses between two ways that do the same.
     #[inline(always)]
     pub(crate) fn has_room(&self, count: usize) -> bool {
         count < self.writer.capacity() - self.writer.buffer().len()

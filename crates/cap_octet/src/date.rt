@@ -44,6 +44,7 @@ fn day_bytes(day: CalendarDay) -> [u8; 10]
     ensures { result ≡ day_text (ymd day.year day.month day.day) }
 {
     let (year, month, day) = (day.year as u32, day.month as u32, day.day as u32);
+    // Divided by ten at a time, as `digits` of the contract does.
     [
         last_digit(year / 10 / 10 / 10),
         last_digit(year / 10 / 10),
@@ -58,7 +59,7 @@ fn day_bytes(day: CalendarDay) -> [u8; 10]
     ]
 }
 
-/// The time of day as `hh:mm:ss`, of the seconds since some midnight.
+/// The time of day as `hh:mm:ss`, of the seconds since any midnight, also an earlier day's.
 fn clock_bytes(seconds: u64) -> [u8; 8]
     ensures { result ≡ clock_text seconds }
 {
@@ -90,7 +91,8 @@ pub fn nine_digits(number: u32) -> [u8; 9]
 }
 
 /// A printed date up to its point, of a second since 1970-01-01 00:00:00 UTC: `YYYY-MM-DD
-/// hh:mm:ss.`, in UTC.
+/// hh:mm:ss.`, in UTC. 2^34 seconds are 198,841 days, fewer than `calendar_day` has; times end
+/// before.
 #[tactic(auto, unfolding(crate::specs::Date::second_text))]
 pub fn second_bytes(second: u64) -> [u8; 20]
     requires { second < 2 ^ 34 }

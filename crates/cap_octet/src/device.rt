@@ -37,9 +37,9 @@ pub trait Input {
     /// call changes that. Where a device doesn't give this it may fail at once.
     ghost sure: { Self → Option ℕ } = { λ _. Some 0 };
 
-    /// Reads into the start of the buffer and returns how many bytes came. None for a buffer that
+    /// Reads into the start of the buffer and returns how many bytes came. 0 for a buffer that
     /// isn't empty means the end. An error is a failure of the device in this call: it gave nothing
-    /// and left the buffer.
+    /// and left the buffer unchanged.
     fn read(&mut self, buf: &mut [u8]) -> Result<usize, DeviceFault>
         ensures within { IfOk result (λ n. n ≤ length buf.old) }
         ensures counted { given self.new ≡ given self.old + count_of result }
@@ -157,7 +157,8 @@ pub fn read_full<I: Input>(input: &mut I, buf: &mut [u8]) -> Result<usize, Devic
     }
 }
 
-/// Fills the buffer as `read_full` does, read by read. It stands apart since one read mostly does.
+/// Fills the buffer as `read_full` does, read by read. It is out of line since mostly one read
+/// fills it.
 #[cold]
 #[inline(never)]
 fn read_in_turns<I: Input>(input: &mut I, buf: &mut [u8]) -> Result<usize, DeviceFault>
@@ -189,7 +190,7 @@ fn read_in_turns<I: Input>(input: &mut I, buf: &mut [u8]) -> Result<usize, Devic
 
 /// Writes all of the bytes. An error is a failure of the device in this call, and reports how many
 /// bytes, fewer than all, were written before it.
-// The first write mostly takes all.
+// The first write mostly takes all. Where this is inlined, no loop is left then.
 #[inline(always)]
 pub fn write_all<O: Output>(output: &mut O, buf: &[u8]) -> Result<(), Stopped>
     ensures front { IfErr result (λ stopped. stopped.written < length buf.now) }
@@ -215,8 +216,8 @@ pub fn write_all<O: Output>(output: &mut O, buf: &[u8]) -> Result<(), Stopped>
     }
 }
 
-/// Writes all of the bytes as `write_all` does, write by write. It stands apart since one write
-/// mostly does.
+/// Writes all of the bytes as `write_all` does, write by write. It is out of line since mostly one
+/// write takes all.
 #[cold]
 #[inline(never)]
 fn write_in_turns<O: Output>(output: &mut O, buf: &[u8]) -> Result<(), Stopped>
@@ -261,8 +262,9 @@ pub fn write_all_parts<O: Output>(output: &mut O, parts: &[&[u8]]) -> Result<(),
     Ok(())
 }
 
-/// Writes parts one after another. An error is a failure of the device in this call, after a prefix
-/// of the parts that isn't the whole.
+/// Writes parts one after another, as `write_all_parts` does, but of any length and without the
+/// count. An error is a failure of the device in this call, after a prefix of the parts that isn't
+/// the whole.
 pub fn write_parts<O: Output>(output: &mut O, parts: &[&[u8]]) -> Result<(), DeviceFault>
     ensures exact { IsTrue O.tells
         → AppendsOrStops result (O.written output.old) (flat_map (λ part. part.now) parts.now)

@@ -1,4 +1,4 @@
-//! Numbers that digits write.
+//! Numbers that are written in digits, of a radix from 2 to 16.
 ghost use Rattle.std.specs.Prelude.{◌≡◌, ◌<◌, ◌≤◌, ◌^◌, ◌+◌, ◌*◌, IfSome, IfNone, true, nat_lt};
 ghost use Rattle.std.specs.Char.{digit_value};
 ghost use Rattle.std.specs.Str.Parse.{digits_value};
@@ -13,7 +13,7 @@ fn is_digit(radix: u32, byte: u8) -> bool
     (byte as char).is_digit(radix)
 }
 
-/// Whether all bytes are digits of a radix in ASCII; of a letter both cases count.
+/// Whether all bytes are digits of a radix in ASCII; of a letter both cases count. `true` of none.
 pub fn are_digits(radix: u32, text: &[u8]) -> bool
     requires low { 2 ≤ radix }
     requires high { radix ≤ 16 }
@@ -22,7 +22,7 @@ pub fn are_digits(radix: u32, text: &[u8]) -> bool
     text.iter().all(|byte| is_digit(radix, *byte))
 }
 
-/// The number with one digit more at its end, if that is below 2^64.
+/// The number with one digit more at its end, if that is below 2^64; the byte is a digit.
 fn with_digit(number: u64, radix: u32, byte: u8) -> Option<u64>
     requires low { 2 ≤ radix }
     requires high { radix ≤ 16 }

@@ -79,7 +79,7 @@ impl Link {
         }
     }
 
-    /// What command lines call it.
+    /// What command lines and printed lines call it; these keep room for 8 bytes.
     pub fn name(self) -> &'static str
         ensures value { result.now ≡ link_name self }
         ensures bound { length result.now ≤ 8 }
@@ -91,7 +91,7 @@ impl Link {
         }
     }
 
-    /// The link that command lines call by this name.
+    /// The link that command lines call by this name; `None` where none has it.
     #[tactic(auto, unfolding(crate::specs::Link::all_links))]
     pub fn of_name(name: &str) -> Option<Link>
         ensures { result ≡ link_of_name name.now }

@@ -45,7 +45,7 @@ pub fn link_header_length(link: u16) -> usize
     }
 }
 
-/// The network header that an EtherType tells.
+/// The network header that an EtherType tells: `OtherType` of one that isn't known.
 #[inline]
 fn header_by_ethertype(ethertype: u16) -> NetworkHeader
     ensures { result ≡ header_by_ethertype ethertype }
@@ -59,7 +59,7 @@ fn header_by_ethertype(ethertype: u16) -> NetworkHeader
     }
 }
 
-/// The network header that a version of IP tells.
+/// The network header that a version of IP tells: `OtherVersion` of neither 4 nor 6.
 #[inline]
 fn header_by_version(version: u8) -> NetworkHeader
     ensures { result ≡ header_by_version version }
@@ -72,7 +72,7 @@ fn header_by_version(version: u8) -> NetworkHeader
 }
 
 /// The network header after a link header that has the EtherType at this place, big-endian; `None`
-/// is raw IP, whose version is the first four bits.
+/// is raw IP, whose version is the first four bits. `Short` where these bytes aren't captured.
 #[inline]
 fn header_after(type_offset: Option<usize>, bytes: &[u8]) -> NetworkHeader
     requires { IfSome type_offset (λ at. at ≤ longest_header) }
@@ -87,7 +87,7 @@ fn header_after(type_offset: Option<usize>, bytes: &[u8]) -> NetworkHeader
 }
 
 /// The network header of a packet: by the EtherType in its link header, or of raw IP by the
-/// version in its first four bits.
+/// version in its first four bits. `OtherLink` of a link type that isn't known.
 #[inline]
 pub fn network_header(link: u16, bytes: &[u8]) -> NetworkHeader
     ensures { result ≡ network_header link bytes.now }

@@ -43,10 +43,13 @@ impl<R: Read> StdInput<R> {
         }
     }
 
-    /// One read of the reader, whatever its own buffer holds.
+    /// Makes one read of the reader, whatever its own buffer holds, and returns what that returned;
+    /// but a read that would reach 2^63 bytes in all is a failure.
+    // Out of line: std's errors are large, and where `read` takes what the buffer holds, the
+    // compiler sees that none can come.
     #[cold]
     #[inline(never)]
-    fn read_through(&mut self, buf: &mut [u8]) -> Result<usize, DeviceFault>
+    fn read_once(&mut self, buf: &mut [u8]) -> Result<usize, DeviceFault>
         ensures within { IfOk result (λ n. n ≤ length buf.old) }
         ensures counted { self.new.given ≡ self.old.given + count_of result }
         ensures bounded { self.new.given < 2 ^ 63 }
@@ -79,9 +82,10 @@ impl<R: Read> Input for StdInput<R> {
 
     ghost failures = { λ s. s.failures.count };
 
-    /// One read of the reader with this buffer, whose answer it hands over.
-    // Mostly the reader holds as many bytes already. They are taken here, without the errors of
-    // std, which are large and would be made room for each time.
+    /// Makes one read of the reader into this buffer and returns what that returned; where the
+    /// reader's own buffer holds as many bytes, they are taken without one.
+    // Mostly it does. Then no room is made for std's errors, which are large: `read_once` is out
+    // of line.
     #[inline(always)]
     fn read(&mut self, buf: &mut [u8]) -> Result<usize, DeviceFault>
         ensures within { IfOk result (λ n. n ≤ length buf.old) }
@@ -105,8 +109,9 @@ impl<R: Read> Input for StdInput<R> {
             self.given = given;
             return Ok(room);
         }
-        // Taken apart, since LLVM follows no branch after a result that two ways hand over whole.
-        match self.read_through(buf) {
+        // Taken apart and put together again: where two ways hand over one result whole, LLVM no
+        // longer sees that the way above returns `Ok`.
+        match self.read_once(buf) {
             Ok(count) => Ok(count),
             Err(fault) => Err(fault),
         }
@@ -173,7 +178,8 @@ impl<W: Write + Drop> StdOutput<W> {
         }
     }
 
-    /// An output to which nothing was written yet, and for which somebody may be waiting.
+    /// An output to which nothing was written yet, and for which somebody may be waiting, as at the
+    /// other end of a pipe.
     pub fn new_awaited(writer: BufWriter<W>) -> Self
         ensures writer { result.writer.writer ≡ writer }
         ensures calls { result.writer.calls.count ≡ 0 }
@@ -186,7 +192,7 @@ impl<W: Write + Drop> StdOutput<W> {
         output
     }
 
-    /// The writer, as to flush it, and why it failed last.
+    /// The writer, as to flush it, and why it failed last; `None` where it never did.
     pub fn into_inner(self) -> (BufWriter<W>, Option<ErrorKind>)
         ensures writer { result.0 ≡ self.writer.writer }
         ensures cause { result.1 ≡ self.cause }
@@ -200,7 +206,9 @@ impl<W: Write + Drop> StdOutput<W> {
         (writer.into_inner(), cause)
     }
 
-    /// One write of the writer with these bytes, whose answer it hands over.
+    /// Makes one write of the writer with these bytes and returns what that returned; the cause of
+    /// a failure is kept.
+    // Inlined where the buffer has room; elsewhere `write_out_of_line` is called.
     #[inline(always)]
     fn write_once(&mut self, buf: &[u8]) -> Result<usize, DeviceFault>
         ensures within { IfOk result (λ n. n ≤ length buf.now) }
@@ -221,10 +229,13 @@ impl<W: Write + Drop> StdOutput<W> {
         Err(DeviceFault)
     }
 
-    /// One write of the writer where its buffer has no room, so that the system may be called.
+    /// `write_once`, out of line: for where the writer's buffer has no room, so that the system may
+    /// be called.
+    // It stands apart so that where there is room the compiler sees that no call of the system and
+    // no error can come.
     #[cold]
     #[inline(never)]
-    fn write_through(&mut self, buf: &[u8]) -> Result<usize, DeviceFault>
+    fn write_out_of_line(&mut self, buf: &[u8]) -> Result<usize, DeviceFault>
         ensures within { IfOk result (λ n. n ≤ length buf.now) }
         ensures some { IfOk result (λ n. 0 < length buf.now → 0 < n) }
         ensures failed { self.new.failures.count ≡ self.old.failures.count + failures_of result }
@@ -244,9 +255,8 @@ impl<W: Write + Drop> Output for StdOutput<W> {
 
     ghost failures = { λ s. s.failures.count };
 
-    /// One write of the writer with these bytes, whose answer it hands over.
-    // Both ways do the same. Where the buffer has room the compiler sees that no write of the
-    // system and no error can come.
+    /// Makes one write of the writer with these bytes and returns what that returned.
+    // Both ways are `write_once`: inlined here where the buffer has room, and else out of line.
     #[inline(always)]
     fn write(&mut self, buf: &[u8]) -> Result<usize, DeviceFault>
         ensures within { IfOk result (λ n. n ≤ length buf.now) }
@@ -262,8 +272,8 @@ impl<W: Write + Drop> Output for StdOutput<W> {
         if self.writer.has_room(buf.len()) {
             return self.write_once(buf);
         }
-        // Taken apart as in a read.
-        match self.write_through(buf) {
+        // Taken apart and put together again, as in `read` of `StdInput`.
+        match self.write_out_of_line(buf) {
             Ok(count) => Ok(count),
             Err(fault) => Err(fault),
         }
@@ -276,7 +286,8 @@ impl<W: Write + Drop> Output for StdOutput<W> {
         self.is_awaited
     }
 
-    /// Writes out what the writer's buffer holds. What couldn't be written stays there.
+    /// Writes out what the writer's buffer holds, and returns whether it could. What couldn't be
+    /// written stays there, and the cause is kept.
     fn release(&mut self) -> bool
         ensures written { ◌≡◌ {A = List ℕ} [] [] }
         ensures failures { self.new.failures.count ≡ self.old.failures.count }

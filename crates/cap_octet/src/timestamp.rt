@@ -72,7 +72,8 @@ fn time_of_parts(day: Option<u64>, clock: Option<u64>, fraction: Option<u64>) ->
     time_below_end(nanos.checked_add(fraction)?)
 }
 
-/// The number that `count` decimal digits from place `at` write; `None` where one is no digit.
+/// The number that `count` decimal digits from place `at` write; `None` where one is no digit. Of 9
+/// digits at most every number fits.
 fn number_at(text: &[u8], at: usize, count: usize) -> Option<u64>
     requires there { at + count ≤ length text.now }
     requires upper_bound { count ≤ 9 }

@@ -26,7 +26,7 @@ pub struct TrialInput<'a> {
 }
 
 impl<'a> TrialInput<'a> {
-    /// An input of exactly these bytes. `piece` is at least 1.
+    /// An input of exactly these bytes. `piece` is at least 1; without `at` no read fails.
     pub fn new(bytes: &'a [u8], piece: usize, at: Option<u64>) -> Self
         requires { 0 < piece }
         ensures unread { ⟦<TrialInput<'a> as Input>⟧.unread result ≡ bytes.entry.now }
@@ -70,7 +70,7 @@ impl Input for TrialInput<'_> {
     /// It may fail at its first read, or never.
     ghost sure = { λ s. option_map {U = ℕ} (λ _. 0) s.at };
 
-    /// Fails at its read number `at`, and there alone.
+    /// Gives at most `piece` bytes; fails at its read number `at`, and there alone.
     fn read(&mut self, buf: &mut [u8]) -> Result<usize, DeviceFault>
         ensures within { IfOk result (λ n. n ≤ length buf.old) }
         ensures counted { ⟦<MemInput<'static> as Input>⟧.given self.new.inner
@@ -182,7 +182,7 @@ impl Output for TrialOutput<'_> {
 
     ghost room = { λ s. ⟦<MemOutput<'static> as Output>⟧.room s.inner };
 
-    /// Fails only where the slice is full.
+    /// Takes at most `piece` bytes, and fails only where the slice is full.
     fn write(&mut self, buf: &[u8]) -> Result<usize, DeviceFault>
         ensures within { IfOk result (λ n. n ≤ length buf.now) }
         ensures some { IfOk result (λ n. 0 < length buf.now → 0 < n) }

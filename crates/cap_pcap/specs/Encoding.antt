@@ -18,7 +18,7 @@ IsPcap Pcap = Unit {0}
 IsPcap NsecPcap = Unit {0}
 IsPcap Pcapng = ⊥
 
--- the parts of a second that a format writes
+-- the parts of a second that a format writes; of pcapng, for which it isn't asked, any
 abbrev pub resolution_of : Format → Resolution
 resolution_of Pcap = Microseconds
 resolution_of NsecPcap = Nanoseconds

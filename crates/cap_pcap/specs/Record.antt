@@ -16,15 +16,17 @@ use Rattle.cap_pcap.specs.declared.header.Resolution.TheVariants.{Microseconds, 
 abbrev pub most_captured : ℕ
 most_captured = 262144
 
--- how many parts of a second make a whole one, and how many nanoseconds one part is
+-- how many parts of a second make a whole one
 abbrev pub parts_of_second : Resolution → ℕ
 parts_of_second Microseconds = 1000000
 parts_of_second Nanoseconds = NANOS_PER_SECOND
 
+-- how many nanoseconds one part is
 abbrev pub nanoseconds_of_part : Resolution → ℕ
 nanoseconds_of_part Microseconds = 1000
 nanoseconds_of_part Nanoseconds = 1
 
+-- the captured length that the header says
 abbrev pub captured_len : Head → List ℕ → ℕ
 captured_len head text = u32_in head.order text 8
 
@@ -51,7 +53,7 @@ record_checks head text =
 abbrev pub record_fault : Head → List ℕ → Option Fault
 record_fault head text = first_failing (record_checks head text)
 
--- nanoseconds since 1970
+-- nanoseconds since 1970-01-01 00:00:00 UTC: the seconds and the part of a second
 abbrev pub record_time : Head → List ℕ → ℕ
 record_time head text =
     u32_in head.order text 0 * NANOS_PER_SECOND

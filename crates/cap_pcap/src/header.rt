@@ -24,7 +24,7 @@ const NANOSECOND_MAGIC: u32 = 0xa1b2_3c4d;
 /// The greatest number of captured bytes in a record.
 pub(crate) const MOST_CAPTURED: u32 = 262_144;
 
-/// The parts of a second in which a savefile counts.
+/// The parts of a second in which a savefile counts, by its magic number.
 #[derive(Clone, Copy)]
 pub enum Resolution {
     Microseconds,
@@ -85,8 +85,8 @@ impl Resolution {
         }
     }
 
-    /// How many whole parts of a second some nanoseconds are. Each divisor is a constant, which
-    /// costs no division.
+    /// How many whole parts of a second some nanoseconds are. Each divisor is a constant, unlike
+    /// `nanoseconds_of_part`, and so costs no division.
     pub(crate) fn whole_parts(self, nanoseconds: u64) -> u64
         ensures { result ≡ nanoseconds / nanoseconds_of_part self }
     {
@@ -159,8 +159,8 @@ pub fn read_record_header(head: &Head, bytes: &[u8; 16]) -> Result<RecordHead, F
     read_unusual_header(head, bytes)
 }
 
-/// Reads a record's header in a file of another byte order or resolution than the usual one; out of
-/// the way of the usual files.
+/// `read_header_fields`, out of line: for files of another byte order or resolution than the usual
+/// one.
 #[cold]
 #[inline(never)]
 fn read_unusual_header(head: &Head, bytes: &[u8; 16]) -> Result<RecordHead, Fault>
@@ -173,7 +173,9 @@ fn read_unusual_header(head: &Head, bytes: &[u8; 16]) -> Result<RecordHead, Faul
     read_header_fields(head, bytes)
 }
 
-/// Reads a record's header, each field by itself.
+/// Reads a record's header in the byte order and the resolution of its file, or reports the first
+/// check that its fields fail.
+// Inlined, so that for the usual file both are constants.
 #[inline(always)]
 fn read_header_fields(head: &Head, bytes: &[u8; 16]) -> Result<RecordHead, Fault>
     ensures answer { result

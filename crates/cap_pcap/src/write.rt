@@ -26,7 +26,7 @@ fn resolution_of(format: Format) -> Resolution
 
 /// Checks that a record can hold a packet, or returns the first check that fails: more than 262,144
 /// captured bytes, 2^32 seconds or more. Its caller owes a format other than pcapng; both pcap
-/// formats hold the same packets.
+/// formats hold the same packets, so that the body doesn't ask which.
 pub fn check_record_fits(_format: Format, packet: &Packet<'_>) -> Result<(), Fault>
     requires { IsPcap _format }
     ensures { result ≡ checked (first_failing (record_fit_checks (captured packet.now))) tt }
@@ -55,8 +55,9 @@ pub fn file_header(format: Format, link: u16) -> [u8; 24]
     bytes
 }
 
-/// The header of a packet's record, in front of its data. Its caller owes a format other than
-/// pcapng, and knows by `check_record_fits` that the format holds the packet.
+/// The header of a packet's record, in front of its data; times are cut to the parts of a second
+/// that the format has. Its caller owes a format other than pcapng, and knows by
+/// `check_record_fits` that the format holds the packet.
 pub fn record_header(format: Format, packet: &Packet<'_>) -> [u8; 16]
     requires form { IsPcap format }
     requires fits { first_failing (record_fit_checks (captured packet.now)) ≡ None }

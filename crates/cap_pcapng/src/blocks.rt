@@ -67,7 +67,8 @@ pub struct SimpleBlock<'a> {
 }
 
 /// Checks the body of a section header, of version 1.0 or 1.2, or returns the first check that it
-/// fails: it is shorter than 16 bytes, or of another version.
+/// fails: it is shorter than 16 bytes, or of another version. Its byte-order magic was checked with
+/// the frame, and its section length isn't looked at.
 pub(crate) fn check_section_body(order: Order, body: &[u8]) -> Result<(), Fault>
     ensures { result ≡ checked (first_failing (body_checks kind.Section order body.now)) tt }
 {
@@ -82,8 +83,8 @@ pub(crate) fn check_section_body(order: Order, body: &[u8]) -> Result<(), Fault>
     Ok(())
 }
 
-/// The captured bytes at the start of what is left of a body, or `BadBody` where it is shorter than
-/// they are with their padding.
+/// The captured bytes at the start of what is left of a body, without their padding; or `BadBody`
+/// where it is shorter than they are with it.
 fn data_in(rest: &[u8], captured: u32) -> Result<&[u8], Fault>
     ensures { ChecksGive (data_checks captured rest.now) result
         (λ bytes. bytes.now ≡ take captured rest.now) }
@@ -106,6 +107,7 @@ impl<'a> EnhancedBlock<'a> {
         }
         let high = u64::from(u32_at(order, body, 4));
         let low = u64::from(u32_at(order, body, 8));
+        // 2^32 times the high half: the proof reads a product where a shift would do.
         Ok(EnhancedBlock {
             order,
             interface: u32_at(order, body, 0),

@@ -40,8 +40,8 @@ pub(crate) fn units_per_second(resolution: u8) -> Result<u64, Fault>
 }
 
 impl Clock {
-    /// The nanoseconds since 1970-01-01 00:00:00 UTC at a tick, cut to whole ones, or
-    /// `TimeOutOfRange` where they are not from 0 to 2^63 - 1.
+    /// The nanoseconds since 1970-01-01 00:00:00 UTC at a tick, cut to whole ones before the offset
+    /// is added, or `TimeOutOfRange` where they are not from 0 to 2^63 - 1.
     pub fn time_at(&self, ticks: u64) -> Result<u64, Fault>
         ensures answer { result ≡ ok_or (representable_time ticks self.now.units self.now.offset)
             Fault.TimeOutOfRange }

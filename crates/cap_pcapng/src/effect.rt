@@ -106,11 +106,12 @@ pub enum BlockEffect<'a> {
     Interface(Interface<'a>),
     /// The block has a packet, of an interface of the section.
     Packet(PacketSpans),
+    /// A block of another type, which is skipped.
     Nothing,
 }
 
 /// The fault of a block that its own checks refuse, after these interfaces: where there are 256,
-/// that there are too many comes before what an interface's options tell.
+/// that a further one is too many comes before a fault of its options.
 fn fault_in_full_table<T: Interfaces>(table: &T, fault: Fault) -> Fault
     ensures { result ≡ fault_among (T.list table.now) fault }
 {
@@ -138,6 +139,7 @@ fn enhanced_packet<T: Interfaces>(
     let Some(interface) = table.get(block.interface) else {
         return Err(Fault::UnknownInterface);
     };
+    // Only whether the data end inside the block; where they lie is told by spans.
     block.data()?;
     let time = interface.clock.time_at(block.ticks)?;
     // 0      28 = ENHANCED_DATA     following
@@ -169,6 +171,7 @@ fn simple_packet<T: Interfaces>(
     let Some(interface) = table.get(0) else {
         return Err(Fault::UnknownInterface);
     };
+    // Only whether the data end inside the block, as in `enhanced_packet`.
     block.data(interface.snap)?;
     Ok(PacketSpans {
         size,

@@ -94,7 +94,7 @@ impl<'a> FoundOptions<'a> {
     ghost use Rattle.cap_pcapng.specs.OptionList.{coded_value, options_left};
 
     /// What is found with one option more, or the first check that this fails. Only the first
-    /// option of a code is looked at.
+    /// option of a code is looked at, even where a later one would fail a check.
     fn with_option(mut self, order: Order, option: BlockOption<'a>) -> Result<Self, Fault>
         ensures { ChecksGive (if is_found self.entry option.entry.code then []
             else first_checks (coded_value option.entry)) result
@@ -137,7 +137,7 @@ impl<'a> InterfaceBlock<'a> {
     ghost use Rattle.cap_pcapng.specs.declared.frames.BlockType.TheVariants as kind;
 
     /// Reads the body of an interface description block, or returns the first check that it fails:
-    /// it is shorter than 8 bytes, or one of its options.
+    /// `BadBody` where it is shorter than 8 bytes, or that of one of its options.
     pub(crate) fn of_body(order: Order, body: &'a [u8]) -> Result<Self, Fault>
         ensures found { ChecksGive (body_checks kind.Interface order body.now
             ++ option_checks (parts_in_body kind.Interface order body.now)) result

@@ -77,7 +77,8 @@ impl<'a> Iterator for Options<'a> {
 
     ghost remaining = { item_count options_left };
 
-    /// The next option; `None` at code 0 or where fewer than four bytes are left.
+    /// The next option; `None` at code 0 or where fewer than four bytes are left. A value that
+    /// doesn't fit is `BadOption`, after which nothing is left.
     fn next(&mut self) -> Option<Result<BlockOption<'a>, Fault>> {
         let Options { order, rest } = *self;
         if rest.len() < 4 {

@@ -17,10 +17,10 @@ pub fn begins_section(bytes: &[u8; 4]) -> bool
     u32_at(Order::Little, bytes, 0) == SECTION_TYPE
 }
 
-/// Reads the first 12 bytes of a block that follows a section of this byte order, or after
-/// none; or tells the first check that they fail: no section before a block of another type, no
-/// byte-order magic in a section header, a total length below 12 or no multiple of 4, a total
-/// length above 1,048,576.
+/// Reads the first 12 bytes of a block in a section of this byte order, `None` where none began; or
+/// returns the first check that they fail: no section before a block of another type, no byte-order
+/// magic in a section header, a total length below 12 or no multiple of 4, a total length above
+/// 1,048,576.
 pub fn read_frame(section: Option<Order>, bytes: &[u8; 12]) -> Result<Frame, Fault>
     ensures answer { result ≡ checked (frame_fault section bytes.now) (frame_in section bytes.now) }
     ensures shortest { IfOk result (λ frame. 12 ≤ frame.length) }

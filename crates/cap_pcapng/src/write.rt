@@ -52,7 +52,8 @@ pub fn check_block_fits(packet: &Packet<'_>) -> Result<(), Fault>
     Ok(())
 }
 
-/// A section header block of version 1.0, whose section length isn't told.
+/// A section header block of version 1.0, whose section length isn't told: -1, all ones in bytes 16
+/// to 23.
 pub fn section_bytes() -> [u8; 28]
     ensures { result ≡ section_text }
 {
@@ -66,7 +67,7 @@ pub fn section_bytes() -> [u8; 28]
     bytes
 }
 
-/// How many zeros follow `length` bytes.
+/// How many zeros pad `length` bytes to a multiple of four: 0 to 3.
 pub fn padding_after(length: usize) -> usize
     ensures padded { length + result ≡ padded_length length }
     ensures short { result < 4 }
@@ -75,7 +76,7 @@ pub fn padding_after(length: usize) -> usize
 }
 
 /// The header of an enhanced packet block of `size` bytes: type, total length, interface, time in
-/// two halves, captured length and original length.
+/// two halves of 32 bits, captured length and original length.
 pub fn packet_header(size: u32, number: u32, packet: &Packet<'_>) -> [u8; 28]
     requires { length packet.now.bytes.now < 2 ^ 32 }
     ensures { result ≡ packet_header size number (captured packet.now) }
@@ -112,8 +113,9 @@ pub fn packet_end(size: u32) -> [u8; 11]
     bytes
 }
 
-/// Writes a packet that `check_block_fits`, whose interface has this number, as an enhanced packet
-/// block, or reports how many bytes of it, fewer than all, were written before the device failed.
+/// Writes a packet that passed `check_block_fits`, whose interface has this number, as an enhanced
+/// packet block, or reports how many bytes of it, fewer than all, were written before the device
+/// failed.
 pub fn write_packet<O: Output>(
     number: u32,
     packet: &Packet<'_>,
@@ -125,6 +127,7 @@ pub fn write_packet<O: Output>(
 {
     let padding = padding_after(packet.bytes.len());
     if packet.comment.is_empty() {
+        // 28 of the header, 4 of the length. Of the end's seven zeros the last ones pad the data.
         let size = (32 + packet.bytes.len() + padding) as u32;
         let head = packet_header(size, number, packet);
         let end = packet_end(size);
@@ -168,7 +171,7 @@ pub fn interface_end(size: u32) -> [u8; 19]
     bytes
 }
 
-/// Writes the description of a packet's interface, in ticks of nanoseconds, or reports how many
+/// Writes the description of a packet's interface, whose ticks are nanoseconds, or reports how many
 /// bytes of it, fewer than all, were written before the device failed.
 pub fn write_interface<O: Output>(packet: &Packet<'_>, output: &mut O) -> Result<(), Stopped>
     ensures { WritesExactly O.Output output.old
@@ -180,6 +183,7 @@ pub fn write_interface<O: Output>(packet: &Packet<'_>, output: &mut O) -> Result
     // The header has no data to pad; and where there is no name, its option's header goes too.
     let start = if name.is_empty() { 7 } else { 3 };
     let option = &option[start..];
+    // 16 of the header, 16 of the end without its padding.
     let size = (32 + option.len() + name.len() + padding) as u32;
     let head = interface_header(size, packet);
     let end = interface_end(size);
