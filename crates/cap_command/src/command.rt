@@ -149,6 +149,7 @@ pub fn is_range(first: u64, last: u64) -> bool
     1 <= first && first <= last && last < PACKET_NUMBER_END
 }
 
+/// Whether each of these is a range; `true` of none.
 fn are_ranges(ranges: &[(u64, u64)]) -> bool
     ensures { result ≡ list_all (λ range. is_range range.0 range.1) ranges.now }
 {
@@ -162,7 +163,7 @@ fn is_time(nanos: u64) -> bool
     nanos < TIME_END
 }
 
-/// Whether a time is allowed, if there is one.
+/// Whether an edit may have this time, if it has one: below 2^63 nanoseconds.
 fn allows_time(time: Option<u64>) -> bool
     ensures { result ≡ option_map_or is_time time true }
 {
@@ -173,6 +174,7 @@ fn allows_time(time: Option<u64>) -> bool
 }
 
 impl Shift {
+    /// Whether its span, if it has one, is below 2^63 nanoseconds.
     fn is_proper(self) -> bool
         ensures { result ≡ is_proper_shift self }
     {
@@ -183,7 +185,7 @@ impl Shift {
     }
 }
 
-/// Whether packets may keep `snap` bytes.
+/// Whether packets may be cut to `snap` bytes: 1 or more, if they are cut.
 fn allows_snap(snap: Option<u32>) -> bool
     ensures { result ≡ option_map_or is_at_least_one snap true }
 {
@@ -193,7 +195,7 @@ fn allows_snap(snap: Option<u32>) -> bool
     }
 }
 
-/// Whether duplicates may be searched for within `window` packets.
+/// Whether duplicates may be searched for within `window` packets, if they are searched for.
 fn allows_window(window: Option<u32>) -> bool
     ensures { result ≡ option_map_or is_window window true }
 {
@@ -204,6 +206,8 @@ fn allows_window(window: Option<u32>) -> bool
 }
 
 impl<A: Allocator> Edit<A> {
+    /// Whether ranges, times, cut, shift and window keep their bounds, as `Command::is_proper` has
+    /// them.
     fn is_proper(&self) -> bool
         ensures { result ≡ is_proper_edit self.now }
     {
@@ -215,13 +219,15 @@ impl<A: Allocator> Edit<A> {
             && allows_window(self.window)
     }
 
+    /// Whether it has at most `MOST_RANGES` ranges, each of which is one.
     fn has_proper_ranges(&self) -> bool
         ensures { result ≡ has_proper_ranges self.now.ranges.items }
     {
         self.ranges.len() <= MOST_RANGES && are_ranges(&self.ranges)
     }
 
-    fn names(&self, number: u64) -> bool
+    /// Whether a range has this number.
+    fn is_in_some_range(&self, number: u64) -> bool
         ensures { result ≡ is_in_some_range self.now.ranges.items number }
     {
         self.ranges
@@ -229,15 +235,15 @@ impl<A: Allocator> Edit<A> {
             .any(|range| range.0 <= number && number <= range.1)
     }
 
-    /// Whether the packet with this number stays.
+    /// Whether the packet with this number is kept: by `keep` it is in a range, else in none.
     pub fn keeps(&self, number: u64) -> bool
         ensures { result ≡ is_kept self.now.ranges.items self.now.keep number }
     {
-        self.names(number) == self.keep
+        self.is_in_some_range(number) == self.keep
     }
 }
 
-/// Whether a print may end after `count` packets.
+/// Whether a print may end after `count` packets: 1 or more, if it has a count.
 fn allows_count(count: Option<u64>) -> bool
     ensures { result ≡ option_map_or is_at_least_one count true }
 {
@@ -248,18 +254,21 @@ fn allows_count(count: Option<u64>) -> bool
 }
 
 impl<A: Allocator> Print<A> {
+    /// Whether its options go together, and its count, if it has one, is at least 1.
     fn is_proper(&self) -> bool
         ensures { result ≡ is_proper_print self.now }
     {
         self.has_at_most_one_filter() && self.has_at_most_one_output() && allows_count(self.count)
     }
 
+    /// Whether it writes packets or adds link headers or bytes to lines, but not both.
     fn has_at_most_one_output(&self) -> bool
         ensures { result ≡ has_at_most_one_output self.now.link self.now.bytes self.now.write }
     {
         self.write.is_none() || !(self.link || self.bytes)
     }
 
+    /// Whether it doesn't have both words of an expression and a listing.
     fn has_at_most_one_filter(&self) -> bool
         ensures { result ≡ has_at_most_one_filter (string_bytes self.now.expr) self.now.code }
     {

@@ -42,7 +42,8 @@ fn place_of_link_type(links: &[Link], number: u16) -> Option<usize>
     links.iter().position(|link| link.link_type() == number)
 }
 
-/// The place in `programs` of the program for a link type, if expressions are read on it.
+/// The place in `Compiled::programs` of the program for a link type; `None` where expressions
+/// aren't read on it.
 #[tactic(auto, unfolding(cap_octet::specs::Link::all_links))]
 fn program_place(number: u16) -> Option<usize>
     ensures { result ≡ program_place number }
@@ -50,7 +51,7 @@ fn program_place(number: u16) -> Option<usize>
     place_of_link_type(&Link::ALL, number)
 }
 
-/// A program for each of some links. An error means that memory ran out.
+/// The tree's program for each of some links, in their order. An error means that memory ran out.
 fn make_programs<A: Allocator + Copy + Drop>(
     alloc: A,
     tree: &Checked<A>,
@@ -70,7 +71,8 @@ fn make_programs<A: Allocator + Copy + Drop>(
 }
 
 /// Runs the program at a place on a packet, and returns its answer, 0 where it doesn't accept the
-/// packet, and how many instructions the run met.
+/// packet, and how many instructions the run met. The caller drops that count: the program has
+/// added it to its own.
 fn run_at<A: Allocator>(
     programs: &mut [Program<A>],
     place: usize,

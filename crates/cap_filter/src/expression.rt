@@ -7,7 +7,8 @@ use flt_lang::{Checked, Expr, check, parse, resolve};
 use flt_words::{ExprFault, lex};
 use std::alloc::Allocator;
 
-/// The tree of a text as it is written, by its tokens; or the first fault of either.
+/// The tree of a text as it is written, without what it leaves out; or the first fault of its
+/// tokens or its grammar.
 fn read_tree<A: Allocator + Copy + Drop>(alloc: A, text: &str) -> Result<Expr<A>, ExprFault>
     ensures read { IfOk result (λ tree. HasTree text.now tree) }
     ensures refused { IfErr result (IsTextFault text.now) }
@@ -18,7 +19,8 @@ fn read_tree<A: Allocator + Copy + Drop>(alloc: A, text: &str) -> Result<Expr<A>
     }
 }
 
-/// Fills in what a tree leaves out, and checks it; or the first fault of either.
+/// Fills in what a tree leaves out, and checks it; or the first fault: what doesn't fit a value
+/// comes before what is wrong with the whole.
 fn resolve_and_check<A: Allocator>(tree: Expr<A>) -> Result<Checked<A>, ExprFault>
     ensures settled { IfOk result (λ checked. IsSettled tree checked.expr) }
     ensures refused { IfErr result (HasFault tree) }

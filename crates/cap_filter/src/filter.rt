@@ -15,7 +15,7 @@ use std::alloc::{AllocError, Allocator};
 /// What decides which packets pass.
 #[derive(Drop)]
 pub enum Filter<A: Allocator> {
-    /// There are no words, and all packets pass.
+    /// The expression is empty, and all packets pass.
     All,
     /// A packet passes where the expression matches.
     Expression(Compiled<A>),
@@ -31,7 +31,7 @@ impl<A: Allocator> Filter<A> {
     ghost use Rattle.cap_filter.specs.Programs.{spent_in};
     ghost use Rattle.cap_filter.specs.Filters.{most_cost, programs_of, rule_of, spent_on};
 
-    /// Whether a packet passes. It takes no memory.
+    /// Whether a packet passes, by at most one run of a program. It takes no memory.
     ///
     /// The one error is `LinkTypeNotFiltered`: an expression isn't read on packets of this link
     /// type.
@@ -71,9 +71,10 @@ fn filter_of_tree<A: Allocator + Copy + Drop>(
     }
 }
 
-/// The filter of the words of an expression, whose programs for all links are made here.
+/// The filter of an expression's words, with its programs for all links, which are made here.
+/// `None` in the clauses: there is no listing.
 ///
-/// An error is the first of the text's faults, or out of memory (`ExprFault::Memory`).
+/// An error is the first of the words' faults, or out of memory (`ExprFault::Memory`).
 pub fn filter_of_words<A: Allocator + Copy + Drop>(
     alloc: A,
     words: &str,
@@ -92,8 +93,11 @@ pub fn filter_of_words<A: Allocator + Copy + Drop>(
     }
 }
 
-/// The filter of a listing's text, whatever the words. An error is its first fault as a listing,
-/// then the first rule of valid programs that it breaks, or out of memory (`ListingFault::Memory`).
+/// The filter of the text of a listing. The words don't matter then: they are here since the
+/// clauses are those of `filter_of_words`, with `Some` listing.
+///
+/// An error is the text's first fault as a listing, else the first rule of valid programs that its
+/// instructions break, or out of memory (`ListingFault::Memory`).
 pub fn filter_of_listing<A: Allocator + Drop>(
     alloc: A,
     words: &str,

@@ -50,7 +50,8 @@ impl<I: Input, A: Allocator> Model for InputCursor<I, A> {
 pub enum Schedule {
     /// The inputs come one after another, and this one is the current one.
     Turn(usize),
-    /// By the greatest times; first the inputs from one up to another are read on.
+    /// By the greatest times. First the inputs from the first number on and below the second are
+    /// read on.
     Merge(usize, usize),
 }
 
@@ -84,6 +85,7 @@ impl<I: Input, A: Allocator> InputCursor<I, A> {
     ghost use Rattle.std.specs.Prelude.{◌≤◌, IsSome, length};
     ghost use Rattle.std.specs.Option.{IfSome};
 
+    /// An input of a source that waits for nothing and has decided nothing.
     fn new(source: Source<I, A>) -> Self
         ensures { result ≡ record { source = source; waiting = false; greatest = 0 } }
     {
@@ -96,7 +98,8 @@ impl<I: Input, A: Allocator> InputCursor<I, A> {
         }
     }
 
-    /// Reads on to the next packet.
+    /// Reads on to the next packet, as `Source::advance`; where there is one, it waits to be
+    /// decided.
     fn advance(&mut self) -> Result<bool, Fault>
         ensures exact { IsTrue I.tells → Advances self.old.source.phase self.old.source result
             self.new.source }
@@ -111,7 +114,7 @@ impl<I: Input, A: Allocator> InputCursor<I, A> {
         result
     }
 
-    /// The current packet.
+    /// The current packet, decided or not; `None` where there is none.
     pub fn packet(&self) -> Option<Packet<'_>>
         ensures packet { option_map captured result ≡ self.now.source.packet }
         ensures short { IfSome result (λ packet. length packet.bytes.now ≤ most_in_unit) }
@@ -120,7 +123,8 @@ impl<I: Input, A: Allocator> InputCursor<I, A> {
         self.source.head()
     }
 
-    /// The current packet is decided.
+    /// Notes that the current packet is decided: it waits no longer, and its time counts among the
+    /// greatest.
     fn mark_decided(&mut self)
         ensures following { self.new ≡ input_after_decided self.old }
         ensures reading { self.old.waiting ≡ true → self.old.source.phase ≡ Reading }
@@ -134,20 +138,21 @@ impl<I: Input, A: Allocator> InputCursor<I, A> {
         self.source.has_next_at_hand()
     }
 
+    /// The first link type that the units read so far declare; `None` where none does.
     fn first_link(&self) -> Option<u16>
         ensures { result ≡ first_link_of self.now.source.declared }
     {
         self.source.first_link()
     }
 
-    /// The greatest time up to and with the current packet.
+    /// The greatest time up to and with the current packet, by which a merge orders inputs.
     fn key(&self) -> u64
         ensures { result ≡ key_of self.now }
     {
         self.greatest.max(self.time)
     }
 
-    /// What the capture is, once its first unit was read.
+    /// What the capture is; `None` until its first unit was read.
     pub fn kind(&self) -> Option<Kind>
         ensures { result ≡ kind_of self.now.source.declared }
     {
@@ -247,7 +252,8 @@ impl<I: Input, A: Allocator> Inputs<I, A> {
         self.cursors.len()
     }
 
-    /// Where the current unit of an input begins, or its next unit.
+    /// Where the current unit of an input begins, or its next unit, in bytes; 0 where there is no
+    /// such input.
     pub fn offset(&self, input: usize) -> u64
         ensures { result ≡ offset_at self.now.cursors input }
     {
@@ -257,7 +263,7 @@ impl<I: Input, A: Allocator> Inputs<I, A> {
         }
     }
 
-    /// What is next of the inputs.
+    /// What a job does next: reads an input on, decides its current packet, or finishes.
     pub fn next(&self) -> Next
         ensures { IsNext self.now result }
     {
@@ -267,7 +273,7 @@ impl<I: Input, A: Allocator> Inputs<I, A> {
         }
     }
 
-    /// An input.
+    /// The input with this index, with its current packet.
     pub fn cursor(&self, input: usize) -> &InputCursor<I, A>
         requires { input < length self.now.cursors }
         ensures { IsInput self.now.cursors input result.now }
@@ -275,17 +281,18 @@ impl<I: Input, A: Allocator> Inputs<I, A> {
         &self.cursors[input]
     }
 
-    /// The current packet of an input, which is the next, is decided.
+    /// Notes that the current packet of the input is decided, which `next` told to decide.
     pub fn mark_decided(&mut self, input: usize)
         requires within { input < length self.old.cursors }
         requires next { IsNext self.old (Next.Decide input) }
         ensures { MarksDecided self.old input self.new }
     {
         self.cursors[input].mark_decided();
-        go_back(&mut self.queue, &mut self.schedule, input);
+        update_after_decision(&mut self.queue, &mut self.schedule, input);
     }
 
-    /// Whether the next packet of an input is at hand, so that no read is made for it.
+    /// Whether the next packet of an input is at hand, so that no read is made for it; `false`
+    /// where that can't be told.
     pub fn has_next_at_hand(&self, input: usize) -> bool {
         match self.cursors.get(input) {
             Some(cursor) => cursor.has_next_at_hand(),
@@ -293,14 +300,15 @@ impl<I: Input, A: Allocator> Inputs<I, A> {
         }
     }
 
-    /// The first link type that the inputs declare, in their order.
+    /// The first link type that the inputs declare so far, in their order; `None` where none does.
     pub fn first_link(&self) -> Option<u16>
         ensures { result ≡ first_declared_link self.now.cursors }
     {
         first_link_in(&self.cursors)
     }
 
-    /// Reads an input on, which is the next.
+    /// Reads on the input that `next` told to read, and returns whether it has a packet; `false` at
+    /// its clean end.
     pub fn read_input(&mut self, input: usize) -> Result<bool, Fault>
         requires within { input < length self.old.cursors }
         requires next { IsNext self.old (Next.Read input) }
@@ -311,7 +319,7 @@ impl<I: Input, A: Allocator> Inputs<I, A> {
         let cursor = &mut self.cursors[input];
         let result = cursor.advance();
         let time = cursor.key();
-        go_on(
+        update_after_read(
             &mut self.queue,
             &mut self.schedule,
             Waiting { time, input },
@@ -321,7 +329,8 @@ impl<I: Input, A: Allocator> Inputs<I, A> {
     }
 }
 
-/// The first link type that some inputs declare, in their order.
+/// The first link type that some inputs declare, in their order; `None` where none does.
+// From the last to the first, as `first_declared_link` is built: an earlier input's replaces it.
 fn first_link_in<I: Input, A: Allocator>(cursors: &[InputCursor<I, A>]) -> Option<u16>
     ensures { result ≡ first_declared_link cursors.now }
 {
@@ -335,6 +344,8 @@ fn first_link_in<I: Input, A: Allocator>(cursors: &[InputCursor<I, A>]) -> Optio
     first
 }
 
+/// What is next of inputs in turn: the input whose turn it is is read on, or its packet that waits
+/// is decided; where all had their turn, the job finishes.
 fn next_in_turn<I: Input, A: Allocator>(cursors: &[InputCursor<I, A>], turn: usize) -> Next
     ensures { IsAtCursor cursors.now turn result }
 {
@@ -361,10 +372,11 @@ where
     Queue::new(alloc, room).ok()
 }
 
-/// Goes on after an input that was read on. If the inputs are merged, it waits where it has a
-/// packet; if not, the next one comes where this one is closed. Where the read failed, nothing is
-/// next but to read it again.
-fn go_on<A: Allocator>(
+/// Brings queue and schedule up to date after an input was read on. If the inputs are merged, it
+/// waits where it has a packet, and the schedule goes on to the one after it; if not, it is the
+/// next input's turn where this one is at its end. Where the read failed, nothing changes: the same
+/// read is next.
+fn update_after_read<A: Allocator>(
     queue: &mut Queue<A>,
     schedule: &mut Schedule,
     entry: Waiting,
@@ -395,9 +407,13 @@ fn go_on<A: Allocator>(
     }
 }
 
-/// Goes back to an input whose packet is decided: if the inputs are merged, it waits no more and is
-/// read on next.
-fn go_back<A: Allocator>(queue: &mut Queue<A>, schedule: &mut Schedule, input: usize)
+/// Brings queue and schedule up to date after an input's packet was decided: if the inputs are
+/// merged, it waits no more and is read on next; if not, nothing changes.
+fn update_after_decision<A: Allocator>(
+    queue: &mut Queue<A>,
+    schedule: &mut Schedule,
+    input: usize,
+)
     requires { input < 2 ^ 64 - 1 }
     ensures queue { Leaves (is_merge schedule.old) queue.old queue.new }
     ensures schedule { schedule.new ≡ schedule_after_decided schedule.old input }
@@ -405,10 +421,13 @@ fn go_back<A: Allocator>(queue: &mut Queue<A>, schedule: &mut Schedule, input: u
     if let Schedule::Merge(next, last) = schedule {
         *next = input;
         *last = input + 1;
+        // The input itself, whose packet came first.
         queue.take();
     }
 }
 
+/// What is next of a merge: the inputs from `next` on and below `last` are read on; then the packet
+/// of the first input in the queue is decided; where none waits, the job finishes.
 fn next_by_time<I: Input, A: Allocator>(
     cursors: &[InputCursor<I, A>],
     queue: &Queue<A>,
@@ -444,6 +463,8 @@ where
     Some(cursors)
 }
 
+/// The schedule before anything is read: in turn from the first input on; of a merge all inputs are
+/// read on first.
 fn schedule_at_first<I: Input, A: Allocator>(
     cursors: &[InputCursor<I, A>],
     merges: bool,

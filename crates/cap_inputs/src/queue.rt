@@ -48,7 +48,7 @@ impl<A: Allocator> Queue<A> {
         })
     }
 
-    /// Lets an input wait that doesn't yet.
+    /// Lets an input wait that doesn't yet. There is room, so that it takes no memory.
     pub fn add(&mut self, entry: Waiting)
         requires room { length self.old.waiting < self.old.room }
         requires alone { All (λ w. w.input ≢ entry.input) self.old.waiting }
@@ -58,7 +58,7 @@ impl<A: Allocator> Queue<A> {
         self.heap.push(Reverse(entry)).unwrap();
     }
 
-    /// The input that comes first.
+    /// The input that comes first; `None` where none waits.
     pub fn peek(&self) -> Option<Waiting>
         ensures { MatchOption result (self.now.waiting
             ≡ []) (λ w. IsFirstWaiting w self.now.waiting) }
@@ -69,7 +69,7 @@ impl<A: Allocator> Queue<A> {
         Some(*first)
     }
 
-    /// Takes out the input that comes first.
+    /// Takes out the input that comes first, and returns it; `None` where none waits.
     pub fn take(&mut self) -> Option<Waiting>
         ensures waiting { MatchOption result (self.old.waiting ≡ [])
             (λ w. IsPermutation self.old.waiting (w ∷ self.new.waiting)) }

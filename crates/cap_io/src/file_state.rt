@@ -44,7 +44,8 @@ impl FileState {
         }
     }
 
-    /// The packet of the unit at the start of a buffer.
+    /// The packet of the unit at the start of a buffer. `None` where nothing was read or the table
+    /// hasn't its interface, neither of which a source with a current packet has.
     #[inline(always)]
     pub(crate) fn packet<'a, A: Allocator>(
         self,
@@ -91,7 +92,7 @@ impl FileState {
 pub(crate) enum NextUnit {
     /// A unit of this size, without a packet.
     Other(usize),
-    /// A packet; where it lies was written.
+    /// A packet; the reader's `spans` are where it lies.
     Packet,
     /// The clean end.
     End,

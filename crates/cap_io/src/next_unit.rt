@@ -15,7 +15,7 @@ use std::alloc::Allocator;
 /// The bytes of the file header of pcap.
 const FILE_HEADER: usize = 24;
 
-/// Reads the first four bytes of a file; fewer are fault 1.
+/// Reads the first four bytes of a file; `NotACaptureFile` where it has fewer.
 fn read_first<I: Input>(input: &mut I) -> Result<[u8; 4], Fault>
     ensures moves { Moves I.Input input.old input.new 0 (λ _. 4) 4 result }
     ensures ok { IfOk result (λ first. IsTrue I.tells → I.unread input.old
@@ -65,8 +65,8 @@ impl<I: Input, A: Allocator> UnitReader<I, A> {
         self.read_block(&front)
     }
 
-    /// Reads the next unit, or finds the clean end. A packet is then at the start of the buffer. A
-    /// fault leaves what is known of the file.
+    /// Reads the next unit, or finds the clean end. A unit with a packet is then at the start of
+    /// the buffer. A fault leaves what is known of the file unchanged.
     pub(crate) fn next_unit(&mut self) -> Result<NextUnit, Fault>
         requires { IsConsistent self.old.file self.old.table }
         ensures { ReadsUnit I.Input self.old [] result self.new }

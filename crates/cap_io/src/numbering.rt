@@ -12,7 +12,7 @@ use std::alloc::Allocator;
 use std::hash::{BuildHasherDefault, FoldHasher};
 use std::marker::Model;
 
-/// The most interfaces that a file is given.
+/// The most interfaces that a file is given: they take about 1 MB.
 pub const MOST_OUTPUT_INTERFACES: usize = 4096;
 
 /// What makes two interfaces one. The name lies in it, so that a look-up takes no memory.
@@ -75,7 +75,7 @@ impl<A: Allocator> Model for OutputInterfaces<A> {
 }
 
 impl<A: Allocator + Copy> OutputInterfaces<A> {
-    /// None. It takes no memory.
+    /// No interfaces. It takes no memory.
     pub fn new(alloc: A) -> Self
         ensures { result ≡ [] }
     {
@@ -97,8 +97,8 @@ impl<A: Allocator> OutputInterfaces<A> {
         self.keys.len() < MOST_OUTPUT_INTERFACES || self.keys.contains(&InterfaceKey::of(packet))
     }
 
-    /// The number of a packet's interface, which comes last where it is new and must have room; or
-    /// `NoMemory`, where a new one found none.
+    /// The number of a packet's interface, which is put last where it is new: `has_room` for it is
+    /// the caller's to know. `NoMemory` where there is none for a new one.
     pub fn number_of(&mut self, packet: &Packet<'_>) -> Result<InterfaceNumber, Fault>
         requires { length (self.old ++ new_among self.old (interface_of (captured packet.now))) ≤
             most_output_interfaces }

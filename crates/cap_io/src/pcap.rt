@@ -22,7 +22,8 @@ const RECORD_HEAD: usize = 16;
 /// Where a record says how many bytes of its packet it holds.
 const CAPTURED: usize = 8;
 
-/// Reads the file header of pcap after its first four bytes.
+/// Reads the file header of pcap after its first four bytes: `NotACaptureFile` where these are no
+/// magic number, before more is read.
 pub(crate) fn read_header<I: Input>(input: &mut I, first: &[u8; 4]) -> Result<Head, Fault>
     requires { is_section first.now ≡ false }
     ensures moves { Moves I.Input input.old input.new 4 (λ _. 24) 24 result }
@@ -68,6 +69,7 @@ pub(crate) fn take_record<I: Input>(
 }
 
 /// Whether the next record is wholly among these bytes.
+// No clause: see `Source::has_next_at_hand`.
 pub(crate) fn holds_record(head: &Head, bytes: &[u8]) -> bool {
     if bytes.len() < RECORD_HEAD {
         return false;
@@ -92,8 +94,8 @@ pub(crate) fn record_spans(found: &RecordHead) -> PacketSpans
 }
 
 impl<I: Input, A: Allocator> UnitReader<I, A> {
-    /// Reads the next record of a pcap file to the start of the buffer. Its limits are looked at
-    /// before the buffer grows.
+    /// Reads the next record of a pcap file to the start of the buffer, or finds the clean end. The
+    /// checks of its header are made before the buffer grows.
     pub(crate) fn next_record(&mut self, head: &Head) -> Result<NextUnit, Fault>
         requires { self.old.file ≡ state.Pcap head.now }
         ensures { ReadsUnit I.Input self.old [] result self.new }

@@ -14,12 +14,12 @@ use cap_octet::{Fault, Input, Order};
 use cap_pcapng::{BlockEffect, BlockType, Frame, PacketSpans, Table, block_effect, read_frame};
 use std::alloc::Allocator;
 
-/// The bytes of a block in front of its body, and as many after them as tell a section header's
-/// byte order.
+/// The first bytes of a block: 8 in front of its body, and 4 of that, which in a section header are
+/// the byte-order magic.
 pub(crate) const BLOCK_FRONT: usize = 12;
 
-/// Makes the checks of a whole block of this frame, and brings the table of interfaces after it. A
-/// fault leaves it unchanged.
+/// Makes the checks of a whole block of this frame, brings the table to the interfaces after it,
+/// and returns where its packet lies, if it has one. A fault leaves the table unchanged.
 fn apply_block<A: Allocator>(
     table: &mut Table<A>,
     frame: &Frame,
@@ -55,6 +55,7 @@ fn first_link_type<A: Allocator>(first: Option<u16>, table: &Table<A>) -> Option
 }
 
 /// Whether the next block with a packet, and all before it, are wholly among these bytes.
+// No clause: see `Source::has_next_at_hand`.
 pub(crate) fn holds_packet(order: Order, bytes: &[u8]) -> bool {
     let mut order = order;
     let mut rest = bytes;
@@ -76,8 +77,8 @@ pub(crate) fn holds_packet(order: Order, bytes: &[u8]) -> bool {
 }
 
 impl<I: Input, A: Allocator> UnitReader<I, A> {
-    /// Reads a block after its first 12 bytes to the start of the buffer, and brings the table of
-    /// interfaces after it. Its limits are looked at before the buffer grows.
+    /// Reads a block after its first 12 bytes to the start of the buffer, and brings the table to
+    /// the interfaces after it. The checks of its length are made before the buffer grows.
     pub(crate) fn read_block(&mut self, front: &[u8; 12]) -> Result<NextUnit, Fault>
         requires consistent { IsConsistent self.old.file self.old.table }
         requires begins { BeginsBlock self.old.file front.now }
@@ -102,7 +103,7 @@ impl<I: Input, A: Allocator> UnitReader<I, A> {
         }
     }
 
-    /// Reads the next block of a pcapng file.
+    /// Reads the next block of a pcapng file, or finds the clean end.
     pub(crate) fn next_block(&mut self) -> Result<NextUnit, Fault>
         requires section { IsTrue (is_some (known_order self.old.file)) }
         requires consistent { IsConsistent self.old.file self.old.table }

@@ -2,7 +2,7 @@
 ghost use Rattle.std.specs.Prelude.{◌≡◌, IsTrue, true};
 
 use crate::numbering::OutputInterfaces;
-use crate::writing::{check, write_block, write_file_start, write_record};
+use crate::writing::{check_packet, write_block, write_file_start, write_record};
 use cap_octet::assigned::LINKTYPE_ETHERNET;
 use cap_octet::{Fault, Format, Output, Packet};
 use std::alloc::Allocator;
@@ -24,7 +24,7 @@ pub struct Sink<O: Output, A: Allocator> {
     output: O,
     format: Format,
     state: SinkState,
-    /// Those of a pcapng file; a pcap form has none.
+    /// Those of a pcapng file; pcap has none.
     interfaces: OutputInterfaces<A>,
 }
 
@@ -94,8 +94,8 @@ impl<O: Output, A: Allocator> Sink<O, A> {
     }
 
     /// Writes the file header or section header where nothing was put, with the link type `first`,
-    /// or 1 where there is none. It takes no memory, and nothing but `into_output` is of use after
-    /// it.
+    /// or that of Ethernet where there is none. It takes no memory, and nothing but `into_output`
+    /// is of use after it.
     ///
     /// `WriteFailed`: the device failed in this call, after a beginning of the header. After an
     /// error of an earlier call it returns that again.
@@ -138,13 +138,13 @@ impl<O: Output, A: Allocator> Sink<O, A> {
         output
     }
 
-    /// Writes a packet, or tells why not.
+    /// `put` of a sink that isn't broken; after an error the caller makes it so.
     fn add(&mut self, packet: &Packet<'_>) -> Result<(), Fault>
         ensures bytes { IsTrue O.tells → WritesPacket (refusal_in self.old (captured packet.now))
             (added_in self.old (captured packet.now)) self.old.written result self.new.written }
         ensures answer { AddsPacket self.old (captured packet.now) result self.new }
     {
-        check(self.format, self.state, &self.interfaces, packet)?;
+        check_packet(self.format, self.state, &self.interfaces, packet)?;
         let written = match self.format {
             Format::Pcap | Format::NsecPcap => {
                 write_record(&mut self.output, self.format, self.state, packet)

@@ -111,6 +111,7 @@ impl<I: Input, A: Allocator> Source<I, A> {
 
     /// Whether the device has the next packet at hand, so that `advance` makes it read nothing.
     /// `false` where that can't be told.
+    // No clause: a job only asks whether to release its output before a read that may wait.
     pub fn has_next_at_hand(&self) -> bool {
         let hand = self.reader.input.at_hand();
         match &self.reader.file {
@@ -120,7 +121,8 @@ impl<I: Input, A: Allocator> Source<I, A> {
         }
     }
 
-    /// The current packet, lent from the block, with its comment.
+    /// The current packet, lent from the block, with its comment; `None` before the first
+    /// `advance`, at the clean end and after a fault.
     pub fn head(&self) -> Option<Packet<'_>>
         ensures packet { option_map captured result ≡ self.now.packet }
         ensures short { IfSome result (λ packet. length packet.bytes.now ≤ most_in_unit) }
@@ -134,8 +136,8 @@ impl<I: Input, A: Allocator> Source<I, A> {
             .packet(&reader.spans, &reader.buffer, &reader.table)
     }
 
-    /// The time of the current packet, in nanoseconds since 1970-01-01 00:00:00 UTC; what `head`
-    /// lends is not made.
+    /// The time of the current packet, in nanoseconds since 1970-01-01 00:00:00 UTC; `None` where
+    /// there is none. It costs less than `head`, whose packet isn't made.
     pub fn time(&self) -> Option<u64>
         ensures { result ≡ option_map (λ p. p.time) self.now.packet }
     {
@@ -153,7 +155,7 @@ impl<I: Input, A: Allocator> Source<I, A> {
         self.offset
     }
 
-    /// What the capture is, once its first unit was read.
+    /// What the capture is; `None` until its first unit was read.
     pub fn kind(&self) -> Option<Kind>
         ensures { result ≡ kind_of self.now.declared }
     {
@@ -167,7 +169,7 @@ impl<I: Input, A: Allocator> Source<I, A> {
         }
     }
 
-    /// The first link type that the units read so far declare.
+    /// The first link type that the units read so far declare; `None` where none does.
     pub fn first_link(&self) -> Option<u16>
         ensures { result ≡ first_link_of self.now.declared }
     {
@@ -188,7 +190,8 @@ impl<I: Input, A: Allocator> Source<I, A> {
         input
     }
 
-    /// Leaves the current unit and reads the next one with a packet.
+    /// Leaves the current unit and reads on to the next packet; `false` at the clean end.
+    // A record at hand is taken without a call; all else is out of line.
     #[inline(always)]
     fn advance_to_packet(&mut self) -> Result<bool, Fault>
         requires { self.old.phase ≡ Reading }
@@ -204,7 +207,8 @@ impl<I: Input, A: Allocator> Source<I, A> {
         self.skip_to_packet()
     }
 
-    /// Takes the next record of a pcap file, if the device has it at hand.
+    /// Takes the next record of a pcap file, if the device has it at hand and it fails no check.
+    /// `false` means that nothing was taken: `skip_to_packet` then finds the packet or the fault.
     #[inline(always)]
     fn take_next(&mut self) -> bool
         requires between { IsBetween self.old }
@@ -223,7 +227,8 @@ impl<I: Input, A: Allocator> Source<I, A> {
         true
     }
 
-    /// Skips units to the next one with a packet.
+    /// Skips units to the next one with a packet, which becomes the current one; `false` at the
+    /// clean end.
     #[inline(never)]
     fn skip_to_packet(&mut self) -> Result<bool, Fault>
         requires between { IsBetween self.old }
@@ -241,7 +246,7 @@ impl<I: Input, A: Allocator> Source<I, A> {
         }
     }
 
-    /// Leaves the current unit, if there is one.
+    /// Leaves the current unit, if there is one: `offset` is then where the next one begins.
     fn leave_unit(&mut self)
         requires { self.old.phase ≡ Reading }
         ensures { self.new ≡ past_unit self.old }
@@ -252,7 +257,8 @@ impl<I: Input, A: Allocator> Source<I, A> {
         self.stage = Stage::Between;
     }
 
-    /// Skips one unit, or goes to the clean end.
+    /// Reads one unit: one with a packet becomes the current one, another is skipped, and at the
+    /// clean end the source ends.
     fn read_next(&mut self) -> Result<NextUnit, Fault>
         requires between { IsBetween self.old }
         ensures packets { IsTrue I.tells → FindsNext self.old result self.new }

@@ -7,12 +7,12 @@ ghost use Rattle.cap_io.specs.inside.Reading.{FrontCame, FrontMissing, Moves, Re
 use cap_octet::{Fault, Input, read_full};
 use std::alloc::Allocator;
 
-/// The bytes of a unit that is copied in one piece with what follows it. A buffer has room for as
-/// many.
+/// A unit of at most this many bytes, as most are, is copied as this many, with what follows it. A
+/// buffer has room for as many.
 const SHORT_UNIT: usize = 256;
 
-/// Reads the first bytes of a unit that follows others; `false` is the end of the
-/// file.
+/// Reads the first bytes of a unit that follows others; `false` is the end of the file. `Truncated`
+/// where the file ends inside them, `ReadFailed` where the device failed.
 #[inline(always)]
 pub(crate) fn read_front<I: Input>(input: &mut I, front: &mut [u8]) -> Result<bool, Fault>
     requires { 0 < length front.old }
@@ -37,7 +37,8 @@ pub(crate) fn read_front<I: Input>(input: &mut I, front: &mut [u8]) -> Result<bo
     Ok(true)
 }
 
-/// Makes room for a unit of `size` bytes. What is in the buffer already is of no use.
+/// Makes room for a unit of `size` bytes, or returns `NoMemory`. What is in the buffer already is
+/// of no use; it never shrinks.
 pub(crate) fn make_room<A: Allocator>(buffer: &mut Vec<u8, A>, size: usize) -> Result<(), Fault>
     ensures room { OnOk result (size ≤ vec_len buffer.new) }
     ensures grown { length buffer.old.items ≤ length buffer.new.items }
@@ -53,7 +54,7 @@ pub(crate) fn make_room<A: Allocator>(buffer: &mut Vec<u8, A>, size: usize) -> R
 }
 
 /// Reads what is left of a unit of `size` bytes to the start of the buffer, after the part of it
-/// that came.
+/// that came. `Truncated` where the file ends before, `ReadFailed` where the device failed.
 #[inline(always)]
 pub(crate) fn read_rest<I: Input>(
     input: &mut I,
@@ -85,7 +86,7 @@ pub(crate) fn read_rest<I: Input>(
     Ok(())
 }
 
-/// Copies the first `size` bytes, and maybe more.
+/// Copies the first `size` bytes to the start of the buffer; after them others may be written.
 // Most units are short. A copy of a fixed size has no branch that hangs on a packet's.
 #[inline(always)]
 pub(crate) fn copy_unit(from: &[u8], buffer: &mut [u8], size: usize)

@@ -16,8 +16,9 @@ use cap_pcap::{file_header, record_header};
 use cap_pcapng::{section_bytes, write_interface, write_packet};
 use std::alloc::Allocator;
 
-/// Whether a packet may be put, or the first check that it fails.
-pub(crate) fn check<A: Allocator>(
+/// Checks that a packet may be put in this state, or returns the first check that it fails, in the
+/// order that `Sink::put` lists.
+pub(crate) fn check_packet<A: Allocator>(
     format: Format,
     state: SinkState,
     interfaces: &OutputInterfaces<A>,
@@ -45,7 +46,8 @@ pub(crate) fn check<A: Allocator>(
     }
 }
 
-/// Writes what a file begins with: a file header, or a section header.
+/// Writes what a file begins with: a file header with this link type, or a section header. Out of
+/// line, since it is done once a file.
 #[cold]
 #[inline(never)]
 fn begin_file<O: Output>(output: &mut O, format: Format, link: u16) -> Result<(), DeviceFault>
@@ -58,7 +60,7 @@ fn begin_file<O: Output>(output: &mut O, format: Format, link: u16) -> Result<()
     }
 }
 
-/// Writes what a file begins with where nothing was put.
+/// `begin_file` where nothing was put yet; else nothing.
 #[inline(always)]
 pub(crate) fn write_file_start<O: Output>(
     output: &mut O,
@@ -69,12 +71,13 @@ pub(crate) fn write_file_start<O: Output>(
     ensures { Appends O.Output output.old (file_start_in format state link) result output.new }
 {
     match state {
+        // A broken sink writes nothing more, and doesn't call this.
         SinkState::Started(_) | SinkState::Broken(_) => Ok(()),
         SinkState::Empty => begin_file(output, format, link),
     }
 }
 
-/// Writes a packet as a record of a pcap form, the first one after the file header.
+/// Writes a packet as a record of a pcap format, the first one after the file header.
 pub(crate) fn write_record<O: Output>(
     output: &mut O,
     format: Format,

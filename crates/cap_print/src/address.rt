@@ -16,7 +16,8 @@ pub fn network_u16(bytes: &[u8], at: usize) -> u16
     u16_at(Order::Big, bytes, at)
 }
 
-/// Appends the IPv4 address in the four bytes from place `at`, as `10.0.0.5`.
+/// Appends the IPv4 address in the four bytes from place `at`, as `10.0.0.5`. 43 bytes of room:
+/// each number is given ten digits, as `push_decimal` asks for.
 #[inline(always)]
 #[tactic(auto, unfolding(crate::specs::Addresses::ipv4_text))]
 pub fn push_ipv4(text: &mut Text, bytes: &[u8], at: usize)
@@ -74,7 +75,8 @@ pub fn push_ipv6(text: &mut Text, bytes: &[u8], at: usize)
     push_four_groups(text, bytes, at + 8);
 }
 
-/// Appends a port after an address, as `.80`, if there is one.
+/// Appends a port after an address, as `.80`, if there is one; the room is for a point and ten
+/// digits.
 pub fn push_port(text: &mut Text, port: Option<u16>)
     requires { length text.old + 11 ≤ 256 }
     ensures value { text.new ≡ text.old ++ port_text port }

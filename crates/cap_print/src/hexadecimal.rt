@@ -52,7 +52,7 @@ fn hex_sixteen(number: u64) -> [u8; 16]
     [a, b, c, d, e, f, g, h, i, j, k, l, m, n, o, p]
 }
 
-/// How many zeros, at most `most`, digits begin with.
+/// How many digits `0`, at most `most`, these digits in ASCII begin with.
 fn leading_zeros(digits: &[u8], most: usize) -> usize
     requires { most ≤ length digits.now }
     ensures value { drop result digits.now ≡ without_zeros most digits.now }

@@ -25,7 +25,7 @@ impl LastSecond {
     ghost use Rattle.std.specs.Prelude.{◌≡◌, ◌^◌, ◌<◌};
     ghost use Rattle.cap_octet.specs.Date.{second_text};
 
-    /// A second since 1970-01-01 00:00:00 UTC, and its date.
+    /// A second since 1970-01-01 00:00:00 UTC, and its date. 2^34 is `second_bytes`' limit.
     pub fn new(second: u64) -> Self
         requires { second < 2 ^ 34 }
         ensures { result ≡ second }

@@ -23,7 +23,7 @@ fn push_ethertype(text: &mut Text, kind: u16)
 }
 
 /// Appends what names the link before its EtherType: of Ethernet the source, in the header's bytes
-/// 6 to 11, and the destination, in its bytes 0 to 5.
+/// 6 to 11, and the destination, in its bytes 0 to 5; of another link its name.
 #[tactic(auto, unfolding(crate::specs::Line::link_text))]
 fn push_link_text(text: &mut Text, link: Link, bytes: &[u8])
     requires room { length text.old + 37 ≤ 256 }
@@ -42,7 +42,7 @@ fn push_link_text(text: &mut Text, link: Link, bytes: &[u8])
 }
 
 /// Appends what is said of the header of a link that is known, whose EtherType is at a place, if it
-/// has one.
+/// has one: its name alone where it has none, `[short]` where the header isn't all captured.
 #[tactic(auto, unfolding(crate::specs::Line::link_header))]
 fn push_link_header(text: &mut Text, link: Link, type_offset: Option<usize>, bytes: &[u8])
     requires room { length text.old + 60 ≤ 256 }

@@ -69,7 +69,7 @@ fn push_ip_name(text: &mut Text, ip: Ip)
     }
 }
 
-/// Appends what a number is called, and the number in decimal.
+/// Appends a text and after it a number in decimal, as `proto 47`.
 #[inline(always)]
 fn push_name_and_number(text: &mut Text, name: &[u8], number: u32)
     requires { length text.old + length name.now + 10 ≤ 256 }
@@ -149,8 +149,8 @@ fn push_endpoints(text: &mut Text, ip: Ip, bytes: &[u8], l: usize, ports: Option
     text.push_all(b": ");
 }
 
-/// Whether an IPv4 packet is a fragment but the first. Those of IPv6 are told by a header of their
-/// own, which isn't read.
+/// Whether an IPv4 packet is a later fragment, whose offset isn't 0, and so has no ports. Those of
+/// IPv6 are told by a header of their own, which isn't read.
 fn is_later_fragment(ip: Ip, bytes: &[u8], l: usize) -> bool
     requires place { l ≤ longest_header }
     requires there { addresses_end ip l ≤ length bytes.now }
@@ -197,7 +197,8 @@ fn ports_at(protocol: u8, bytes: &[u8], at: usize) -> Option<(u16, u16)>
     }
 }
 
-/// Appends what is said of the header of IP at place `l`: `IP A > B: ` with the protocol.
+/// Appends what is said of the header of IP at place `l`: `IP A > B: ` with the protocol, with
+/// `fragment` of a later one, or `IP [short]` where the addresses aren't captured.
 // Inlined with what it calls, so that the version is a constant in each copy.
 #[inline(always)]
 #[tactic(auto, unfolding(crate::specs::Network::ip_part))]
@@ -224,7 +225,8 @@ fn push_ip_part(text: &mut Text, ip: Ip, bytes: &[u8], l: usize)
 }
 
 /// Appends what is said of the ARP or RARP header at place `l`, after its name: its operation, and
-/// the IPv4 addresses of sender and target, at the places that RFC 826 gives with Ethernet.
+/// the IPv4 addresses of sender and target, at the places that RFC 826 gives with Ethernet; or
+/// `[short]` where its 28 bytes aren't all captured.
 #[tactic(auto, unfolding(crate::specs::Network::arp_part))]
 fn push_arp_part(text: &mut Text, bytes: &[u8], l: usize)
     requires room { length text.old + 120 ≤ 256 }

@@ -4,7 +4,7 @@ use cap_octet::date::{NANOS_PER_SECOND, nine_digits, two_digits};
 use itoa::Buffer;
 use std::marker::Model;
 
-/// How many bytes a line may have.
+/// How many bytes the buffer holds: a line has at most 250, a row fewer.
 const ROOM: usize = 256;
 
 /// At most 256 bytes, in place. Contracts see it as its bytes.

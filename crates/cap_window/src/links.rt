@@ -20,7 +20,7 @@ impl Links {
     ghost use Rattle.std.specs.Prelude.{◌≡◌, ◌+◌, ◌^◌, ◌-◌, min, not};
     ghost use Rattle.cap_window.specs.inside.Index.{link_by_bit};
 
-    /// The link to the marks with this bit.
+    /// The link to the tree of the marks with this bit.
     #[inline]
     pub fn link(&self, bit: bool) -> u32
         ensures { result ≡ link_by_bit self.now bit }
@@ -28,7 +28,8 @@ impl Links {
         if bit { self.ones } else { self.zeros }
     }
 
-    /// The links to the same marks from a mark that is `step` places after; 2^32 - 1 at most.
+    /// The links to the same marks from a mark that is `step` places after; 2^32 - 1 at most, which
+    /// is before every window.
     #[inline]
     fn moved_by(&self, step: u32) -> Links
         ensures zeros { result.zeros ≡ min (self.now.zeros + step) (2 ^ 32 - 1) }
@@ -40,7 +41,7 @@ impl Links {
         }
     }
 
-    /// These links, but `step` to the marks with this bit.
+    /// These links, but with `step` as that to the marks with this bit.
     #[inline]
     fn with_link(self, bit: bool, step: u32) -> Links
         ensures bit { link_by_bit result bit ≡ step }
@@ -72,9 +73,9 @@ pub fn mark_bit(mark: &Mark, depth: u32) -> bool
     }
 }
 
-/// Puts the newest mark on top of the tree of its hash, whose top is `step` places before it. What
-/// it takes the place of goes down by its own bits, and so on; a mark that is equal to the one that
-/// takes its place goes out.
+/// Puts the newest mark on top of the tree of its hash, whose top is `step` places before it, by
+/// new links. The mark whose place it takes goes down by its own bits and takes another's place,
+/// and so on; a mark that is equal to the one that takes its place goes out, and ends it.
 pub fn place_newest<A: Allocator>(
     marks: &HeapCircularBuffer<Mark, A>,
     links: &mut HeapCircularBuffer<Links, A>,
@@ -107,6 +108,7 @@ pub fn place_newest<A: Allocator>(
         *links.get_mut(place).unwrap() = under.moved_by(step).with_link(bit, step);
         (place, step, depth) = (lower, under.link(bit), depth + 1);
     }
+    // The step leads out of the window, so that there is no tree below.
     *links.get_mut(place).unwrap() = Links {
         zeros: step,
         ones: step,

@@ -8,7 +8,7 @@ use circular_buffer::HeapCircularBuffer;
 use std::alloc::{AllocError, Allocator};
 use std::marker::Model;
 
-/// The most trees: at 4 bytes each their heads take 4 MiB.
+/// The most trees, 2^20: at 4 bytes each their heads take 4 MiB.
 const MOST_HEADS: u32 = 0x0010_0000;
 
 /// The marks of the last packets, as many as fit.
@@ -87,13 +87,15 @@ impl<A: Allocator> Window<A> {
         found
     }
 
-    /// Whether an equal mark is in the window.
+    /// Whether an equal mark is in the window: if so, it is in the tree of its hash, on the way
+    /// down by its bits.
     fn contains(&self, mark: &Mark) -> bool
         ensures { IsTrue result ↔ Contains self.now.marks mark.now }
     {
         let hash = hash_of(mark, self.mask);
         let (mut limit, mut depth) = (self.marks.len(), 0);
         let mut step = self.newest + 1 - self.heads[hash];
+        // `limit` is the place of the mark above, and at first that of the next mark.
         while step as usize <= limit {
             limit -= step as usize;
             if is_same_mark(self.marks.get(limit).unwrap(), mark) {
@@ -114,6 +116,7 @@ impl<A: Allocator> Window<A> {
         let number = self.newest + 1;
         let step = number - self.heads[hash];
         self.marks.push_back(mark);
+        // Its links are set by `place_newest`.
         self.links.push_back(Links {
             zeros: step,
             ones: step,
@@ -134,7 +137,8 @@ fn hash_of(mark: &Mark, mask: u32) -> usize
     (u32::from_le_bytes([a, b, c, d]) & mask) as usize
 }
 
-/// The mask of a hash: one less than the number of heads, which is a power of two.
+/// The mask of a hash: one less than the number of heads, which is a power of two, at least the
+/// capacity up to `MOST_HEADS`.
 fn head_mask(capacity: u32) -> u32
     ensures { result < 2 ^ 31 }
 {

@@ -16,11 +16,11 @@ pub returns-clause-exact : goal.returns-clause-exact
 returns-clause-exact g c = λ ti.
     let old : InputsView = record { order = ordering_of c.self.inside.schedule; cursors = c.self.inside.cursors.items } in
     let made : PacketOrder → InputsView = λ o. record { order = o; cursors = slice_set c.self.inside.cursors.items c.args.input c.advance-result.new.self } in
-    let P : InputsView → Type 0 = λ v. ReadsInput v c.args.input c.advance-result.result (made (ordering_of c.go_on.new.schedule)) in
+    let P : InputsView → Type 0 = λ v. ReadsInput v c.args.input c.advance-result.result (made (ordering_of c.update_after_read.new.schedule)) in
     let O : PacketOrder → Type 0 = λ o. ReadsInput old c.args.input c.advance-result.result (made o) in
     let W : InputsView → Type 0 = λ v. c.args.input < length v.cursors in
     subst P c.self.view_is
-    (subst O (sym (ap ordering_of c.go_on.ensures.schedule ∙ schedule-order c.self.inside.schedule c.args.input c.advance-result.result))
+    (subst O (sym (ap ordering_of c.update_after_read.ensures.schedule ∙ schedule-order c.self.inside.schedule c.args.input c.advance-result.result))
     (fetches-by old c.args.input c.advance-result.result c.index_mut-cursor.result.now c.advance-result.new.self
     (subst W (sym c.self.view_is) c.requires.within) c.index_mut-cursor.ensures.value (c.advance-result.ensures.exact ti) c.advance-result.ensures.steps c.advance-result.ensures.is))
 
@@ -28,16 +28,16 @@ pub returns-clause-steps : goal.returns-clause-steps
 returns-clause-steps g c =
     let old : InputsView = record { order = ordering_of c.self.inside.schedule; cursors = c.self.inside.cursors.items } in
     let made : PacketOrder → InputsView = λ o. record { order = o; cursors = slice_set c.self.inside.cursors.items c.args.input c.advance-result.new.self } in
-    let P : InputsView → Type 0 = λ v. ReadSteps v c.args.input c.advance-result.result (made (ordering_of c.go_on.new.schedule)) in
+    let P : InputsView → Type 0 = λ v. ReadSteps v c.args.input c.advance-result.result (made (ordering_of c.update_after_read.new.schedule)) in
     let O : PacketOrder → Type 0 = λ o. ReadSteps old c.args.input c.advance-result.result (made o) in
     let W : InputsView → Type 0 = λ v. c.args.input < length v.cursors in
     subst P c.self.view_is
-    (subst O (sym (ap ordering_of c.go_on.ensures.schedule ∙ schedule-order c.self.inside.schedule c.args.input c.advance-result.result))
+    (subst O (sym (ap ordering_of c.update_after_read.ensures.schedule ∙ schedule-order c.self.inside.schedule c.args.input c.advance-result.result))
     (read_input-steps-by old c.args.input c.advance-result.result c.index_mut-cursor.result.now c.advance-result.new.self
     (subst W (sym c.self.view_is) c.requires.within) c.index_mut-cursor.ensures.value c.advance-result.ensures.steps c.advance-result.ensures.phase c.advance-result.ensures.upper_bound c.advance-result.ensures.is))
 
-pub go_on-requires-clause-room : goal.go_on-requires-clause-room
-go_on-requires-clause-room g c =
+pub update_after_read-requires-clause-room : goal.update_after_read-requires-clause-room
+update_after_read-requires-clause-room g c =
     let W : InputsView → Type 0 = λ v. c.args.input < length v.cursors in
     let T : InputsView → Type 0 = λ v. IsNext v (next.Read c.args.input) in
     let a = get-among c.self.inside.cursors.items c.args.input c.index_mut-cursor.result.now c.index_mut-cursor.result.now (subst W (sym c.self.view_is) c.requires.within) c.index_mut-cursor.ensures.value in
@@ -51,14 +51,14 @@ invariant_of-self g c =
     let a = get-among c.self.inside.cursors.items c.args.input c.index_mut-cursor.result.now c.index_mut-cursor.result.now (subst W (sym c.self.view_is) c.requires.within) c.index_mut-cursor.ensures.value in
     let at : IsNextAt c.self.inside.schedule c.self.inside.cursors.items (next.Read c.args.input) = read-at c.self.inside.schedule c.self.inside.cursors.items c.args.input c.self.invariant.1 (subst T (sym c.self.view_is) c.requires.next) in
     let waits = ap (λ (h : InputView). h.waiting) c.advance-result.ensures.is in
-    let K : ℕ → Type 0 = λ n. EntersQueue (is_packet_found c.advance-result.result && is_merge c.self.inside.schedule) (record { time = n; input = c.args.input }) c.self.inside.queue c.go_on.new.queue in
+    let K : ℕ → Type 0 = λ n. EntersQueue (is_packet_found c.advance-result.result && is_merge c.self.inside.schedule) (record { time = n; input = c.args.input }) c.self.inside.queue c.update_after_read.new.queue in
     let cursors' = slice_set c.self.inside.cursors.items c.args.input c.advance-result.new.self in
-    let P : Schedule → Type 0 = λ p. HoldsQueue p cursors' c.go_on.new.queue in
+    let P : Schedule → Type 0 = λ p. HoldsQueue p cursors' c.update_after_read.new.queue in
     let Q : Schedule → Type 0 = λ p. IsScheduled p cursors' in (
-      subst P (sym c.go_on.ensures.schedule)
-          (queue-read c.self.inside.schedule c.self.inside.cursors.items c.args.input c.index_mut-cursor.result.now c.advance-result.new.self c.advance-result.result c.self.inside.queue c.go_on.new.queue
-          a at waits (subst K c.key-time.ensures c.go_on.ensures.queue) c.self.invariant.0),
-      subst Q (sym c.go_on.ensures.schedule)
+      subst P (sym c.update_after_read.ensures.schedule)
+          (queue-read c.self.inside.schedule c.self.inside.cursors.items c.args.input c.index_mut-cursor.result.now c.advance-result.new.self c.advance-result.result c.self.inside.queue c.update_after_read.new.queue
+          a at waits (subst K c.key-time.ensures c.update_after_read.ensures.queue) c.self.invariant.0),
+      subst Q (sym c.update_after_read.ensures.schedule)
           (placed-read c.self.inside.schedule c.self.inside.cursors.items c.args.input c.index_mut-cursor.result.now c.advance-result.new.self c.advance-result.result
           a at waits (ap (λ (h : InputView). h.source.phase) c.advance-result.ensures.is ∙ c.advance-result.ensures.phase) c.self.invariant.1),
     )

@@ -13,7 +13,7 @@ returns-in_default-clause-bytes g c = λ tells.
       | in-Pcap w ↦ rw (w.written-is, w.self-inside-is) (record-adds _ _ _ _ _ _ _ w.in-Pcap.is (w.write_record-written.ensures.appended tells))
       | in-Pcapng+in_ok-interface-in-Pcapng w ↦ rw (w.written-is, w.self-inside-is) (block-adds _ _ _ _ _ _ _ _ _ w.in-Pcapng.is w.in_ok-interface-in-Pcapng.ensures.number (w.write_block-written.ensures.appended tells))
     ]) in
-    let allowed : Ok (tt {0}) ≡ checked (refusal_in c.args.self.now (captured c.args.packet.now)) (tt {0}) = rw (← c.self.view_is) c.in_ok-check.ensures in
+    let allowed : Ok (tt {0}) ≡ checked (refusal_in c.args.self.now (captured c.args.packet.now)) (tt {0}) = rw (← c.self.view_is) c.in_ok-check_packet.ensures in
     adds-failed _ _ _ _ allowed (rw c.in_default.is at exact)
 
 pub returns-in-Empty-clause-bytes : goal.returns-in-Empty-clause-bytes

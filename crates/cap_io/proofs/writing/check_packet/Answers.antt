@@ -1,6 +1,6 @@
 use Rattle.std.proofs.Common.{arith}
 use Rattle.std.proofs.lemmas.Grind.{common_steps}
-use Rattle.cap_io.proofs.writing.check.Goals as goal
+use Rattle.cap_io.proofs.writing.check_packet.Goals as goal
 
 pub returns-then-link-packet : goal.returns-then-link-packet
 returns-then-link-packet g c = grind (arith, common_steps)
