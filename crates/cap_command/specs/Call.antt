@@ -13,6 +13,7 @@ pub record Call : Type 0 where
   pub messages : OutputView
   pub tells : Bool
 
+-- the call that these make
 abbrev pub call_of : (names : List (List ℕ)) → List FreshInput → (output messages : FreshOutput)
     → Call
 call_of names inputs output messages = record {
@@ -30,5 +31,6 @@ pub record RunResult : Type 0 where
   pub output : OutputView
   pub messages : OutputView
 
+-- the result with these parts
 abbrev pub run_result : ℕ → OutputView → OutputView → RunResult
 run_result status output messages = record { status = status; output = output; messages = messages }

@@ -22,6 +22,7 @@ is_range first last = nat_le 1 first && nat_le first last && nat_lt last PACKET_
 abbrev pub most_ranges : ℕ
 most_ranges = 512
 
+-- not too many, and each is a range
 abbrev pub has_proper_ranges : List (ℕ × ℕ) → Bool
 has_proper_ranges ranges =
     nat_le (length ranges) most_ranges && list_all (λ range. is_range range.0 range.1) ranges
@@ -30,6 +31,7 @@ has_proper_ranges ranges =
 abbrev pub most_inputs : ℕ
 most_inputs = 256
 
+-- how many inputs a merge or a report may have
 abbrev pub is_input_count : ℕ → Bool
 is_input_count inputs = nat_le 1 inputs && nat_le inputs most_inputs
 
@@ -37,6 +39,7 @@ is_input_count inputs = nat_le 1 inputs && nat_le inputs most_inputs
 abbrev pub is_time : ℕ → Bool
 is_time nanos = nat_lt nanos TIME_END
 
+-- the span of a shift, if it has one, is in its bounds
 abbrev pub is_proper_shift : Shift → Bool
 is_proper_shift shift.None = true
 is_proper_shift (shift.Later span) = is_time span
@@ -74,6 +77,7 @@ has_at_most_one_filter words code = nat_eq (length words) 0 || is_none code
 abbrev pub has_at_most_one_output : {X : Type 0} → (link bytes : Bool) → Option X → Bool
 has_at_most_one_output link bytes write = is_none write || not (link || bytes)
 
+-- what is asked for goes together, and a count is at least 1
 abbrev pub is_proper_print : {Z : Type 0} → Print Z → Bool
 is_proper_print print =
     has_at_most_one_filter (string_bytes print.expr) print.code

@@ -8,6 +8,7 @@ pub data Decision : Type 0 where
   Skip : Decision
   Refuse : (fault : Fault) → Decision
 
+-- a packet is kept or skipped
 abbrev pub keep_if : Bool → Decision
 keep_if kept = if kept then Keep else Skip
 

@@ -30,6 +30,7 @@ decision_of Yes = Keep
 decision_of No = Skip
 decision_of Rejected = Skip
 
+-- what an expression decides on a link; where the link type is that of none, its fault
 abbrev pub read_on : Expression → Option Link → Captured → Decision
 read_on e None p = Refuse LinkTypeNotFiltered
 read_on e (Some link) p = decision_of (holds e link p.bytes p.orig)
@@ -44,6 +45,7 @@ abbrev pub answering : Progress → Decision
 answering (Answered answer count) = keep_if (not (answer == 0))
 answering _ = Skip
 
+-- what a rule decides of a packet; a program ends within as many steps as it has instructions
 abbrev pub rule_decides : Rule → Captured → Decision
 rule_decides (by_reading e) p = expression_decides e p
 rule_decides (by_answer prog) p = answering (machine prog p.bytes p.orig (length prog))

@@ -13,6 +13,7 @@ use Rattle.cap_filter.specs.FilterRules.{Rule, by_reading, by_answer}
 
 -- ---- the filter
 
+-- by what a filter judges; without an expression or a listing, by the empty expression
 abbrev pub rule_of : {Z : Type 0} → Filter Z → Rule
 rule_of filter.All = by_reading empty
 rule_of (filter.Expression compiled) = by_reading compiled.tree

@@ -4,6 +4,7 @@ use Rattle.cap_inputs.specs.declared.inputs.Schedule.{Schedule}
 use Rattle.cap_inputs.specs.declared.inputs.Schedule.TheVariants.{Turn, Merge}
 use Rattle.cap_io.specs.Sequence.{PacketOrder, InTurn, ByTime}
 
+-- the order in which packets come by a schedule
 abbrev pub ordering_of : Schedule → PacketOrder
 ordering_of (Turn turn) = InTurn
 ordering_of (Merge next last) = ByTime

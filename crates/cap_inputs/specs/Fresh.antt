@@ -5,6 +5,7 @@ use Rattle.cap_io.specs.Source.{source_at}
 use Rattle.cap_io.specs.Sequence.{PacketOrder}
 use Rattle.cap_inputs.specs.Inputs.{InputView, InputsView, InputPast}
 
+-- an input that was handed over: nothing is read, no packet waits, none is decided
 abbrev pub fresh_view : FreshInput → InputView
 fresh_view o =
     record {
@@ -13,8 +14,10 @@ fresh_view o =
       greatest = 0;
     }
 
+-- of its bytes none are done
 abbrev pub nothing_done : FreshInput → InputPast
 nothing_done o = record { text = o.text; done = []; packets = [] }
 
+-- the inputs of a job as it begins, in the order in which their packets are to come
 abbrev pub fresh_inputs : PacketOrder → List FreshInput → InputsView
 fresh_inputs order os = record { order = order; cursors = map fresh_view os }

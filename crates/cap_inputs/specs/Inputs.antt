@@ -28,14 +28,17 @@ pub record Future : Type 0 where
   pub items : Items
   pub size : ℕ
 
+-- the packet at an offset, if there is one
 abbrev pub packets_at : ℕ → Option Captured → List Placed
 packets_at offset None = []
 packets_at offset (Some p) = record { offset = offset; packet = p } ∷ []
 
+-- the current packet, if it waits to be decided
 abbrev pub waiting_packets : Bool → SourceView → List Placed
 waiting_packets true s = packets_at s.offset s.packet
 waiting_packets false s = []
 
+-- what is left of an input for the job: the packet that waits, and what comes after it
 abbrev pub items_left : InputView → Future → InputItems
 items_left h f = record {
   greatest = h.greatest;
@@ -43,6 +46,7 @@ items_left h f = record {
   size = f.size;
 }
 
+-- the same of each input
 abbrev pub inputs_left : List InputView → List Future → List InputItems
 inputs_left (h ∷ hs) (f ∷ fs) = items_left h f ∷ inputs_left hs fs
 inputs_left hs fs = []
@@ -69,10 +73,12 @@ pub record InputPast : Type 0 where
   pub done : List ℕ
   pub packets : List Placed
 
+-- all items of an input: its packets that are done, and what is left
 abbrev pub input_items : InputPast → InputView → Future → InputItems
 input_items s h f =
     record (items_left h f) { greatest = 0; items = after_packets s.packets (items_left h f).items }
 
+-- the same of each input
 abbrev pub inputs_with : List InputPast → List InputView → List Future → List InputItems
 inputs_with (s ∷ ss) (h ∷ hs) (f ∷ fs) = input_items s h f ∷ inputs_with ss hs fs
 inputs_with ss hs fs = []
@@ -99,6 +105,7 @@ abbrev pub no_future : SourceView → Future
 no_future s =
     record { items = record { packets = []; declared = s.declared; ending = End }; size = s.offset }
 
+-- what may come after the current packets: at its clean end an input has nothing more
 abbrev pub AreFutures : List InputView → List Future → Type 0
 AreFutures [] [] = Unit {0}
 AreFutures (h ∷ hs) (f ∷ fs) = (h.source.phase ≡ Ended → f ≡ no_future h.source) × AreFutures hs fs
@@ -118,14 +125,17 @@ pub record IsInput (cursors : List InputView) (i : ℕ) (h : InputView) : Type 0
   pub place : length front ≡ i
   pub splits : cursors ≡ front ++ h ∷ back
 
+-- whether a read found a packet: not at the clean end, nor where it failed
 abbrev pub is_packet_found : Result Bool Fault → Bool
 is_packet_found (Ok b) = b
 is_packet_found (Err fault) = false
 
+-- an input after a read that brought its source so far: a packet that was found waits
 abbrev pub input_after : InputView → Result Bool Fault → SourceView → InputView
 input_after h r source =
     record { source = source; waiting = is_packet_found r; greatest = h.greatest }
 
+-- whether a read found the clean end
 abbrev pub is_clean_end : Result Bool Fault → Bool
 is_clean_end (Ok false) = true
 is_clean_end result = false
@@ -168,10 +178,12 @@ abbrev pub input_steps_left : InputView → ℕ
 input_steps_left h =
     2 * (2 ^ 63 - h.source.given) + steps_owed h.waiting h.source.phase
 
+-- the same of some inputs
 abbrev pub steps_left_in : List InputView → ℕ
 steps_left_in [] = 0
 steps_left_in (h ∷ hs) = input_steps_left h + steps_left_in hs
 
+-- the time of the current packet; 0 of none
 abbrev pub packet_time : Option Captured → ℕ
 packet_time None = 0
 packet_time (Some p) = p.time
@@ -219,11 +231,13 @@ next_of inputs =
 abbrev pub input_after_decided : InputView → InputView
 input_after_decided h = record h { waiting = false; greatest = key_of h }
 
+-- the current packet of an input was decided, and no other input changed
 pub record MarksDecided (old : InputsView) (i : ℕ) (new : InputsView) : Type 0 where
   pub cursor : InputView
   pub among : IsInput old.cursors i cursor
   pub is : new ≡ with_cursor old i (input_after_decided cursor)
 
+-- where the current unit of an input begins; 0 where there is no such input
 abbrev pub offset_at : List InputView → ℕ → ℕ
 offset_at cursors i =
     unwrap_or (option_map (λ (h : InputView). h.source.offset) (slice_get cursors i)) 0
@@ -234,8 +248,10 @@ pub record DeviceLimits : Type 0 where
   pub sure : Option ℕ
   pub in_all : ℕ
 
+-- those of a source
 abbrev pub limits_of : SourceView → DeviceLimits
 limits_of s = record { sure = s.sure; in_all = given_in_all s }
 
+-- those of each input
 abbrev pub device_limits : List InputView → List DeviceLimits
 device_limits hs = map (λ h. limits_of h.source) hs

@@ -7,5 +7,6 @@ pub record Queue : Type 0 where
   pub waiting : List Waiting
   pub room : ℕ
 
+-- a queue of these, with this room
 abbrev pub queue : List Waiting → ℕ → Queue
 queue ws n = record { waiting = ws; room = n }

@@ -409,11 +409,7 @@ fn update_after_read<A: Allocator>(
 
 /// Brings queue and schedule up to date after an input's packet was decided: if the inputs are
 /// merged, it waits no more and is read on next; if not, nothing changes.
-fn update_after_decision<A: Allocator>(
-    queue: &mut Queue<A>,
-    schedule: &mut Schedule,
-    input: usize,
-)
+fn update_after_decision<A: Allocator>(queue: &mut Queue<A>, schedule: &mut Schedule, input: usize)
     requires { input < 2 ^ 64 - 1 }
     ensures queue { Leaves (is_merge schedule.old) queue.old queue.new }
     ensures schedule { schedule.new ≡ schedule_after_decided schedule.old input }

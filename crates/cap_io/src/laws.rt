@@ -15,8 +15,8 @@ pub fn items_back()
     ensures { ItemsBack }
 {}
 
-/// What a sink keeps decides of one more packet what all packets so far do, and a packet that is
-/// put extends their text.
+/// A sink decides on one more packet, by its state and its interfaces, as all packets so far would
+/// have it; and a packet that is put extends their text.
 pub fn put_extends_text()
     ensures by_packets { EachPutGoesByPackets }
     ensures text { PutExtendsText }

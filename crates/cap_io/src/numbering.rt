@@ -97,8 +97,8 @@ impl<A: Allocator> OutputInterfaces<A> {
         self.keys.len() < MOST_OUTPUT_INTERFACES || self.keys.contains(&InterfaceKey::of(packet))
     }
 
-    /// The number of a packet's interface, which is put last where it is new: `has_room` for it is
-    /// the caller's to know. `NoMemory` where there is none for a new one.
+    /// The number of a packet's interface. A new one is put last; its caller knows by `has_room`
+    /// that it fits. `NoMemory` where an allocation for it fails.
     pub fn number_of(&mut self, packet: &Packet<'_>) -> Result<InterfaceNumber, Fault>
         requires { length (self.old ++ new_among self.old (interface_of (captured packet.now))) ≤
             most_output_interfaces }

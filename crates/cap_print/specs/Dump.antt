@@ -23,6 +23,7 @@ row bytes k =
 abbrev pub row_count : ℕ → ℕ
 row_count count = (count + 15) / 16
 
+-- the first rows, one after another
 abbrev pub first_rows : List ℕ → ℕ → List ℕ
 first_rows bytes zero = []
 first_rows bytes (suc k) = first_rows bytes k ++ row bytes k

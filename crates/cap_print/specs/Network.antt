@@ -23,6 +23,7 @@ layout_of V6 = record { protocol = 6; addresses = 8; address_length = 16 }
 abbrev pub addresses_end : Ip → ℕ → ℕ
 addresses_end ip l = l + (layout_of ip).addresses + 2 * (layout_of ip).address_length
 
+-- what a line calls this version of IP
 abbrev pub ip_name : Ip → List ℕ
 ip_name V4 = codes "IP"
 ip_name V6 = codes "IP6"
@@ -32,6 +33,7 @@ abbrev pub icmp : Ip → ℕ
 icmp V4 = IPPROTO_ICMP
 icmp V6 = IPPROTO_ICMPV6
 
+-- and what a line calls it
 abbrev pub icmp_name : Ip → List ℕ
 icmp_name V4 = codes "ICMP"
 icmp_name V6 = codes "ICMP6"
@@ -44,6 +46,7 @@ protocol_text ip n =
     else if n == icmp ip then icmp_name ip
     else codes "proto " ++ decimal n
 
+-- the address of this version at a place
 abbrev pub address_text : Ip → List ℕ → ℕ → List ℕ
 address_text V4 p at = ipv4_text p at
 address_text V6 p at = ipv6_text p at

@@ -9,6 +9,7 @@ use Rattle.cap_window.specs.declared.mark.Mark.{Mark}
 abbrev pub mark_of : List ℕ → Mark
 mark_of bytes = record { length = length bytes; digest = md5 bytes }
 
+-- whether two marks are equal, in length and digest
 abbrev pub is_same_mark : Mark → Mark → Bool
 is_same_mark x y = x.length == y.length && pointwise nat_eq x.digest y.digest
 

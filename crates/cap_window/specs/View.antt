@@ -7,5 +7,6 @@ pub record WindowView : Type 0 where
   pub marks : List Mark
   pub capacity : ℕ
 
+-- a window of these marks, with this capacity
 abbrev pub window : List Mark → ℕ → WindowView
 window marks capacity = record { marks = marks; capacity = capacity }

@@ -15,6 +15,7 @@ use Rattle.cap_io.specs.Sequence.{PacketOrder, InTurn, ByTime}
 use Rattle.cap_inputs.specs.Inputs.{InputView, IsInput, key_of}
 use Rattle.cap_inputs.specs.inside.Inputs.{IsLeast, IsOpen, IsReady, NoneEnded, NoneWaits, AllReady, waiting_count}
 
+-- before anything is read: in turn the first input is read; of a merge all are
 abbrev pub first_schedule : PacketOrder → ℕ → Schedule
 first_schedule InTurn count = Turn 0
 first_schedule ByTime count = Merge 0 count
@@ -46,6 +47,7 @@ AreToRead zero (suc last) (h ∷ hs) = (h.waiting ≡ false) × IsOpen h × AreT
 AreToRead (suc next) zero (h ∷ hs) = AllReady (h ∷ hs)
 AreToRead (suc next) (suc last) (h ∷ hs) = IsReady h × AreToRead next last hs
 
+-- the inputs are as far as the schedule has it
 abbrev pub IsScheduled : Schedule → List InputView → Type 0
 IsScheduled (Turn turn) cursors = IsTurnOf turn cursors
 IsScheduled (Merge next last) cursors = AreToRead next last cursors
@@ -74,6 +76,7 @@ abbrev pub HoldsQueue : Schedule → List InputView → Queue → Type 0
 HoldsQueue (Turn turn) cursors q = Unit {0}
 HoldsQueue (Merge next last) cursors q = IsQueued cursors next last q
 
+-- whether packets come by time
 abbrev pub is_merge : Schedule → Bool
 is_merge (Turn turn) = false
 is_merge (Merge next last) = true
@@ -88,6 +91,7 @@ EntersQueue true entry old new =
     IsPermutation (entry ∷ old.waiting) new.waiting × (old.room ≤ new.room)
 EntersQueue false entry old new = new ≡ old
 
+-- the first entry was taken from a queue, or there was none
 abbrev pub TakesFirst : Option Waiting → Queue → Queue → Type 0
 TakesFirst None old new = old.waiting ≡ []
 TakesFirst (Some w) old new =
@@ -98,22 +102,27 @@ abbrev pub Leaves : Bool → Queue → Queue → Type 0
 Leaves true old new = (taken : Option Waiting) × TakesFirst taken old new × (old.room ≤ new.room)
 Leaves false old new = new ≡ old
 
+-- the input with this number is one of these, and its packet waits or not
 pub record IsAmong (cursors : List InputView) (i : ℕ) (waiting : Bool) : Type 0 where
   pub cursor : InputView
   pub among : IsInput cursors i cursor
   pub waits : cursor.waiting ≡ waiting
 
+-- what is next where it is an input's turn; where all had theirs, nothing
 abbrev pub IsAtCursor : List InputView → ℕ → Next → Type 0
 IsAtCursor cursors turn (next.Read i) = (i ≡ turn) × IsAmong cursors i false
 IsAtCursor cursors turn (next.Decide i) = (i ≡ turn) × IsAmong cursors i true
 IsAtCursor cursors turn next.Finish = length cursors ≤ turn
 
+-- this input is the next of those that are to be read on
 pub record IsReadOn (cursors : List InputView) (next last i : ℕ) : Type 0 where
   pub is : i ≡ next
   pub before : next < last
   pub cursor : InputView
   pub among : IsInput cursors i cursor
 
+-- what is next of a merge: an input is read on, where some are to be; else the packet with the
+-- least key is decided
 abbrev pub IsNextOfMerge : List InputView → ℕ → ℕ → Next → Type 0
 IsNextOfMerge cursors first last (next.Read i) = IsReadOn cursors first last i
 IsNextOfMerge cursors first last (next.Decide i) =
@@ -121,6 +130,7 @@ IsNextOfMerge cursors first last (next.Decide i) =
 IsNextOfMerge cursors first last next.Finish =
     (last ≤ first ⊎ length cursors ≤ first) × NoneWaits cursors
 
+-- what is next by the schedule
 abbrev pub IsNextAt : Schedule → List InputView → Next → Type 0
 IsNextAt (Turn turn) cursors r = IsAtCursor cursors turn r
 IsNextAt (Merge next last) cursors r = IsNextOfMerge cursors next last r

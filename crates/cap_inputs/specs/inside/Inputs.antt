@@ -8,6 +8,7 @@ use Rattle.cap_inputs.specs.declared.inputs.Next.{Next}
 use Rattle.cap_inputs.specs.declared.inputs.Next.TheVariants as next
 use Rattle.cap_inputs.specs.Inputs.{InputView, InputsView, Future, IsInput, key_of, steps_left_in, steps_owed}
 
+-- whether the inputs come one after another
 abbrev pub is_in_turn : PacketOrder → Bool
 is_in_turn InTurn = true
 is_in_turn ByTime = false
@@ -19,6 +20,7 @@ actual_future s = record {
   size = s.offset + length s.block + length s.unread;
 }
 
+-- how many packets wait of one input
 abbrev pub waiting_count : Bool → ℕ
 waiting_count true = 1
 waiting_count false = 0
@@ -27,17 +29,19 @@ waiting_count false = 0
 abbrev pub most_steps : ℕ
 most_steps = 2 ^ 80
 
+-- the first link type that the inputs declare, in their order
 abbrev pub first_declared_link : List InputView → Option ℕ
 first_declared_link [] = None
 first_declared_link (h ∷ hs) = option_or (first_link_of h.source.declared) (first_declared_link hs)
 
 -- ---- what is next, part by part
 
--- where a packet waits, its key is over this; or at least this
+-- where a packet waits, its key is over this
 abbrev pub KeysOver : ℕ → List InputView → Type 0
 KeysOver k [] = Unit {0}
 KeysOver k (h ∷ hs) = (h.waiting ≡ true → k < key_of h) × KeysOver k hs
 
+-- the same, but at least this
 abbrev pub KeysFrom : ℕ → List InputView → Type 0
 KeysFrom k [] = Unit {0}
 KeysFrom k (h ∷ hs) = (h.waiting ≡ true → k ≤ key_of h) × KeysFrom k hs
@@ -59,10 +63,12 @@ pub record IsLeast (cursors : List InputView) (i : ℕ) : Type 0 where
 abbrev pub IsOpen : InputView → Type 0
 IsOpen h = h.source.phase ≡ Ended → ⊥
 
+-- all inputs are at their clean ends
 abbrev pub AllEnded : List InputView → Type 0
 AllEnded [] = Unit {0}
 AllEnded (h ∷ hs) = (h.source.phase ≡ Ended) × AllEnded hs
 
+-- no input is at its clean end
 abbrev pub NoneEnded : List InputView → Type 0
 NoneEnded [] = Unit {0}
 NoneEnded (h ∷ hs) = IsOpen h × NoneEnded hs
@@ -71,6 +77,7 @@ NoneEnded (h ∷ hs) = IsOpen h × NoneEnded hs
 abbrev pub IsReady : InputView → Type 0
 IsReady h = (h.waiting ≡ true) ⊎ (h.source.phase ≡ Ended)
 
+-- the same of each input
 abbrev pub AllReady : List InputView → Type 0
 AllReady [] = Unit {0}
 AllReady (h ∷ hs) = IsReady h × AllReady hs
@@ -85,6 +92,7 @@ pub record IsAtTurn (cursors : List InputView) (i : ℕ) (waiting : Bool) : Type
   pub front : AllEnded among.front
   pub back : NoneEnded among.back
 
+-- what is next of inputs in turn
 abbrev pub IsNextInTurn : List InputView → Next → Type 0
 IsNextInTurn cursors (next.Read i) = IsAtTurn cursors i false
 IsNextInTurn cursors (next.Decide i) = IsAtTurn cursors i true
@@ -104,6 +112,7 @@ IsNextByTime cursors (next.Read i) = IsFirstUnready cursors i
 IsNextByTime cursors (next.Decide i) = AllReady cursors × IsLeast cursors i
 IsNextByTime cursors next.Finish = NoneWaits cursors × AllEnded cursors
 
+-- what is next in either order
 abbrev pub IsNextIn : PacketOrder → List InputView → Next → Type 0
 IsNextIn InTurn cursors r = IsNextInTurn cursors r
 IsNextIn ByTime cursors r = IsNextByTime cursors r
@@ -114,11 +123,14 @@ IsNext inputs r = IsNextIn inputs.order inputs.cursors r
 
 -- ---- steps
 
+-- the steps that an input owes
 abbrev pub owed_by : InputView → ℕ
 owed_by h = steps_owed h.waiting h.source.phase
 
+-- how many steps there are at most
 abbrev pub steps_left : InputsView → ℕ
 steps_left f = steps_left_in f.cursors
 
+-- where the current unit of an input begins; 0 of no input
 abbrev pub offset_of : Option InputView → ℕ
 offset_of o = unwrap_or (option_map (λ (h : InputView). h.source.offset) o) 0

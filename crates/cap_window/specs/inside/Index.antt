@@ -23,12 +23,15 @@ abbrev pub marks_with_bit : (Mark → Bool) → ℕ → Bool → Mark → Bool
 marks_with_bit class depth true m = class m && mark_bit m depth
 marks_with_bit class depth false m = class m && not (mark_bit m depth)
 
+-- those that are wanted, without the marks that are equal to a top
 abbrev pub but : (Mark → Bool) → Mark → Mark → Bool
 but wanted top m = wanted m && not (is_same_mark m top)
 
+-- all marks are wanted
 abbrev pub every : Mark → Bool
 every m = true
 
+-- the mark at a place, and its links; of a place past the end, any
 abbrev pub mark_at : List Mark → ℕ → Mark
 mark_at marks i = slice_index_or marks i (record { length = 0; digest = [] })
 
@@ -82,6 +85,7 @@ pub record IsPutOnTop (marks : List Mark) (old new : List Links) (class : Mark �
 abbrev pub hash_of : ℕ → Mark → ℕ
 hash_of mask m = bit_and (from_le_bytes w32 (take 4 m.digest)) mask
 
+-- whether a mark has this hash
 abbrev pub has_hash : ℕ → ℕ → Mark → Bool
 has_hash mask h m = hash_of mask m == h
 
