@@ -219,7 +219,7 @@ impl<A: Allocator> Edit<A> {
             && allows_window(self.window)
     }
 
-    /// Whether it has at most `MOST_RANGES` ranges, each of which is one.
+    /// Whether it has at most `MOST_RANGES` ranges, and each passes `is_range`.
     fn has_proper_ranges(&self) -> bool
         ensures { result ≡ has_proper_ranges self.now.ranges.items }
     {
@@ -235,7 +235,8 @@ impl<A: Allocator> Edit<A> {
             .any(|range| range.0 <= number && number <= range.1)
     }
 
-    /// Whether the packet with this number is kept: by `keep` it is in a range, else in none.
+    /// Whether the packet with this number is kept: with `keep` those in the ranges are, else those
+    /// in none.
     pub fn keeps(&self, number: u64) -> bool
         ensures { result ≡ is_kept self.now.ranges.items self.now.keep number }
     {

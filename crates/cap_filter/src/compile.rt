@@ -10,8 +10,8 @@ use flt_gen::generate;
 use flt_words::ExprFault;
 use std::alloc::Allocator;
 
-/// Compiles the text of an expression to a program for packets of this link, the program of a
-/// listing. An error is the first of the text's faults, or out of memory (`ExprFault::Memory`).
+/// Compiles the text of an expression to a program for packets of this link. An error is the first
+/// of the text's faults, or out of memory (`ExprFault::Memory`).
 pub fn compile_text<A: Allocator + Copy + Drop>(
     alloc: A,
     text: &str,

@@ -7,8 +7,8 @@ use flt_lang::{Checked, Expr, check, parse, resolve};
 use flt_words::{ExprFault, lex};
 use std::alloc::Allocator;
 
-/// The tree of a text as it is written, without what it leaves out; or the first fault of its
-/// tokens or its grammar.
+/// The tree of a text as it is written, where what it leaves out isn't filled in; or the first
+/// fault of its tokens, their nesting or the grammar.
 fn read_tree<A: Allocator + Copy + Drop>(alloc: A, text: &str) -> Result<Expr<A>, ExprFault>
     ensures read { IfOk result (λ tree. HasTree text.now tree) }
     ensures refused { IfErr result (IsTextFault text.now) }

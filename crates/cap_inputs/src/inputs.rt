@@ -85,7 +85,7 @@ impl<I: Input, A: Allocator> InputCursor<I, A> {
     ghost use Rattle.std.specs.Prelude.{◌≤◌, IsSome, length};
     ghost use Rattle.std.specs.Option.{IfSome};
 
-    /// An input of a source that waits for nothing and has decided nothing.
+    /// An input over a source of which nothing was read: no packet of it waits or is decided.
     fn new(source: Source<I, A>) -> Self
         ensures { result ≡ record { source = source; waiting = false; greatest = 0 } }
     {

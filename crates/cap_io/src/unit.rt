@@ -54,7 +54,7 @@ pub(crate) fn make_room<A: Allocator>(buffer: &mut Vec<u8, A>, size: usize) -> R
 }
 
 /// Reads what is left of a unit of `size` bytes to the start of the buffer, after the part of it
-/// that came. `Truncated` where the file ends before, `ReadFailed` where the device failed.
+/// that came. `Truncated` where the file ends inside it, `ReadFailed` where the device failed.
 #[inline(always)]
 pub(crate) fn read_rest<I: Input>(
     input: &mut I,

@@ -27,6 +27,7 @@ pub fn read_frame(section: Option<Order>, bytes: &[u8; 12]) -> Result<Frame, Fau
     ensures longest { IfOk result (λ frame. frame.length ≤ most_block) }
     ensures whole { IfOk result (λ frame. frame.length % 4 ≡ 0) }
 {
+    // As `begins_section`, which has four bytes.
     let is_section = u32_at(Order::Little, bytes, 0) == SECTION_TYPE;
     let order = if is_section {
         magic_order(bytes).ok_or(Fault::BadByteOrderMagic)?

@@ -1,4 +1,7 @@
 //! What a line says of a packet's network header.
+//!
+//! A clause that asks for room in the text, or bounds what is appended, counts ten digits for each
+//! number, and may have some bytes to spare.
 ghost use Rattle.std.specs.Prelude.{◌≡◌, ◌+◌, ◌*◌, ◌≤◌, ◌<◌, ◌++◌, decimal, length};
 ghost use Rattle.cap_octet.specs.Link.{longest_header};
 ghost use Rattle.cap_print.specs.Network.{address_text, arp_part, address_with_port, has_ports};
