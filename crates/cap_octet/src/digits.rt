@@ -30,6 +30,7 @@ fn with_digit(number: u64, radix: u32, byte: u8) -> Option<u64>
     ensures value { IfSome result (λ n. n ≡ number * radix + digit_value byte) }
     ensures large { IfNone result (2 ^ 64 ≤ number * radix + digit_value byte) }
 {
+    // Never `None` here: the byte is a digit.
     let digit = (byte as char).to_digit(radix)?;
     number.checked_mul(radix as u64)?.checked_add(digit as u64)
 }

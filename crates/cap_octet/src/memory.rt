@@ -75,7 +75,7 @@ impl Input for MemInput<'_> {
         self.rest
     }
 
-    /// Takes `count` bytes where as many are left.
+    /// Takes `count` bytes where as many are left; else none, and returns `false`.
     fn pass(&mut self, count: usize) -> bool
         ensures counted { self.new.given ≡ self.old.given + (if result then count else 0) }
         ensures bounded { IsTrue result → self.new.given < 2 ^ 63 }

@@ -126,7 +126,8 @@ impl<R: Read> Input for StdInput<R> {
         self.reader.buffer()
     }
 
-    /// Takes `count` bytes of what the reader's buffer holds, if it holds as many.
+    /// Takes `count` bytes of what the reader's buffer holds, if it holds as many; else none, and
+    /// returns `false`.
     #[inline(always)]
     fn pass(&mut self, count: usize) -> bool
         ensures counted { self.new.given ≡ self.old.given + (if result then count else 0) }

@@ -97,7 +97,7 @@ impl Input for TrialInput<'_> {
         self.inner.read(&mut buf[..most])
     }
 
-    /// What one read gives; nothing where a read is to fail, so that it is met.
+    /// What one read gives; nothing where some read is to fail, so that reads are made and counted.
     fn at_hand(&self) -> &[u8]
         ensures exact { IsTrue true
             → StartsWith (⟦<MemInput<'static> as Input>⟧.unread self.now.inner) result.now }
@@ -112,7 +112,8 @@ impl Input for TrialInput<'_> {
         &hand[..hand.len().min(self.piece)]
     }
 
-    /// Takes `count` bytes where one read gives as many, and none is to fail.
+    /// Takes `count` bytes where one read gives as many and no read is to fail; else none, and
+    /// returns `false`.
     fn pass(&mut self, count: usize) -> bool
         ensures counted { ⟦<MemInput<'static> as Input>⟧.given self.new.inner
             ≡ ⟦<MemInput<'static> as Input>⟧.given self.old.inner

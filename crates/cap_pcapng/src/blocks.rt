@@ -107,10 +107,10 @@ impl<'a> EnhancedBlock<'a> {
         }
         let high = u64::from(u32_at(order, body, 4));
         let low = u64::from(u32_at(order, body, 8));
-        // 2^32 times the high half: the proof reads a product where a shift would do.
         Ok(EnhancedBlock {
             order,
             interface: u32_at(order, body, 0),
+            // 2^32 times the high half: the proof reads a product where a shift would do.
             ticks: high * 4_294_967_296 + low,
             captured: u32_at(order, body, 12),
             orig: u32_at(order, body, 16),

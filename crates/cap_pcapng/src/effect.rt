@@ -171,7 +171,7 @@ fn simple_packet<T: Interfaces>(
     let Some(interface) = table.get(0) else {
         return Err(Fault::UnknownInterface);
     };
-    // Only whether the data end inside the block, as in `enhanced_packet`.
+    // Only whether the data end inside the block; where they lie is told by spans.
     block.data(interface.snap)?;
     Ok(PacketSpans {
         size,

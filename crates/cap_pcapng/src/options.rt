@@ -53,7 +53,7 @@ impl<'a> Options<'a> {
     }
 
     /// The value of the first comment among the options of a packet; empty where there is none.
-    /// They end too at a value that doesn't fit, which is no fault there.
+    /// The options end too at a value that doesn't fit, which is no fault in a packet.
     pub fn comment(mut self) -> &'a [u8]
         ensures value { result.now ≡ comment_in self.entry.order self.entry.rest.now }
         ensures short { length result.now ≤ 65535 }

@@ -95,7 +95,8 @@ impl<A: Allocator> Window<A> {
         let hash = hash_of(mark, self.mask);
         let (mut limit, mut depth) = (self.marks.len(), 0);
         let mut step = self.newest + 1 - self.heads[hash];
-        // `limit` is the place of the mark above, and at first that of the next mark.
+        // `limit` is the place of the mark above, at first that of the next mark, and `step` how
+        // far before it the top of the tree is that is left: none where that is further.
         while step as usize <= limit {
             limit -= step as usize;
             if is_same_mark(self.marks.get(limit).unwrap(), mark) {
