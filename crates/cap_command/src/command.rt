@@ -135,7 +135,7 @@ impl<A: Allocator> Command<A> {
     }
 }
 
-/// Whether a merge or a report may have this number of inputs.
+/// Whether a merge or a report may have this number of inputs: 1 to `MOST_INPUTS`.
 fn is_input_count(inputs: usize) -> bool
     ensures { result ≡ is_input_count inputs }
 {
@@ -195,7 +195,8 @@ fn allows_snap(snap: Option<u32>) -> bool
     }
 }
 
-/// Whether duplicates may be searched for within `window` packets, if they are searched for.
+/// Whether duplicates may be searched for within `window` packets, if they are searched for:
+/// `LEAST_WINDOW` to `MOST_WINDOW`.
 fn allows_window(window: Option<u32>) -> bool
     ensures { result ≡ option_map_or is_window window true }
 {
@@ -262,7 +263,7 @@ impl<A: Allocator> Print<A> {
         self.has_at_most_one_filter() && self.has_at_most_one_output() && allows_count(self.count)
     }
 
-    /// Whether it writes packets or adds link headers or bytes to lines, but not both.
+    /// Whether it doesn't both write packets and add link headers or bytes to lines.
     fn has_at_most_one_output(&self) -> bool
         ensures { result ≡ has_at_most_one_output self.now.link self.now.bytes self.now.write }
     {

@@ -33,7 +33,7 @@ impl FileState {
         }
     }
 
-    /// The first link type that the units declare.
+    /// The first link type that the units declare; `None` where none does.
     pub(crate) fn first_link(self) -> Option<u16>
         ensures { result ≡ known_first_link self }
     {

@@ -77,7 +77,7 @@ pub(crate) fn holds_record(head: &Head, bytes: &[u8]) -> bool {
     u32_at(head.order, bytes, CAPTURED) as usize <= bytes.len() - RECORD_HEAD
 }
 
-/// Where the packet of a record lies.
+/// Where the packet of a record with this header lies: after the header, without options.
 #[inline(always)]
 pub(crate) fn record_spans(found: &RecordHead) -> PacketSpans
     requires { found.now.captured ≤ most_captured }

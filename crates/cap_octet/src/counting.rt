@@ -100,7 +100,7 @@ impl<W: Write + Drop> CountingWriter<W> {
         self.writer.write(buf)
     }
 
-    /// Writes out what its buffer holds.
+    /// Writes out what its buffer holds; that isn't counted as a write to the writer.
     pub(crate) fn flush(&mut self) -> Result<()>
         ensures bytes { Keeps (writer_contents W.contents self.old.writer)
             (writer_contents W.contents self.new.writer) }

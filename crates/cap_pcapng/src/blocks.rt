@@ -152,7 +152,8 @@ impl<'a> SimpleBlock<'a> {
         })
     }
 
-    /// The captured length, in bytes, where the interface has this snap length.
+    /// The captured length, in bytes, where the interface has this snap length: the original one,
+    /// but at most that; 0 is no snap length.
     pub fn captured(&self, snap: u32) -> u32
         ensures { result ≡ simple_captured self.now.orig snap }
     {

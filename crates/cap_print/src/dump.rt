@@ -17,7 +17,7 @@ pub fn link_payload(link: u16, bytes: &[u8]) -> &[u8]
     &bytes[start..]
 }
 
-/// How many rows `count` bytes have.
+/// How many rows `count` bytes have: 16 bytes each, the last one maybe fewer.
 pub fn row_count(count: usize) -> usize
     ensures { result ≡ row_count count }
 {

@@ -110,7 +110,7 @@ impl Text {
         }
     }
 
-    /// Appends any number in decimal. It stands apart since most numbers are below a million.
+    /// Appends any number in decimal. It is out of line since most numbers are below a million.
     #[inline(never)]
     fn push_any_decimal(&mut self, number: u32)
         requires { length self.old + 10 ≤ 256 }

@@ -11,7 +11,7 @@ pub struct Mark {
     pub digest: [u8; 16],
 }
 
-/// The mark of captured bytes.
+/// The mark of captured bytes: how many there are, and their MD5.
 pub(crate) fn mark_of(bytes: &[u8]) -> Mark
     requires { length bytes.now < 2 ^ 32 }
     ensures { result ≡ mark_of bytes.now }
