@@ -73,12 +73,11 @@ abbrev pub parts_in_body : BlockType → Order → List ℕ → Parts
 parts_in_body type.Section order body = SectionParts
 parts_in_body type.Interface order body =
     InterfaceParts (u16_in order body 0) (u32_in order body 4) order (drop 8 body)
-parts_in_body type.ObsoletePacket order body = SkippedParts
 parts_in_body type.SimplePacket order body = SimpleParts (u32_in order body 0) (drop 4 body)
 parts_in_body type.EnhancedPacket order body =
     EnhancedParts (u32_in order body 0) (u32_in order body 4 * 4294967296 + u32_in order body 8)
     (u32_in order body 12) (u32_in order body 16) order (drop 20 body)
-parts_in_body type.Other order body = SkippedParts
+parts_in_body kind order body = SkippedParts
 
 abbrev pub parts_in : Frame → List ℕ → Parts
 parts_in frame text = parts_in_body frame.block_type frame.order (body_in frame text)
@@ -97,21 +96,15 @@ parts_of a.Skipped = SkippedParts
 
 -- an interface that was read is that which its options describe
 abbrev pub IsDescribedIfAny : Block → Type 0
-IsDescribedIfAny a.Section = Unit {0}
 IsDescribedIfAny (a.Interface b) = IsDescribed b
-IsDescribedIfAny (a.Enhanced b) = Unit {0}
-IsDescribedIfAny (a.Simple b) = Unit {0}
-IsDescribedIfAny a.Skipped = Unit {0}
+IsDescribedIfAny block = Unit {0}
 
 -- ---- all checks of a block by itself
 
 -- the checks of an interface's options
 abbrev pub option_checks : Parts → List (Bool × Fault)
-option_checks SectionParts = []
 option_checks (InterfaceParts link snap order options) = list_checks [] (options_in order options)
-option_checks (EnhancedParts number ticks captured orig order rest) = []
-option_checks (SimpleParts orig rest) = []
-option_checks SkippedParts = []
+option_checks parts = []
 
 -- The first check that the block fails which a text begins with, after those of its frame. Those
 -- that need the interfaces before it are in `Unit`: one of them, of how many there are, comes

@@ -6,7 +6,7 @@ use Rattle.cap_octet.specs.Checks.{first_failing}
 use Rattle.cap_octet.specs.Packet.{Captured}
 use Rattle.cap_octet.specs.declared.fault.Fault.{Fault}
 use Rattle.cap_octet.specs.declared.number.Order.{Order}
-use Rattle.cap_pcapng.specs.Block.{Parts, SectionParts, InterfaceParts, EnhancedParts, SimpleParts, SkippedParts, block_checks, parts_in}
+use Rattle.cap_pcapng.specs.Block.{Parts, InterfaceParts, block_checks, parts_in}
 use Rattle.cap_pcapng.specs.Comment.{comment_in}
 use Rattle.cap_pcapng.specs.Interface.{Described, description_of}
 use Rattle.cap_pcapng.specs.Unit.{Section, checks_among, packet_by, packet_of, section_by}
@@ -21,11 +21,8 @@ abbrev pub span_bytes : Span → List ℕ → List ℕ
 span_bytes span text = take span.length (drop span.start text)
 
 abbrev pub is_interface : Parts → Bool
-is_interface SectionParts = false
 is_interface (InterfaceParts link snap order options) = true
-is_interface (EnhancedParts number ticks captured orig order rest) = false
-is_interface (SimpleParts orig rest) = false
-is_interface SkippedParts = false
+is_interface parts = false
 
 -- the same section with these interfaces
 abbrev pub section_of : Order → List Described → Section
@@ -77,16 +74,13 @@ pub record Enters (frame : Frame) (interfaces : List Described) (block : List �
 
 -- what a block does that passed all of its checks: its packet, and the interfaces following it
 abbrev pub packet_in_effect : BlockEffect → Option PacketSpans
-packet_in_effect effect.Section = None
-packet_in_effect (effect.Interface i) = None
 packet_in_effect (effect.Packet spans) = Some spans
-packet_in_effect effect.Nothing = None
+packet_in_effect other = None
 
 abbrev pub interfaces_after : BlockEffect → List Described → List Described
 interfaces_after effect.Section interfaces = []
 interfaces_after (effect.Interface i) interfaces = interfaces ++ description_of i ∷ []
-interfaces_after (effect.Packet spans) interfaces = interfaces
-interfaces_after effect.Nothing interfaces = interfaces
+interfaces_after other interfaces = interfaces
 
 abbrev pub HasEffect : Frame → List Described → List ℕ → BlockEffect → Type 0
 HasEffect frame interfaces block does =

@@ -47,7 +47,7 @@ magic_order text =
 abbrev pub order_told : Option Order → List ℕ → Option Order
 order_told section text = if is_section text then magic_order text else section
 
--- the same where there is one; the first checks fail where there is none
+-- the same where there is one; where there is none, one of the first two checks fails
 abbrev pub order_in : Option Order → List ℕ → Order
 order_in section text = unwrap_or (order_told section text) Little
 
@@ -59,8 +59,9 @@ type_in section text =
 abbrev pub length_in : Option Order → List ℕ → ℕ
 length_in section text = u32_in (order_in section text) text 4
 
--- the checks of a block's first 12 bytes, in order, after a section of this byte order or after
--- none
+-- The checks of a block's first 12 bytes, in order, after a section of this byte order or after none:
+-- with no section before it a block is a section header; a section header has the byte-order magic;
+-- the total length is a multiple of four, at least 12 and at most that of the longest block.
 abbrev pub frame_checks : Option Order → List ℕ → List (Bool × Fault)
 frame_checks section text =
     (is_section text || is_some section, NotACaptureFile)

@@ -13,11 +13,11 @@ pub record CodedValue : Type 0 where
   pub code : ℕ
   pub value : List ℕ
 
--- the code and the value of the option at the start of a text, and how many bytes it has before its
--- padding
+-- how many bytes the option at the start of a text has, as its length states, without its padding
 abbrev pub option_size : Order → List ℕ → ℕ
 option_size order text = 4 + u16_in order text 2
 
+-- its code and its value
 abbrev pub option_at : Order → List ℕ → CodedValue
 option_at order text =
     record { code = u16_in order text 0; value = take (u16_in order text 2) (drop 4 text) }

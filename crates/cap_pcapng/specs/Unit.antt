@@ -8,7 +8,7 @@ use Rattle.cap_octet.specs.Packet.{Captured}
 use Rattle.cap_octet.specs.declared.fault.Fault.{Fault}
 use Rattle.cap_octet.specs.declared.fault.Fault.TheVariants.{Truncated, UnknownInterface, TimeOutOfRange, TooManyInterfaces}
 use Rattle.cap_octet.specs.declared.number.Order.{Order}
-use Rattle.cap_pcapng.specs.Block.{Parts, SectionParts, InterfaceParts, EnhancedParts, SimpleParts, SkippedParts, block_checks, data_checks, option_checks, parts_in, simple_captured}
+use Rattle.cap_pcapng.specs.Block.{Parts, SectionParts, InterfaceParts, EnhancedParts, SimpleParts, block_checks, data_checks, option_checks, parts_in, simple_captured}
 use Rattle.cap_pcapng.specs.Comment.{comment_in}
 use Rattle.cap_pcapng.specs.Frame.{frame_checks, frame_in}
 use Rattle.cap_pcapng.specs.Interface.{Described, described_in, most_interfaces}
@@ -52,7 +52,6 @@ captured_of interface orig =
 
 -- the checks that need the interfaces before the block
 abbrev pub checks_among : List Described → Parts → List (Bool × Fault)
-checks_among interfaces SectionParts = []
 checks_among interfaces (InterfaceParts link snap order options) =
     (nat_lt (length interfaces) most_interfaces, TooManyInterfaces)
     ∷ option_checks (InterfaceParts link snap order options)
@@ -64,7 +63,7 @@ checks_among interfaces (EnhancedParts number ticks captured orig order rest) =
 checks_among interfaces (SimpleParts orig rest) =
     (is_some (slice_get interfaces 0), UnknownInterface)
     ∷ data_checks (captured_of (slice_get interfaces 0) orig) rest
-checks_among interfaces SkippedParts = []
+checks_among interfaces parts = []
 
 -- all checks of the block that a text begins with
 abbrev pub unit_checks : Option Section → List ℕ → List (Bool × Fault)
@@ -95,12 +94,7 @@ section_by before order (InterfaceParts link snap own options) =
       interfaces = interfaces_before before
           ++ described_in link snap own options ∷ [];
     }
-section_by before order (EnhancedParts number ticks captured orig own rest) =
-    record { order = order; interfaces = interfaces_before before }
-section_by before order (SimpleParts orig rest) =
-    record { order = order; interfaces = interfaces_before before }
-section_by before order SkippedParts =
-    record { order = order; interfaces = interfaces_before before }
+section_by before order parts = record { order = order; interfaces = interfaces_before before }
 
 abbrev pub section_after : Option Section → List ℕ → Section
 section_after before bytes =
@@ -121,8 +115,6 @@ packet_of i time orig bytes comment = record {
 -- The comment of an enhanced packet is among the options after its data. A simple packet is one of
 -- interface 0, at time 0, without a comment.
 abbrev pub packet_by : List Described → Parts → Option Captured
-packet_by interfaces SectionParts = None
-packet_by interfaces (InterfaceParts link snap order options) = None
 packet_by interfaces (EnhancedParts number ticks captured orig order rest) =
     option_map
     (λ (i : Described). packet_of i (unwrap_or (representable_time ticks i.units i.offset) 0) orig
@@ -132,7 +124,7 @@ packet_by interfaces (SimpleParts orig rest) =
     option_map
     (λ (i : Described). packet_of i 0 orig (take (simple_captured orig i.snap) rest) [])
     (slice_get interfaces 0)
-packet_by interfaces SkippedParts = None
+packet_by interfaces parts = None
 
 abbrev pub packets_in : Option Section → List ℕ → List Captured
 packets_in before bytes =
