@@ -42,14 +42,10 @@ magic_order text =
     else (if u32_in Big text 8 == byte_order_magic then Some Big
     else None)
 
--- the byte order of a block: a section header tells its own, the others have that of the section
--- before them
-abbrev pub order_told : Option Order → List ℕ → Option Order
-order_told section text = if is_section text then magic_order text else section
-
--- the same where there is one; where there is none, one of the first two checks fails
+-- The byte order of a block: a section header tells its own, the others have that of the section
+-- before them. Where there is none, one of the first two checks fails.
 abbrev pub order_in : Option Order → List ℕ → Order
-order_in section text = unwrap_or (order_told section text) Little
+order_in section text = unwrap_or (if is_section text then magic_order text else section) Little
 
 abbrev pub type_in : Option Order → List ℕ → BlockType
 type_in section text =
