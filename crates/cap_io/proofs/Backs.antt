@@ -3,7 +3,7 @@ use Rattle.std.proofs.Common.{◌≡◌, ℕ, ◌+◌, List, [], ◌∷◌, ◌+
 use Rattle.std.proofs.lemmas.List.{append_assoc, append-nil, map-append}
 use Rattle.std.specs.List.{AllByRecursion}
 use Rattle.cap_octet.specs.Packet.{Captured}
-use Rattle.cap_io.specs.Capture.{Declared, Nothing, IsUnit, Placed, placed_at, AreUnits, no_unit, unit_then, Stops, front_of, Items, End, items, after_packets}
+use Rattle.cap_io.specs.Capture.{Declared, Nothing, IsUnit, Placed, placed_at, AreUnits, no_unit, unit_then, NoUnit, front_of, Items, End, items, after_packets}
 use Rattle.cap_io.specs.RoundTrip.{ReadsBack}
 use Rattle.cap_io.proofs.Items.{items_from-units, items_from-stops}
 
@@ -13,13 +13,13 @@ pub record Holds (declared : Declared) (at : ℕ) (text : List ℕ) (ps : List C
   pub after : Declared
   pub units : AreUnits declared at text placed after
   pub packets : map (λ (q : Placed). q.packet) placed ≡ ps
-  pub ends : front_of after [] ≡ Stops None
+  pub ends : front_of after [] ≡ NoUnit None
 
 packets-placed_at : (at : ℕ) (qs : List Captured) → map (λ (q : Placed). q.packet) (placed_at at qs) ≡ qs
 packets-placed_at at [] = refl
 packets-placed_at at (q ∷ qs) = ap (λ (l : List Captured). q ∷ l) (packets-placed_at at qs)
 
-pub holds-none : (declared : Declared) (at : ℕ) → front_of declared [] ≡ Stops None → Holds declared at [] []
+pub holds-none : (declared : Declared) (at : ℕ) → front_of declared [] ≡ NoUnit None → Holds declared at [] []
 holds-none declared at ends = record { placed = []; after = declared; units = no_unit; packets = refl; ends = ends }
 
 pub holds-unit : {b c : Declared} {u : List ℕ} {qs : List Captured} → IsUnit b u qs c → (at : ℕ) (more : List ℕ) (ps : List Captured) → Holds c (at + length u) more ps → Holds b at (u ++ more) (qs ++ ps)

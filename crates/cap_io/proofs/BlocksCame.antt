@@ -1,5 +1,5 @@
 -- What came of a block, from read to read.
-use Rattle.std.proofs.Common.{◌≡◌, ℕ, true, ◌+◌, ◌<◌, ◌≤◌, ◌⊎◌, inl, inr, List, [], ◌∷◌, ◌++◌, length, take, drop, Option, Some, None, Result, Ok, Err, refl, sym, ap, ap₂, ◌∙◌, subst, arith}
+use Rattle.std.proofs.Common.{◌≡◌, ℕ, true, ◌+◌, ◌<◌, ◌≤◌, ◌⊎◌, inl, inr, List, [], ◌∷◌, ◌++◌, length, take, drop, Option, Some, None, Result, Ok, Err, refl, sym, ap, ap₂, ◌∙◌, subst, arith, unwrap_or}
 use Rattle.std.specs.Option.{option_to_list}
 use Rattle.std.proofs.lemmas.List.{append_assoc, length-append, length-take-le, drop_at, drop-drop, take-append-drop}
 use Rattle.cap_octet.specs.Checks.{checked, first_failing}
@@ -16,10 +16,11 @@ use Rattle.cap_pcapng.proofs.Units.{passes, frame_checks-append, frame_in-append
 use Rattle.cap_pcapng.specs.declared.frames.Frame.{Frame}
 use Rattle.cap_pcapng.specs.Effect.{Enters, PacketIfAny, held_packet, section_of}
 use Rattle.cap_pcapng.specs.inside.Effect.{AddsInterface, IsEntryFault}
-use Rattle.cap_io.specs.Reading.{most_in_unit, length_by_front, block_length, decisive_block_length}
+use Rattle.cap_io.specs.Reading.{most_in_unit, block_length}
 use Rattle.cap_io.specs.inside.Reading.{RestMissing}
 use Rattle.cap_pcapng.specs.Effect.{span_bytes, is_interface}
 use Rattle.cap_pcapng.specs.declared.effect.PacketSpans.{PacketSpans}
+use Rattle.cap_io.proofs.Fronts.{decisive_block_length, length_by_header-whole}
 use Rattle.cap_io.proofs.OwnFaults.{entry-not_failed, frame-not_failed, frame-not_memory}
 
 -- ---- what came
@@ -114,13 +115,20 @@ pub no_room_for_block : (before : Option Section) (front unread : List ℕ) → 
 no_room_for_block before front unread upper_bound =
     block_missing before front unread unread NoMemory 0 upper_bound (inr (inr refl)) (λ none. omega (arith, (passes before (front ++ unread) none).least)) (λ failed. (cc)) (omega arith) (omega arith) refl
 
+-- the first 12 bytes tell a block's length, where they pass
+block_length-whole : (before : Option Section) (front unread : List ℕ) → 12 ≤ length front → first_failing (frame_checks (order_before before) (front ++ unread)) ≡ None
+    → block_length before (front ++ unread) ≡ Some (block_size before (front ++ unread))
+block_length-whole before front unread enough none =
+    length_by_header-whole 12 (front ++ unread) (frame_checks (order_before before) (front ++ unread)) (block_size before (front ++ unread)) (omega (arith, enough, length-append front unread)) none
+
 -- a block whose first bytes pass takes memory where there is less room
 pub block-exceeds : (before : Option Section) (section : Option Order) (front unread : List ℕ) (frame : Frame) (room : ℕ) → order_before before ≡ section → length front ≡ 12
-    → FrontSays section front frame → room < frame.length → room < block_length before (front ++ unread)
+    → FrontSays section front frame → room < frame.length → room < unwrap_or (block_length before (front ++ unread)) 0
 block-exceeds before section front unread frame room is upper_bound said less =
     let both = says_after before section front unread frame is (omega arith) said in
     let size : block_size before (front ++ unread) ≡ frame.length = ap (λ (f : Frame). f.length) both.1 in
-    let long : block_length before (front ++ unread) ≡ block_size before (front ++ unread) = ap (λ (f : Option Fault). length_by_front f 0 (block_size before (front ++ unread))) both.0 in
+    let stated = block_length-whole before front unread (omega arith) both.0 in
+    let long : unwrap_or (block_length before (front ++ unread)) 0 ≡ block_size before (front ++ unread) = ap (λ (o : Option ℕ). unwrap_or o 0) stated in
     omega (arith, less, size, long)
 
 pub frame-has_memory : (section : Option Order) (front : List ℕ) (answer : Result Frame Fault) (fault : Fault) → answer ≡ checked (frame_fault section front) (frame_in section front) → answer ≡ Err fault
@@ -133,7 +141,8 @@ pub rest_of_block : (before : Option Section) (section : Option Order) (front un
 rest_of_block before section front unread unread' frame fault is upper_bound said small missing =
     let both = says_after before section front unread frame is (omega arith) said in
     let size : block_size before (front ++ unread) ≡ frame.length = ap (λ (f : Frame). f.length) both.1 in
-    let reads : decisive_block_length before (front ++ unread) ≡ block_size before (front ++ unread) = ap (λ (f : Option Fault). length_by_front f 12 (block_size before (front ++ unread))) both.0 in
+    let stated = block_length-whole before front unread (omega arith) both.0 in
+    let reads : decisive_block_length before (front ++ unread) ≡ block_size before (front ++ unread) = ap (λ (o : Option ℕ). unwrap_or o 12) stated in
     let long : length (front ++ unread) ≡ length front + length unread = length-append front unread in
     block_missing before front unread unread' fault missing.count upper_bound
     (elim missing.why [

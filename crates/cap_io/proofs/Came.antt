@@ -1,5 +1,5 @@
 -- What came of a unit, from read to read.
-use Rattle.std.proofs.Common.{◌≡◌, ℕ, Bool, IsTrue, IfOk, IfErr, ◌+◌, ◌<◌, ◌≤◌, inl, inr, List, [], ◌++◌, length, take, drop, Option, Some, None, is_some, true, false, Result, Ok, Err, refl, sym, subst, ap, ap₂, ◌∙◌, arith, length-drop}
+use Rattle.std.proofs.Common.{◌≡◌, ℕ, Bool, IsTrue, IfOk, IfErr, ◌+◌, ◌<◌, ◌≤◌, inl, inr, List, [], ◌++◌, length, take, drop, Option, Some, None, is_some, unwrap_or, true, false, Result, Ok, Err, refl, sym, subst, ap, ap₂, ◌∙◌, arith, length-drop}
 use Rattle.std.proofs.lemmas.List.{take_all, length-append, take-append-drop, drop_at, drop-drop, append_assoc, append-nil}
 use Rattle.std.proofs.Math.ListN.{drop_of_length-le}
 use Rattle.cap_octet.specs.Device.{TakesFull}
@@ -16,9 +16,9 @@ use Rattle.cap_pcap.proofs.Records.{field_checks-append, record_header_in-append
 use Rattle.cap_pcapng.specs.Frame.{is_section}
 use Rattle.cap_pcapng.proofs.Units as block
 use Rattle.cap_io.specs.Capture.{Declared, Nothing, PcapFile, Front, a_pcap_record, front_of, is_pcapng}
-use Rattle.cap_io.specs.Reading.{most_in_unit, most_taken, length_by_front, decisive_length, IsTaken, TakesMemory, unit_length}
+use Rattle.cap_io.specs.Reading.{most_in_unit, most_taken, stated_length, decisive_length, IsTaken, TakesMemory}
 use Rattle.cap_io.specs.inside.Reading.{NoUnitCame, RestMissing, HeaderCame, PacketCame}
-use Rattle.cap_io.proofs.Fronts.{front_of-no_header, front_of-no_record, front_of-pcapng, is_section-append, is_pcapng-append, most_taken-block, most_taken-header, most_taken-record, most_taken-front, decisive_length-header}
+use Rattle.cap_io.proofs.Fronts.{front_of-no_header, front_of-no_record, front_of-pcapng, is_section-append, is_pcapng-append, most_taken-block, most_taken-header, most_taken-record, most_taken-front, length_by_header-whole, decisive_length-header}
 use Rattle.cap_io.proofs.OwnFaults.{fields-not_failed, fields-not_memory, header-not_failed, header-not_memory}
 
 -- bytes that came, and some more after them
@@ -177,7 +177,9 @@ record-takes head unread unread1 front found size room is splits upper_bound fie
     let said : found.captured ≡ captured_len head front = ap (λ (h : RecordHead). h.captured) fields.says in
     let captured : captured_len head unread ≡ captured_len head front = ap (captured_len head) splits ∙ captured_len-append head front unread1 (omega arith) in
     let none : first_failing (field_checks head unread) ≡ None = ap (λ (t : List ℕ). first_failing (field_checks head t)) splits ∙ ap first_failing (field_checks-append head front unread1 (omega arith)) ∙ fields.none in
-    let long : unit_length (PcapFile head) unread ≡ record_size head unread = ap (λ (f : Option Fault). length_by_front f 0 (record_size head unread)) none in
+    let enough : 16 ≤ length unread = omega (arith, upper_bound, ap length splits, length-append front unread1) in
+    let stated : stated_length (PcapFile head) unread ≡ Some (record_size head unread) = length_by_header-whole 16 unread (field_checks head unread) (record_size head unread) enough none in
+    let long : unwrap_or (stated_length (PcapFile head) unread) 0 ≡ record_size head unread = ap (λ (o : Option ℕ). unwrap_or o 0) stated in
     inl (omega (arith, less, is, long, said, captured))
 
 pub no_room : (head : Head) (unread unread1 front : List ℕ) → unread ≡ front ++ unread1 → length front ≡ 16 → NoUnitCame (PcapFile head) unread unread1 NoMemory
@@ -193,7 +195,8 @@ data_missing head unread unread1 unread2 front found fault size is splits upper_
     let said : found.captured ≡ captured_len head front = ap (λ (h : RecordHead). h.captured) fields.says in
     let captured : captured_len head unread ≡ captured_len head front = ap (captured_len head) splits ∙ captured_len-append head front unread1 (omega arith) in
     let none : first_failing (field_checks head unread) ≡ None = ap (λ (t : List ℕ). first_failing (field_checks head t)) splits ∙ ap first_failing (field_checks-append head front unread1 (omega arith)) ∙ fields.none in
-    let reads : decisive_length (PcapFile head) unread ≡ record_size head unread = ap (λ (f : Option Fault). length_by_front f 16 (record_size head unread)) none in
+    let stated : stated_length (PcapFile head) unread ≡ Some (record_size head unread) = length_by_header-whole 16 unread (field_checks head unread) (record_size head unread) (omega (arith, long, upper_bound)) none in
+    let reads : decisive_length (PcapFile head) unread ≡ record_size head unread = ap (λ (o : Option ℕ). unwrap_or o 16) stated in
     record {
       why = elim missing.why [
         | inl short ↦ inl (rw short.0 (front_of-no_record head unread Truncated (omega arith) (record_fault-short head unread (omega arith) none (omega (arith, short.1)))))

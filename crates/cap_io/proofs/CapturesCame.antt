@@ -28,20 +28,20 @@ use Rattle.cap_io.specs.declared.next_unit.UnitReader.{UnitReader}
 use Rattle.cap_io.specs.declared.file_state.FileState.{FileState}
 use Rattle.cap_io.specs.declared.file_state.FileState.TheVariants as state
 use Rattle.cap_pcapng.specs.Effect.{Enters, KnowsIfAny, held_packet, section_of}
-use Rattle.cap_io.specs.Capture.{Declared, Nothing, PcapFile, PcapngFile, Front, IsUnit, a_pcap_header, a_first_block, a_block, file_after, first_link_after, front_of, front_of_block, is_pcapng}
-use Rattle.cap_io.specs.Reading.{TakesMemory, declared_by, read_failures, most_taken, packet_in_unit, decisive_length, block_length, decisive_block_length}
+use Rattle.cap_io.specs.Capture.{Declared, Nothing, PcapFile, PcapngFile, Front, IsUnit, a_pcap_header, a_first_block, a_block, file_after, first_link_after, front_of, is_pcapng}
+use Rattle.cap_io.specs.Reading.{TakesMemory, declared_by, read_failures, most_taken, packet_in_unit, decisive_length, block_length}
 use Rattle.cap_io.specs.inside.Reading.{BeginsBlock, FrontMissing, HasInterface, HeaderCame, IsSized, IsConsistent, PacketCame, ReadsUnit, NoUnitCame, RestMissing, UnitCame, UnitPassed, known_first_link, known_order, section_before, unit_size}
 use Rattle.cap_pcapng.specs.Effect.{span_bytes, is_interface}
 use Rattle.cap_io.proofs.BlocksCame.{BlockCame, BlockMissing, Describes}
 use Rattle.cap_io.proofs.Came.{Taken-following, most_taken-file}
-use Rattle.cap_io.proofs.Fronts.{front_of-following, front_of-pcapng, front_of_block-none, is_pcapng-append, most_taken-block, decisive_length-pcapng, decisive_block_length-few, is_section-append}
+use Rattle.cap_io.proofs.Fronts.{block_unless, front_of-following, front_of-pcapng, front_of_block-none, is_pcapng-append, most_taken-block, decisive_length-pcapng, decisive_block_length, decisive_block_length-few, is_section-append}
 use Rattle.cap_io.proofs.Units.{and_second, first-section}
 
 -- ---- no block
 
 -- where a block would stand, its faults are those of the text
 missing-refuses : (declared : Declared) (first : Option ℕ) (before : Option Section) (text unread' : List ℕ) (fault : Fault)
-    → front_of declared text ≡ front_of_block (unit_fault before text) first before text → decisive_length declared text ≡ decisive_block_length before text
+    → front_of declared text ≡ block_unless (unit_fault before text) first before text → decisive_length declared text ≡ decisive_block_length before text
     → BlockMissing before text unread' fault → NoUnitCame declared text unread' fault
 missing-refuses declared first before text unread' fault is reads m =
     let P : Front → Type 0 = λ f. m.count ≤ most_taken f in
@@ -61,7 +61,7 @@ missing-refuses declared first before text unread' fault is reads m =
 
 -- these bytes are a block's, if they begin a unit of the file
 record StandsAt (declared : Declared) (first : Option ℕ) (before : Option Section) (text : List ℕ) : Type 0 where
-  front : front_of declared text ≡ front_of_block (unit_fault before text) first before text
+  front : front_of declared text ≡ block_unless (unit_fault before text) first before text
   reads : decisive_length declared text ≡ decisive_block_length before text
 
 stands_at : (file : FileState) (interfaces : List Described) (front more : List ℕ) → 12 ≤ length front → BeginsBlock file front
@@ -88,7 +88,7 @@ section-parts before block is =
 
 -- where a block would stand, it takes memory if it is longer, or describes an interface
 pub block-takes : (file : FileState) (interfaces : List Described) (front unread : List ℕ) (room : ℕ) → 12 ≤ length front → BeginsBlock file front
-    → room < block_length (section_before file interfaces) (front ++ unread) → TakesMemory room (declared_by file interfaces) (front ++ unread)
+    → room < unwrap_or (block_length (section_before file interfaces) (front ++ unread)) 0 → TakesMemory room (declared_by file interfaces) (front ++ unread)
 block-takes state.Unknown interfaces front unread room enough begins less =
     let kind : is_pcapng (front ++ unread) ≡ true = is_pcapng-append front unread (omega arith) ∙ begins in
     inl (rw kind less)

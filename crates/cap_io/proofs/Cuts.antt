@@ -3,20 +3,20 @@ use Rattle.std.proofs.Common.{◌≡◌, ℕ, zero, suc, ◌+◌, ◌<◌, ◌�
 use Rattle.std.proofs.lemmas.List.{append_assoc, append-nil, length-drop, take_at, drop_at, take-append-drop}
 use Rattle.cap_octet.specs.Packet.{Captured}
 use Rattle.cap_octet.specs.declared.fault.Fault.{Fault}
-use Rattle.cap_io.specs.Capture.{Declared, Nothing, IsUnit, Placed, placed_at, AreUnits, no_unit, unit_then, Front, Whole, Stops, front_of, items, after_packets, ending_by}
+use Rattle.cap_io.specs.Capture.{Declared, Nothing, IsUnit, Placed, placed_at, AreUnits, no_unit, unit_then, Front, Whole, NoUnit, front_of, items, after_packets, ending_by}
 use Rattle.cap_io.specs.Laws.{EachHasCut, EachHasOneCut, CutTellsItems}
 use Rattle.cap_io.proofs.Items.{items_from-units, items_from-stops}
 use Rattle.cap_io.proofs.Units.{front_of-unit, front_of-is}
 
 -- nothing of a rest is a unit where it stops
-pub no_unit_in : (declared : Declared) (rest : List ℕ) (why : Option Fault) → front_of declared rest ≡ Stops why → (u more : List ℕ) (qs : List Captured) (d : Declared) → IsUnit declared u qs d → rest ≡ u ++ more → ⊥
+pub no_unit_in : (declared : Declared) (rest : List ℕ) (why : Option Fault) → front_of declared rest ≡ NoUnit why → (u more : List ℕ) (qs : List Captured) (d : Declared) → IsUnit declared u qs d → rest ≡ u ++ more → ⊥
 no_unit_in declared rest why stops u more qs d one splits =
-    let e : Stops why ≡ Whole (length u) qs d = sym stops ∙ ap (front_of declared) splits ∙ front_of-unit one more in cc
+    let e : NoUnit why ≡ Whole (length u) qs d = sym stops ∙ ap (front_of declared) splits ∙ front_of-unit one more in cc
 
 -- a rest without a unit stops
 pub stops_for : (declared : Declared) (rest : List ℕ) (front : Front) → front_of declared rest ≡ front → ((u more : List ℕ) (qs : List Captured) (d : Declared) → IsUnit declared u qs d → rest ≡ u ++ more → ⊥)
-    → (why : Option Fault) × (front_of declared rest ≡ Stops why)
-stops_for declared rest (Stops why) is last = (why, is)
+    → (why : Option Fault) × (front_of declared rest ≡ NoUnit why)
+stops_for declared rest (NoUnit why) is last = (why, is)
 stops_for declared rest (Whole size packets after) is last =
     let f = front_of-is declared rest size packets after is in
     absurd (last (take size rest) (drop size rest) packets after f.unit (sym (take-append-drop size rest)))
@@ -92,7 +92,7 @@ record Units (declared : Declared) (at : ℕ) (text : List ℕ) : Type 0 where
 -- given the units after the first
 units_by : (most : ℕ) (declared : Declared) (at : ℕ) (text : List ℕ) (front : Front) → front_of declared text ≡ front → length text ≤ most
     → ((after : Declared) (at' : ℕ) (more : List ℕ) → length more < most → Units after at' more) → Units declared at text
-units_by most declared at text (Stops why) is enough following = record {
+units_by most declared at text (NoUnit why) is enough following = record {
   done = [];
   rest = text;
   packets = [];

@@ -3,7 +3,7 @@ use Rattle.std.proofs.Common.{◌≡◌, ℕ, zero, suc, ◌+◌, ◌<◌, List,
 use Rattle.std.proofs.lemmas.List.{append_assoc, length-append, length-drop, drop_at}
 use Rattle.cap_octet.specs.Packet.{Captured}
 use Rattle.cap_octet.specs.declared.fault.Fault.{Fault}
-use Rattle.cap_io.specs.Capture.{Declared, IsUnit, Placed, placed_at, AreUnits, no_unit, unit_then, Front, Whole, Stops, front_of, Items, no_items, after_packets, items_with, items_within, items_from}
+use Rattle.cap_io.specs.Capture.{Declared, IsUnit, Placed, placed_at, AreUnits, no_unit, unit_then, Front, Whole, NoUnit, front_of, Items, no_items, after_packets, items_with, items_within, items_from}
 use Rattle.cap_io.proofs.Units.{front_of-unit, front_of-is}
 
 -- ---- a unit has a byte at least
@@ -17,7 +17,7 @@ enough-at : (m n : ℕ) (f : Front) (b : Declared) (at : ℕ) (text : List ℕ) 
     → ((size : ℕ) (ps : List Captured) (d : Declared) → f ≡ Whole size ps d → (0 < size) × (0 < length text))
     → ((d : Declared) (at' : ℕ) (xs : List ℕ) → length xs < m → length xs < n → items_within m d at' xs ≡ items_within n d at' xs)
     → items_with f b at (λ size d. items_within m d (at + size) (drop size text)) ≡ items_with f b at (λ size d. items_within n d (at + size) (drop size text))
-enough-at m n (Stops why) b at text l r sized same = refl
+enough-at m n (NoUnit why) b at text l r sized same = refl
 enough-at m n (Whole size ps d) b at text l r sized same =
     let p = sized size ps d refl in
     ap (after_packets (placed_at at ps)) (same d (at + size) (drop size text) (simp length-drop (omega (arith, p.0, p.1))) (simp length-drop (omega (arith, p.0, p.1))))
@@ -36,7 +36,7 @@ items_from-step : (b : Declared) (at : ℕ) (text : List ℕ)
 unfolding items_within items_from
 items_from-step b at text = let e : length text + 1 ≡ suc (length text) = omega arith in rw e refl
 
-pub items_from-stops : (b : Declared) (at : ℕ) (text : List ℕ) (why : Option Fault) → front_of b text ≡ Stops why → items_from b at text ≡ no_items b why at
+pub items_from-stops : (b : Declared) (at : ℕ) (text : List ℕ) (why : Option Fault) → front_of b text ≡ NoUnit why → items_from b at text ≡ no_items b why at
 items_from-stops b at text why e = items_from-step b at text ∙ rw e refl
 
 items_from-whole : (b d : Declared) (at : ℕ) (text : List ℕ) (size : ℕ) (ps : List Captured) → front_of b text ≡ Whole size ps d

@@ -1,5 +1,6 @@
 -- Parts that are written one after another, and what a sink adds by them.
 use Rattle.std.proofs.Common.{◌≡◌, ◌⊎◌, inl, inr, ℕ, ◌+◌, ◌<◌, Bool, true, false, not, if◌then◌else◌, List, [], ◌∷◌, ◌++◌, length, take, Option, Some, None, Result, is_ok, Ok, Err, refl, sym, ap, ap₂, subst, ◌∙◌, arith, length-append}
+use Rattle.std.specs.List.{flat_map}
 use Rattle.std.proofs.Math.Seq.{take-append-add}
 use Rattle.std.proofs.lemmas.List.{append_assoc, append-nil, take-append-le}
 use Rattle.cap_octet.specs.Checks.{checked}
@@ -19,7 +20,7 @@ use Rattle.cap_io.specs.declared.numbering.InterfaceNumber.{InterfaceNumber}
 use Rattle.cap_io.specs.declared.sink.SinkState.{SinkState}
 use Rattle.cap_io.specs.inside.Numbering.{HasNumber}
 use Rattle.cap_io.specs.Sink.{WritesPacket}
-use Rattle.cap_io.specs.Text.{file_start_in, appended_packet, Interface, interface_of, is_among, number_among, descriptions, file_start, record_text}
+use Rattle.cap_io.specs.Text.{file_start_in, appended_packet, Interface, interface_of, is_among, number_among, file_start, record_text}
 use Rattle.cap_io.specs.inside.Sink.{Appends, packet_block_text, description_text}
 
 pub appends-as : {E : Type 0} (r : Result (Unit {0}) E) (written bytes bytes' written' : List ℕ) → bytes ≡ bytes' → AppendsOrStops r written bytes written' → AppendsOrStops r written bytes' written'
@@ -98,7 +99,7 @@ packet-record Pcap interfaces p is = refl
 packet-record NsecPcap interfaces p is = refl
 packet-record Pcapng interfaces p is = absurd is
 
-described : (b : Bool) (p : Captured) → description_text (not b) p ≡ descriptions (if b then [] else interface_of p ∷ [])
+described : (b : Bool) (p : Captured) → description_text (not b) p ≡ flat_map (λ (i : Interface). interface_text i.link i.snap i.name) (if b then [] else interface_of p ∷ [])
 described true p = refl
 described false p = sym (append-nil (interface_text p.link p.snap p.name))
 

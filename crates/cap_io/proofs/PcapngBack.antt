@@ -1,6 +1,6 @@
 -- What is written in pcapng reads back.
 use Rattle.std.proofs.Common.{◌≡◌, ℕ, ◌+◌, suc, ◌||◌, ◌<◌, ◌≤◌, Bool, true, false, List, [], ◌∷◌, ◌++◌, length, map, not, cond, if◌then◌else◌, Option, None, Some, refl, sym, ap, subst, ◌∙◌, arith, length-append}
-use Rattle.std.specs.List.{AllByRecursion, fold, slice_get}
+use Rattle.std.specs.List.{AllByRecursion, flat_map, fold, slice_get}
 use Rattle.std.specs.Option.{option_map}
 use Rattle.std.proofs.lemmas.List.Sums.{fold-append}
 use Rattle.std.proofs.lemmas.List.{append_assoc, append-nil, length-map, map-append}
@@ -16,7 +16,7 @@ use Rattle.cap_pcapng.specs.Encoding as pcapng
 use Rattle.cap_pcapng.proofs.WrittenBack.{section_back, interface_back, packet_back}
 use Rattle.cap_io.specs.Capture.{Nothing, PcapngFile, IsUnit, a_first_block, a_block, first_link_after}
 use Rattle.cap_io.specs.RoundTrip.{Back, InRange, IsCarried, ReadsBack}
-use Rattle.cap_io.specs.Text.{Interface, checks_in, descriptions, interface_of, interfaces_after_packet, is_among, is_same, kept_interfaces, new_among, number_among, state_after}
+use Rattle.cap_io.specs.Text.{Interface, checks_in, interface_of, interfaces_after_packet, is_among, is_same, kept_interfaces, new_among, number_among, state_after}
 use Rattle.cap_io.proofs.Backs.{Holds, each-following, holds-none, holds-unit, reads-back}
 use Rattle.cap_io.proofs.Interfaces.{kept-grows, kept-push, same_interface}
 use Rattle.cap_io.proofs.Texts.{bare_text, text-start}
@@ -92,7 +92,7 @@ described-holds : (b : Bool) (interfaces : List Interface) (number : ℕ) (p : C
     → slice_get (interfaces ++ (if b then [] else interface_of p ∷ [])) number ≡ Some (interface_of p)
     → length (interfaces ++ (if b then [] else interface_of p ∷ [])) ≤ most_interfaces → IsKept p
     → HoldsAfter (interfaces ++ (if b then [] else interface_of p ∷ [])) more ps
-    → HoldsAfter interfaces ((descriptions (if b then [] else interface_of p ∷ []) ++ pcapng.packet_block number p) ++ more) (p ∷ ps)
+    → HoldsAfter interfaces ((flat_map (λ (i : Interface). pcapng.interface_text i.link i.snap i.name) (if b then [] else interface_of p ∷ []) ++ pcapng.packet_block number p) ++ more) (p ∷ ps)
 described-holds true interfaces number p more ps known upper_bound kept later =
     packet-holds interfaces number p more ps (rw (append-nil interfaces) at known) (rw (append-nil interfaces) at upper_bound) kept (rw (append-nil interfaces) at later)
 described-holds false interfaces number p more ps known upper_bound kept later =

@@ -3,7 +3,7 @@ use Rattle.std.proofs.Common.{◌≡◌, ℕ, ◌+◌, ◌-◌, ◌<◌, ◌⊎�
 use Rattle.std.proofs.lemmas.List.{append_assoc, append-nil, length-append, length-drop}
 use Rattle.cap_octet.specs.declared.fault.Fault.{Fault}
 use Rattle.cap_octet.specs.declared.fault.Fault.TheVariants.{ReadFailed, NoMemory}
-use Rattle.cap_io.specs.Capture.{Declared, Nothing, Placed, placed_at, AreUnits, no_unit, items, items_from, after_packets, ending_by, FaultAt, front_of, Stops}
+use Rattle.cap_io.specs.Capture.{Declared, Nothing, Placed, placed_at, AreUnits, no_unit, items, items_from, after_packets, ending_by, FaultAt, front_of, NoUnit}
 use Rattle.cap_io.specs.Source.{SourceView, Phase, Reading, Ended, Failed, source_at, SkipsUnits, FindsPacket, FindsEnd, FindsFault, Advances, Finds}
 use Rattle.cap_io.specs.Position.{IsAt, IsCutShort, MemoryEndsAt, given_in_all}
 use Rattle.cap_io.specs.Reading.{FitUnits, no_unit_fits, decisive_length}
@@ -131,7 +131,7 @@ IsAt-closed text done packets s s' at finds = record {
 
 -- where no unit follows whole ones
 pub items-stops : (done rest : List ℕ) (packets : List Placed) (declared : Declared) (why : Option Fault) → AreUnits Nothing 0 done packets declared
-    → front_of declared rest ≡ Stops why → items (done ++ rest) ≡ record { packets = packets; declared = declared; ending = ending_by why (length done) }
+    → front_of declared rest ≡ NoUnit why → items (done ++ rest) ≡ record { packets = packets; declared = declared; ending = ending_by why (length done) }
 items-stops done rest packets declared why units stops =
     items_from-units units rest
     ∙ ap (after_packets packets) (items_from-stops declared (0 + length done) rest why stops)

@@ -18,8 +18,8 @@ use Rattle.cap_octet.proofs.Checks.{all_met}
 use Rattle.cap_pcapng.specs.Frame.{frame_checks, is_section, section_type}
 use Rattle.cap_pcapng.specs.Unit.{IsBlock, Section, block_size, packets_in, unit_fault}
 use Rattle.cap_pcapng.proofs.Units as block
-use Rattle.cap_io.specs.Capture.{Declared, Nothing, PcapFile, PcapngFile, IsUnit, a_pcap_header, a_pcap_record, a_first_block, a_block, file_after, front_of_block, is_pcapng, placed_at, AreUnits, no_unit, unit_then, Whole, front_of, front_of_file, front_of_header, front_of_record}
-use Rattle.cap_io.proofs.Fronts.{front_of-header, front_of-record, front_of-pcapng, front_of-following, front_of_block-whole}
+use Rattle.cap_io.specs.Capture.{Declared, Nothing, PcapFile, PcapngFile, IsUnit, a_pcap_header, a_pcap_record, a_first_block, a_block, file_after, is_pcapng, placed_at, AreUnits, no_unit, unit_then, Whole, front_of}
+use Rattle.cap_io.proofs.Fronts.{block_unless, front_of_file, header_unless, record_unless, front_of-header, front_of-record, front_of-pcapng, front_of-following, front_of_block-whole}
 
 -- ---- which kind of file
 
@@ -86,7 +86,7 @@ record-front head bytes more is =
     ∙ rw (p.1, take_at bytes more (length bytes) refl) refl
 
 block-front : (first : Option ℕ) (before : Option Section) (bytes more : List ℕ) → IsBlock before bytes
-    → front_of_block (unit_fault before (bytes ++ more)) first before (bytes ++ more) ≡ Whole (length bytes) (packets_in before bytes) (file_after first before bytes)
+    → block_unless (unit_fault before (bytes ++ more)) first before (bytes ++ more) ≡ Whole (length bytes) (packets_in before bytes) (file_after first before bytes)
 block-front first before bytes more is =
     let p = block.IsBlock-front before bytes more is in
     front_of_block-whole first before (bytes ++ more) p.0
@@ -118,7 +118,7 @@ same_front declared text m n ps qs c d e is =
     let after : c ≡ d = cc in
     rw (← size, ← packets, ← after) is
 
-header-is : (text : List ℕ) (size : ℕ) (packets : List Captured) (after : Declared) (fault : Option Fault) → header_fault text ≡ fault → front_of_header fault text ≡ Whole size packets after → IsFront Nothing text size packets after
+header-is : (text : List ℕ) (size : ℕ) (packets : List Captured) (after : Declared) (fault : Option Fault) → header_fault text ≡ fault → header_unless fault text ≡ Whole size packets after → IsFront Nothing text size packets after
 header-is text size packets after None none e =
     let enough : 24 ≤ length text = header_fault-none text none in
     let joined : take 24 text ++ drop 24 text ≡ text = take-append-drop 24 text in
@@ -130,7 +130,7 @@ header-is text size packets after None none e =
     same_front Nothing text 24 size [] packets (PcapFile (header_in text)) after e is
 header-is text size packets after (Some fault) fails e = (cc)
 
-record-is : (head : Head) (text : List ℕ) (size : ℕ) (packets : List Captured) (after : Declared) (fault : Option Fault) → record_fault head text ≡ fault → front_of_record fault head text ≡ Whole size packets after
+record-is : (head : Head) (text : List ℕ) (size : ℕ) (packets : List Captured) (after : Declared) (fault : Option Fault) → record_fault head text ≡ fault → record_unless fault head text ≡ Whole size packets after
     → IsFront (PcapFile head) text size packets after
 record-is head text size packets after None none e =
     let p = passes head text none in
@@ -142,7 +142,7 @@ record-is head text size packets after (Some fault) fails e = (cc)
 
 -- the block that a text begins with, as a unit
 block-is : (declared : Declared) (first : Option ℕ) (before : Option Section) (text : List ℕ) (size : ℕ) (packets : List Captured) (after : Declared) (fault : Option Fault)
-    → unit_fault before text ≡ fault → front_of_block fault first before text ≡ Whole size packets after
+    → unit_fault before text ≡ fault → block_unless fault first before text ≡ Whole size packets after
     → ((bytes : List ℕ) → IsBlock before bytes → IsUnit declared bytes (packets_in before bytes) (file_after first before bytes))
     → IsFront declared text size packets after
 block-is declared first before text size packets after None none e unit =

@@ -1,6 +1,6 @@
 -- A capture file: the units that it is made of, how a text is cut into them, and the packets that
 -- they hold.
-use Rattle.std.specs.Prelude.{◌≡◌, ℕ, zero, suc, ◌+◌, Bool, true, false, List, [], ◌∷◌, ◌++◌, length, take, drop, nat_le, ◌&&◌, Option, None, Some}
+use Rattle.std.specs.Prelude.{◌≡◌, ℕ, zero, suc, ◌+◌, Bool, List, [], ◌∷◌, ◌++◌, length, map, take, drop, nat_le, ◌&&◌, if◌then◌else◌, Option, None, Some}
 use Rattle.std.specs.List.{slice_get}
 use Rattle.std.specs.Option.{option_map, option_or}
 use Rattle.cap_octet.specs.Packet.{Captured}
@@ -56,8 +56,7 @@ pub record Placed : Type 0 where
   pub packet : Captured
 
 abbrev pub placed_at : ℕ → List Captured → List Placed
-placed_at offset [] = []
-placed_at offset (p ∷ ps) = record { offset = offset; packet = p } ∷ placed_at offset ps
+placed_at offset ps = map (λ (p : Captured). record { offset = offset; packet = p }) ps
 
 -- These bytes, the first of them at this offset, are whole units, one after another, and hold these
 -- packets.
@@ -81,41 +80,38 @@ pub record IsCut (text done rest : List ℕ) (packets : List Placed)
 -- a fault
 pub data Front : Type 0 where
   Whole : (size : ℕ) → (packets : List Captured) → (declared : Declared) → Front
-  Stops : (why : Option Fault) → Front
+  NoUnit : (why : Option Fault) → Front
 
-abbrev pub front_of_header : Option Fault → List ℕ → Front
-front_of_header None text = Whole 24 [] (PcapFile (header_in text))
-front_of_header (Some fault) text = Stops (Some fault)
+-- this unit, unless a fault is in its place
+abbrev pub unit_unless : Option Fault → Front → Front
+unit_unless None unit = unit
+unit_unless (Some fault) unit = NoUnit (Some fault)
 
-abbrev pub front_of_record : Option Fault → Head → List ℕ → Front
-front_of_record None head text =
-    Whole (record_size head text) (record_packet head (take (record_size head text) text) ∷ [])
-    (PcapFile head)
-front_of_record (Some fault) head text = Stops (Some fault)
-
-abbrev pub front_of_block : Option Fault → Option ℕ → Option Section → List ℕ → Front
-front_of_block None first before text =
-    Whole (block_size before text) (packets_in before (take (block_size before text) text))
-    (file_after first before (take (block_size before text) text))
-front_of_block (Some fault) first before text = Stops (Some fault)
+abbrev pub front_of_block : Option ℕ → Option Section → List ℕ → Front
+front_of_block first before text =
+    unit_unless (unit_fault before text)
+    (Whole (block_size before text) (packets_in before (take (block_size before text) text))
+    (file_after first before (take (block_size before text) text)))
 
 -- A file whose first four bytes are the type of a section header is a pcapng file.
 abbrev pub is_pcapng : List ℕ → Bool
 is_pcapng text = nat_le 4 (length text) && is_section text
 
-abbrev pub front_of_file : Bool → List ℕ → Front
-front_of_file true text = front_of_block (unit_fault None text) None None text
-front_of_file false text = front_of_header (header_fault text) text
+-- what follows a unit: an empty rest is the end
+abbrev pub unless_empty : List ℕ → Front → Front
+unless_empty [] front = NoUnit None
+unless_empty (b ∷ bytes) front = front
 
--- An empty rest is an end only after a unit.
 abbrev pub front_of : Declared → List ℕ → Front
-front_of Nothing text = front_of_file (is_pcapng text) text
-front_of (PcapFile head) [] = Stops None
-front_of (PcapFile head) (b ∷ bytes) =
-    front_of_record (record_fault head (b ∷ bytes)) head (b ∷ bytes)
-front_of (PcapngFile first section) [] = Stops None
-front_of (PcapngFile first section) (b ∷ bytes) =
-    front_of_block (unit_fault (Some section) (b ∷ bytes)) first (Some section) (b ∷ bytes)
+front_of Nothing text =
+    if is_pcapng text then front_of_block None None text
+    else unit_unless (header_fault text) (Whole 24 [] (PcapFile (header_in text)))
+front_of (PcapFile head) text =
+    unless_empty text (unit_unless (record_fault head text)
+    (Whole (record_size head text) (record_packet head (take (record_size head text) text) ∷ [])
+    (PcapFile head)))
+front_of (PcapngFile first section) text =
+    unless_empty text (front_of_block first (Some section) text)
 
 -- ---- items
 
@@ -145,7 +141,7 @@ after_packets ps items =
 
 -- the items of a text with this in front, given those after a unit
 abbrev pub items_with : Front → Declared → ℕ → (ℕ → Declared → Items) → Items
-items_with (Stops why) declared offset following = no_items declared why offset
+items_with (NoUnit why) declared offset following = no_items declared why offset
 items_with (Whole size packets after) declared offset following =
     after_packets (placed_at offset packets) (following size after)
 

@@ -3,7 +3,7 @@
 use Rattle.std.specs.Prelude.{◌≡◌, ℕ, List, [], ◌∷◌, ◌++◌, length, Ok, Option}
 use Rattle.cap_octet.specs.Packet.{Captured}
 use Rattle.cap_octet.specs.declared.fault.Fault.{Fault}
-use Rattle.cap_io.specs.Capture.{Declared, Placed, IsCut, Stops, front_of, items, ending_by}
+use Rattle.cap_io.specs.Capture.{Declared, Placed, IsCut, NoUnit, front_of, items, ending_by}
 use Rattle.cap_io.specs.Text.{added_text, refusal_of, interfaces_after_packet, kept_interfaces, state_after, state_after_packet, takes_memory, takes_memory_in}
 use Rattle.cap_io.specs.Sink.{SinkView, HasPackets, HasPut, PutsPacket, PutWrites, added_in, refusal_in}
 
@@ -25,7 +25,7 @@ pub record IsSameCut {text : List ℕ} (one other : Cut text) : Type 0 where
 pub record TellsItems (text done rest : List ℕ) (packets : List Placed)
     (declared : Declared) : Type 0 where
   pub why : Option Fault
-  pub stops : front_of declared rest ≡ Stops why
+  pub stops : front_of declared rest ≡ NoUnit why
   pub items : items text
       ≡ record { packets = packets; declared = declared; ending = ending_by why (length done) }
 

@@ -3,7 +3,7 @@ use Rattle.std.specs.Prelude.{◌≡◌, ℕ, ◌+◌, ◌<◌, ◌≤◌, Bool,
 use Rattle.cap_octet.specs.Device.{HasGiven}
 use Rattle.cap_octet.specs.Packet.{Captured}
 use Rattle.cap_octet.specs.declared.fault.Fault.{Fault}
-use Rattle.cap_io.specs.Capture.{Declared, Nothing, IsUnit, Placed, AreUnits, Items, FaultAt, Stops, front_of}
+use Rattle.cap_io.specs.Capture.{Declared, Nothing, IsUnit, Placed, AreUnits, Items, FaultAt, NoUnit, front_of}
 use Rattle.cap_io.specs.Reading.{FitUnits, TakesMemory, decisive_length}
 use Rattle.cap_io.specs.Source.{SourceView, Reading, Ended, Failed}
 
@@ -21,7 +21,7 @@ pub record HasPacket (s : SourceView) : Type 0 where
 
 -- nothing is left
 pub record IsOver (s : SourceView) : Type 0 where
-  pub ends : front_of s.declared [] ≡ Stops None
+  pub ends : front_of s.declared [] ≡ NoUnit None
   pub unread : s.unread ≡ []
   pub block : s.block ≡ []
   pub packet : s.packet ≡ None

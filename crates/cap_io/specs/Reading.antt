@@ -1,5 +1,5 @@
 -- What reading one unit from a device does to its bytes and its counts.
-use Rattle.std.specs.Prelude.{◌≡◌, ℕ, ◌+◌, ◌<◌, ◌≤◌, ◌⊎◌, true, List, [], ◌++◌, length, drop, Option, None, Some, Result, Err, is_some, if◌then◌else◌}
+use Rattle.std.specs.Prelude.{◌≡◌, ℕ, ◌<◌, ◌≤◌, ◌⊎◌, true, List, [], ◌++◌, Bool, length, drop, Option, None, Some, Result, Err, is_some, is_none, unwrap_or, nat_le, ◌&&◌, if◌then◌else◌}
 use Rattle.std.specs.List.{slice_get}
 use Rattle.std.specs.Option.{option_map}
 use Rattle.cap_octet.specs.Packet.{Captured}
@@ -16,7 +16,7 @@ use Rattle.cap_pcapng.specs.Effect.{is_interface, span_bytes}
 use Rattle.cap_pcapng.specs.declared.effect.PacketSpans.{PacketSpans}
 use Rattle.cap_io.specs.declared.file_state.FileState.{FileState}
 use Rattle.cap_io.specs.declared.file_state.FileState.TheVariants as state
-use Rattle.cap_io.specs.Capture.{Declared, Nothing, PcapFile, PcapngFile, IsUnit, Front, Whole, Stops, front_of, is_pcapng}
+use Rattle.cap_io.specs.Capture.{Declared, Nothing, PcapFile, PcapngFile, IsUnit, Front, Whole, NoUnit, front_of, is_pcapng}
 
 -- how many bytes a unit may have
 abbrev pub most_in_unit : ℕ
@@ -30,27 +30,36 @@ read_failures result = 0
 -- how many bytes are taken at most of a text that begins so: no more than its unit
 abbrev pub most_taken : Front → ℕ
 most_taken (Whole size packets declared) = size
-most_taken (Stops why) = most_in_unit
+most_taken (NoUnit why) = most_in_unit
 
--- all of a unit, but only its first part where that has a fault
-abbrev pub length_by_front : Option Fault → (front size : ℕ) → ℕ
-length_by_front None front size = size
-length_by_front (Some fault) front size = front
+-- the length of a unit, as its header states it: none where that isn't whole, or fails a check
+abbrev pub length_by_header : (header : ℕ) → List ℕ → List (Bool × Fault) → (size : ℕ) → Option ℕ
+length_by_header header text checks size =
+    if nat_le header (length text) && is_none (first_failing checks) then Some size else None
 
--- how many bytes are read to decide what stands where a block would: its first 12 tell its size
-abbrev pub decisive_block_length : Option Section → List ℕ → ℕ
-decisive_block_length before text =
-    length_by_front (first_failing (frame_checks (order_before before) text)) 12
-    (block_size before text)
+abbrev pub block_length : Option Section → List ℕ → Option ℕ
+block_length before text =
+    length_by_header 12 text (frame_checks (order_before before) text) (block_size before text)
+
+-- that of the next unit; none of the file header of pcap, which states no length
+abbrev pub stated_length : Declared → List ℕ → Option ℕ
+stated_length Nothing text = if is_pcapng text then block_length None text else None
+stated_length (PcapFile head) text =
+    length_by_header 16 text (field_checks head text) (record_size head text)
+stated_length (PcapngFile first section) text = block_length (Some section) text
+
+-- How many bytes are a unit's header: the first 12 of a block, those in front of a record's data, all
+-- of the file header of pcap. Where a file begins with no header, its first four bytes tell that.
+abbrev pub unit_header_length : Declared → List ℕ → ℕ
+unit_header_length Nothing text =
+    if is_pcapng text then 12 else (if is_some (form_in text) then 24 else 4)
+unit_header_length (PcapFile head) text = 16
+unit_header_length (PcapngFile first section) text = 12
 
 -- how many bytes are read to decide what a text begins with: a unit, or a fault in its place
 abbrev pub decisive_length : Declared → List ℕ → ℕ
-decisive_length Nothing text =
-    if is_pcapng text then decisive_block_length None text
-    else (if is_some (form_in text) then 24 else 4)
-decisive_length (PcapFile head) text =
-    length_by_front (first_failing (field_checks head text)) 16 (record_size head text)
-decisive_length (PcapngFile first section) text = decisive_block_length (Some section) text
+decisive_length declared text =
+    unwrap_or (stated_length declared text) (unit_header_length declared text)
 
 -- A prefix of the unit was taken, or of what is in its place, when this fault was reported.
 pub record IsTaken (declared : Declared) (unread unread' : List ℕ) (fault : Fault) : Type 0 where
@@ -62,19 +71,6 @@ pub record IsTaken (declared : Declared) (unread unread' : List ℕ) (fault : Fa
   pub there : count ≤ length unread
   pub rest : unread' ≡ drop count unread
 
--- how long the unit is that stands there, as its header states; 0 where that fails a check, and of
--- the file header of pcap, which the block doesn't hold
-abbrev pub block_length : Option Section → List ℕ → ℕ
-block_length before text =
-    length_by_front (first_failing (frame_checks (order_before before) text)) 0
-    (block_size before text)
-
-abbrev pub unit_length : Declared → List ℕ → ℕ
-unit_length Nothing text = if is_pcapng text then block_length None text else 0
-unit_length (PcapFile head) text =
-    length_by_front (first_failing (field_checks head text)) 0 (record_size head text)
-unit_length (PcapngFile first section) text = block_length (Some section) text
-
 -- a block that describes an interface, and fails no check
 abbrev pub DescribesInterface : Declared → List ℕ → Type 0
 DescribesInterface (PcapngFile first section) text =
@@ -82,10 +78,11 @@ DescribesInterface (PcapngFile first section) text =
     × (is_interface (parts_after (Some section) text) ≡ true)
 DescribesInterface declared text = ⊥
 
--- The next unit is longer than the block has room for, or describes an interface.
+-- The next unit is longer, as its whole header states, than the block has room for; or it describes
+-- an interface.
 abbrev pub TakesMemory : ℕ → Declared → List ℕ → Type 0
 TakesMemory room declared unread =
-    (room < unit_length declared unread) ⊎ DescribesInterface declared unread
+    (room < unwrap_or (stated_length declared unread) 0) ⊎ DescribesInterface declared unread
 
 -- how much of a unit of this size the block holds: none of the file header of pcap
 abbrev pub held_length : (before after : Declared) → ℕ → ℕ
@@ -101,7 +98,7 @@ pub data FitUnits (room : ℕ) : Declared → List ℕ → Declared → Type 0 w
 -- Why no unit came: a fault is in its place, or the device failed, or memory ran out.
 abbrev pub IsReason : Declared → List ℕ → Fault → Type 0
 IsReason declared unread fault =
-    (front_of declared unread ≡ Stops (Some fault)) ⊎ (fault ≡ ReadFailed) ⊎ (fault ≡ NoMemory)
+    (front_of declared unread ≡ NoUnit (Some fault)) ⊎ (fault ≡ ReadFailed) ⊎ (fault ≡ NoMemory)
 
 abbrev pub declared_by : FileState → List Described → Declared
 declared_by state.Unknown interfaces = Nothing

@@ -1,5 +1,5 @@
 -- The packets of a job in the job's order, from what its inputs hold, and where the order ends.
-use Rattle.std.specs.Prelude.{ℕ, ◌+◌, ◌&&◌, ◌||◌, Bool, true, false, if◌then◌else◌, nat_lt, nat_eq, max, List, [], ◌∷◌, ◌++◌, length, Option}
+use Rattle.std.specs.Prelude.{ℕ, ◌+◌, ◌&&◌, ◌||◌, Bool, true, false, if◌then◌else◌, nat_lt, nat_eq, max, List, [], ◌∷◌, ◌++◌, length, map, Option}
 use Rattle.cap_octet.specs.declared.fault.Fault.{Fault}
 use Rattle.cap_io.specs.declared.source.Kind.{Kind}
 use Rattle.cap_io.specs.Capture.{Placed, Items, Ending, End, FaultAt, kind_of, items}
@@ -26,11 +26,12 @@ with_front es more = record { events = es ++ more.events; end = more.end }
 
 -- ---- what is left of an input
 
--- The greatest time of the packets before, the items from there on, and the number of bytes of the
--- whole input.
+-- an input from a place in it on
 pub record InputItems : Type 0 where
+  -- the greatest time of the packets in front of that place; 0 of none
   pub greatest : ℕ
   pub items : Items
+  -- how many bytes the whole input has
   pub size : ℕ
 
 -- a whole input
@@ -40,8 +41,7 @@ whole_input text = record { greatest = 0; items = items text; size = length text
 -- ---- in turn
 
 abbrev pub packet_events : ℕ → List Placed → List Event
-packet_events input [] = []
-packet_events input (p ∷ ps) = Packet input p ∷ packet_events input ps
+packet_events input ps = map (Packet input) ps
 
 -- an input's packets, and the others where it ends cleanly
 abbrev pub input_sequence : ℕ → InputItems → Ending → Sequence → Sequence
@@ -89,13 +89,11 @@ entries_of input ending greatest (p ∷ ps) =
     }
     ∷ entries_of input ending (max greatest p.packet.time) ps
 
-abbrev pub input_entries : ℕ → InputItems → List Entry
-input_entries input r = entries_of input r.items.ending r.greatest r.items.packets
-
 -- all packets that are left, the inputs numbered on from here
 abbrev pub all_entries : ℕ → List InputItems → List Entry
 all_entries input [] = []
-all_entries input (r ∷ rs) = input_entries input r ++ all_entries (input + 1) rs
+all_entries input (r ∷ rs) =
+    entries_of input r.items.ending r.greatest r.items.packets ++ all_entries (input + 1) rs
 
 -- by the greatest time, then the input's number; the packets of one input keep their order
 abbrev pub comes_before : Entry → Entry → Bool
@@ -109,19 +107,17 @@ abbrev pub sort_entries : List Entry → List Entry
 sort_entries [] = []
 sort_entries (e ∷ es) = insert_entry e (sort_entries es)
 
-abbrev pub end_or_more : SequenceEnd → Event → Sequence → Sequence
-end_or_more Complete e more = with_front (e ∷ []) more
-end_or_more (FaultIn input fault offset) e more =
-    record { events = e ∷ []; end = FaultIn input fault offset }
+-- what follows, unless the order ends by a fault in front of it
+abbrev pub unless_fault : SequenceEnd → Sequence → Sequence
+unless_fault Complete more = more
+unless_fault (FaultIn input fault offset) more =
+    record { events = []; end = FaultIn input fault offset }
 
 -- up to and with the first packet after which the order ends
 abbrev pub sequence_of_entries : List Entry → Sequence
 sequence_of_entries [] = record { events = []; end = Complete }
-sequence_of_entries (e ∷ es) = end_or_more e.end (Packet e.input e.p) (sequence_of_entries es)
-
--- how the order ends with an input of which these items are left
-abbrev pub end_at : ℕ → InputItems → SequenceEnd
-end_at input r = end_after input r.items.ending r.items.packets
+sequence_of_entries (e ∷ es) =
+    with_front (Packet e.input e.p ∷ []) (unless_fault e.end (sequence_of_entries es))
 
 abbrev pub first_end : SequenceEnd → SequenceEnd → SequenceEnd
 first_end Complete later = later
@@ -130,12 +126,8 @@ first_end (FaultIn input fault offset) later = FaultIn input fault offset
 -- the fault of the first input that ends by one and has no packet
 abbrev pub fault_without_packets : ℕ → List InputItems → SequenceEnd
 fault_without_packets input [] = Complete
-fault_without_packets input (r ∷ rs) = first_end (end_at input r) (fault_without_packets (input + 1) rs)
-
-abbrev pub unless_fault : SequenceEnd → Sequence → Sequence
-unless_fault Complete more = more
-unless_fault (FaultIn input fault offset) more =
-    record { events = []; end = FaultIn input fault offset }
+fault_without_packets input (r ∷ rs) =
+    first_end (end_after input r.items.ending r.items.packets) (fault_without_packets (input + 1) rs)
 
 -- Where an input has no packet and ends by a fault, no packet of any input comes; else all packets
 -- in the order.

@@ -10,7 +10,7 @@ use Rattle.cap_io.specs.declared.source.Stage.{Stage}
 use Rattle.cap_io.specs.declared.source.Stage.TheVariants as stage
 use Rattle.cap_pcapng.specs.declared.effect.PacketSpans.{PacketSpans}
 use Rattle.cap_io.specs.declared.next_unit.UnitReader.{UnitReader}
-use Rattle.cap_io.specs.Capture.{Declared, Nothing, PcapngFile, IsUnit, AreUnits, Stops, front_of}
+use Rattle.cap_io.specs.Capture.{Declared, Nothing, PcapngFile, IsUnit, AreUnits, NoUnit, front_of}
 use Rattle.cap_io.specs.Reading.{most_in_unit, read_failures, IsReason, IsTaken, FitUnits, TakesMemory, declared_by, packet_in_unit}
 
 -- how far a source is: it goes on, or it met the clean end or a fault
@@ -103,7 +103,7 @@ pub record FindsPacket (old new : SourceView) : Type 0 where
 -- there is no further packet
 pub record FindsEnd (old new : SourceView) : Type 0 where
   pub passes : SkipsUnits old new []
-  pub ends : front_of new.declared [] ≡ Stops None
+  pub ends : front_of new.declared [] ≡ NoUnit None
   pub unread : new.unread ≡ []
   pub block : new.block ≡ []
   pub packet : new.packet ≡ None

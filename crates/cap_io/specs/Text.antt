@@ -1,7 +1,7 @@
 -- The text of a capture file that is written, and which packets are refused.
 use Rattle.std.specs.Prelude.{◌==◌, ◌&&◌, ◌≤◌, if◌then◌else◌, All, ℕ, Bool, true, false, not, List, [], ◌∷◌, ◌++◌, Option, length, nat_eq, nat_le}
 use Rattle.std.specs.Cmp.Lexicographic.{pointwise}
-use Rattle.std.specs.List.{fold, list_any, position_or_len}
+use Rattle.std.specs.List.{flat_map, fold, list_any, position_or_len}
 use Rattle.cap_octet.specs.Checks.{first_failing}
 use Rattle.cap_octet.specs.Packet.{Captured}
 use Rattle.cap_octet.specs.declared.fault.Fault.{Fault}
@@ -60,11 +60,6 @@ file_start Pcapng link = pcapng.section_text
 abbrev pub record_text : Resolution → Captured → List ℕ
 record_text resolution p = pcap.record_header resolution p ++ p.bytes
 
--- the descriptions of interfaces, one after another
-abbrev pub descriptions : List Interface → List ℕ
-descriptions [] = []
-descriptions (i ∷ is) = pcapng.interface_text i.link i.snap i.name ++ descriptions is
-
 -- ---- one packet more, by what a file keeps of those before it
 
 -- the state and the interfaces after it: pcap forms have no interfaces
@@ -108,7 +103,8 @@ abbrev pub appended_packet : Format → List Interface → Captured → List ℕ
 appended_packet Pcap interfaces p = record_text Microseconds p
 appended_packet NsecPcap interfaces p = record_text Nanoseconds p
 appended_packet Pcapng interfaces p =
-    descriptions (new_among interfaces (interface_of p))
+    flat_map (λ (i : Interface). pcapng.interface_text i.link i.snap i.name)
+    (new_among interfaces (interface_of p))
     ++ pcapng.packet_block (number_among interfaces (interface_of p)) p
 
 -- ---- packets, one after another

@@ -22,8 +22,8 @@ abbrev pub option_at : Order → List ℕ → CodedValue
 option_at order text =
     record { code = u16_in order text 0; value = take (u16_in order text 2) (drop 4 text) }
 
--- whether a list of options ends here: at its bytes' end, or at code 0, whose length isn't looked
--- at
+-- whether a list of options ends here: fewer than four bytes are left, or the code is 0, whose length
+-- isn't looked at
 abbrev pub ends_at : Order → List ℕ → Bool
 ends_at order text = nat_lt (length text) 4 || (u16_in order text 0 == 0)
 
@@ -31,8 +31,8 @@ ends_at order text = nat_lt (length text) 4 || (u16_in order text 0 == 0)
 abbrev pub fits_at : Order → List ℕ → Bool
 fits_at order text = nat_le (option_size order text) (length text)
 
--- the options of a text, in order, at most a given number; the last may be one whose value
--- doesn't fit
+-- the options of a text, in order, at most a given number of them; one whose value doesn't fit is the
+-- last
 unfoldable pub options_within : ℕ → Order → List ℕ → List (Result CodedValue Fault)
 options_within zero order text = []
 options_within (suc most) order text =
@@ -42,7 +42,7 @@ options_within (suc most) order text =
     ∷ options_within most order (drop (padded_length (option_size order text)) text)
     else Err BadOption ∷ [])
 
--- the options of a text; each has a byte at least
+-- the options of a text; each has a byte at least, so that there are no more of them than bytes
 unfoldable pub options_in : Order → List ℕ → List (Result CodedValue Fault)
 options_in order text = options_within (length text) order text
 

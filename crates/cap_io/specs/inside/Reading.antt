@@ -21,7 +21,7 @@ use Rattle.cap_pcapng.specs.declared.effect.PacketSpans.{PacketSpans}
 use Rattle.cap_io.specs.declared.next_unit.UnitReader.{UnitReader}
 use Rattle.cap_io.specs.declared.file_state.FileState.{FileState}
 use Rattle.cap_io.specs.declared.file_state.FileState.TheVariants as state
-use Rattle.cap_io.specs.Capture.{Declared, Nothing, PcapFile, PcapngFile, IsUnit, Stops, first_link_after, front_of}
+use Rattle.cap_io.specs.Capture.{Declared, Nothing, PcapFile, PcapngFile, IsUnit, NoUnit, first_link_after, front_of}
 use Rattle.cap_io.specs.Reading.{most_in_unit, read_failures, IsTaken, TakesMemory, held_length, IsReason, declared_by, packet_in_unit}
 
 -- What reading a unit, or what follows its first `front` bytes, did to a device: with them `count`
@@ -167,7 +167,7 @@ pub record PacketCame (declared : Declared) (unread buffer : List ℕ) (spans : 
 -- nothing is left after a unit
 pub record EndCame (declared : Declared) (unread : List ℕ) (declared' : Declared)
     (unread' : List ℕ) : Type 0 where
-  pub ends : front_of declared [] ≡ Stops None
+  pub ends : front_of declared [] ≡ NoUnit None
   pub over : unread ≡ []
   pub same : declared' ≡ declared
   pub rest : unread' ≡ []
