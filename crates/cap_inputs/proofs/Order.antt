@@ -4,7 +4,14 @@ use Rattle.std.proofs.lemmas.List.{append_assoc}
 use Rattle.std.proofs.lemmas.Bool.Decides.{nat_tests}
 use Rattle.cap_octet.specs.declared.fault.Fault.{Fault}
 use Rattle.cap_io.specs.Capture.{Placed, Items, Ending}
-use Rattle.cap_io.specs.Sequence.{Event, Packet, SequenceEnd, Complete, FaultIn, Sequence, with_front, InputItems, Entry, end_after, entries_of, input_entries, all_entries, comes_before, insert_entry, sort_entries, end_or_more, sequence_of_entries, end_at, first_end, fault_without_packets, unless_fault, sequence_by_time}
+use Rattle.cap_io.specs.Sequence.{Event, Packet, SequenceEnd, Complete, FaultIn, Sequence, with_front, InputItems, Entry, end_after, entries_of, all_entries, comes_before, insert_entry, sort_entries, sequence_of_entries, first_end, fault_without_packets, unless_fault, sequence_by_time}
+
+-- what all entries and the fault of inputs without packets have of one input
+abbrev input_entries : ℕ → InputItems → List Entry
+input_entries input r = entries_of input r.items.ending r.greatest r.items.packets
+
+abbrev pub end_at : ℕ → InputItems → SequenceEnd
+end_at input r = end_after input r.items.ending r.items.packets
 
 -- a fact of each
 abbrev pub Each : (Entry → Type 0) → List Entry → Type 0
@@ -124,10 +131,6 @@ over-right : (a : SequenceEnd) → first_end a Complete ≡ a
 over-right Complete = refl
 over-right (FaultIn i f o) = refl
 
-up-to-close : (c : SequenceEnd) (e : Event) (fed : Sequence) → end_or_more c e fed ≡ with_front (e ∷ []) (unless_fault c fed)
-up-to-close Complete e fed = refl
-up-to-close (FaultIn i f o) e fed = refl
-
 -- An input whose current packet has the least key, the lowest input of those: its packet comes first, and what is left
 -- after it is the merge of what is left.
 pub merged-next : (xs ys : List InputItems) (g : ℕ) (p : Placed) (items : Items) (ps : List Placed) (size : ℕ) → items.packets ≡ p ∷ ps
@@ -164,7 +167,6 @@ merged-next xs ys g p items ps size is whole over from =
     ap (λ (z : InputItems). sequence_by_time (xs ++ z ∷ ys)) same
     ∙ ap (λ (c : SequenceEnd). unless_fault c (sequence_of_entries (sort_entries (all_entries 0 (xs ++ r ∷ ys))))) whole'
     ∙ ap sequence_of_entries first
-    ∙ up-to-close (end_after n items.ending ps) (Packet n p) (sequence_of_entries (sort_entries (all_entries 0 (xs ++ r' ∷ ys))))
     ∙ ap (λ (c : SequenceEnd). with_front (Packet n p ∷ []) (unless_fault c (sequence_of_entries (sort_entries (all_entries 0 (xs ++ r' ∷ ys)))))) (sym left_broken)
 
 -- an input that ends by a fault, where none before it does and it has no packet left: nothing more comes

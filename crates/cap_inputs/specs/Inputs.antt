@@ -1,10 +1,10 @@
 -- What a contract sees of the inputs of a job, and how far they are in their captures.
 use Rattle.std.specs.Prelude.{◌≡◌, ◌&&◌, ◌||◌, if◌then◌else◌, ℕ, ◌+◌, ◌*◌, ◌-◌, ◌^◌, Bool, true, false, max, nat_le, not, List, [], ◌∷◌, ◌++◌, length, drop, map, Option, None, Some, Result, Ok, Err, unwrap_or}
-use Rattle.std.specs.Option.{option_map}
+use Rattle.std.specs.Option.{option_map, option_map_or, option_to_list}
 use Rattle.std.specs.List.{list_all, list_any, position_or_len, slice_get, slice_set}
 use Rattle.cap_octet.specs.Packet.{Captured}
 use Rattle.cap_octet.specs.declared.fault.Fault.{Fault}
-use Rattle.cap_io.specs.Capture.{Placed, Items, End, after_packets}
+use Rattle.cap_io.specs.Capture.{Placed, placed_at, Items, End, after_packets}
 use Rattle.cap_io.specs.Source.{SourceView, Phase, Ended, Advances, SectionFits, Steps, phase_after}
 use Rattle.cap_io.specs.Position.{IsAt, given_in_all}
 use Rattle.cap_inputs.specs.declared.inputs.Next.{Next}
@@ -28,14 +28,9 @@ pub record Future : Type 0 where
   pub items : Items
   pub size : ℕ
 
--- the packet at an offset, if there is one
-abbrev pub packets_at : ℕ → Option Captured → List Placed
-packets_at offset None = []
-packets_at offset (Some p) = record { offset = offset; packet = p } ∷ []
-
 -- the current packet, if it waits to be decided
 abbrev pub waiting_packets : Bool → SourceView → List Placed
-waiting_packets true s = packets_at s.offset s.packet
+waiting_packets true s = placed_at s.offset (option_to_list s.packet)
 waiting_packets false s = []
 
 -- what is left of an input for the job: the packet that waits, and what comes after it
@@ -185,8 +180,7 @@ steps_left_in (h ∷ hs) = input_steps_left h + steps_left_in hs
 
 -- the time of the current packet; 0 of none
 abbrev pub packet_time : Option Captured → ℕ
-packet_time None = 0
-packet_time (Some p) = p.time
+packet_time packet = option_map_or (λ (p : Captured). p.time) packet 0
 
 -- the greatest time up to and with the current packet
 abbrev pub key_of : InputView → ℕ
