@@ -1,5 +1,6 @@
 //! Which numbers a term may be, by what is known of a packet: facts say in which pieces its value
-//! is, and outcomes of tests leave some of these.
+//! is, and outcomes of tests leave some of these. That something can't be is proved; that it may be
+//! says nothing.
 
 ghost use Rattle.std.specs.Prelude.{◌≡◌, ℕ, ◌<◌, true, false, List, length, Some, IfSome, IsTrue};
 ghost use Rattle.flt_opt.specs.inside.Facts.{in_piece, in_either, before, only, starting};
@@ -25,7 +26,9 @@ pub struct Learnt {
 #[derive(Clone, Copy)]
 pub struct Knowledge<'a> {
     pub facts: &'a [Fact],
+    /// The list in which the facts' spans are.
     pub pieces: &'a [Piece],
+    /// What tests have shown on the way.
     pub learnt: &'a [Learnt],
 }
 
@@ -40,7 +43,7 @@ pub(crate) fn part(pieces: &[Piece], span: Span) -> &[Piece]
     }
 }
 
-/// The part of a list of facts, or no fact where the list has no such part.
+/// As `part`, of a list of facts.
 pub(crate) fn facts_in(facts: &[Fact], span: Span) -> &[Fact]
     ensures { result.now ≡ part facts.now span }
 {
@@ -54,10 +57,12 @@ pub(crate) fn facts_in(facts: &[Fact], span: Span) -> &[Fact]
 /// Up to this many pieces are tried one after the other; of more, likely ones are tried first.
 const FEW_PIECES: usize = 3;
 
-/// How many outcomes of tests a walk of the old run keeps.
+/// How many outcomes of tests a walk of the old run keeps: the one that it began with, and the
+/// newest three.
 pub const OUTCOMES: usize = 4;
 
-/// The first outcome, as a walk keeps outcomes: the places of others say nothing yet.
+/// The outcomes with which a walk begins: the first of `learnt`, if there is one. The other places
+/// say nothing yet (`Anything` has no value).
 pub fn outcomes_at_start(learnt: &[Learnt]) -> [Learnt; OUTCOMES]
     ensures { (p : List ℕ) (n : ℕ) → AllLearnt p n learnt.now → AllLearnt p n result }
 {
@@ -159,7 +164,7 @@ fn one_piece(shown: &Learnt) -> Option<Piece>
     }
 }
 
-/// What an outcome shows of its term, where that is known to be in a piece.
+/// What an outcome shows of its term, whose value is known to be in `piece`.
 fn narrowed_outcome(shown: &Learnt, piece: Piece) -> Learnt
     ensures { (p : List ℕ) (n : ℕ) → LearntHolds p n shown.now
         → ((v : ℕ) → value p n shown.now.term ≡ Some v → in_piece v piece ≡ true)
@@ -172,7 +177,7 @@ fn narrowed_outcome(shown: &Learnt, piece: Piece) -> Learnt
     }
 }
 
-/// What two outcomes on one term show together, if two pieces can tell it.
+/// What two outcomes show together. `None`: they are on two terms, or two pieces can't tell it.
 fn shown_by_both(one: &Learnt, other: &Learnt) -> Option<Learnt>
     ensures { IfSome result (λ both. (p : List ℕ) (n : ℕ) → LearntHolds p n one.now
         → LearntHolds p n other.now → LearntHolds p n both) }
@@ -243,8 +248,9 @@ fn find_enclosing_piece(piece: Piece, numbers: &[Piece], from: usize) -> Option<
     None
 }
 
-/// Where in `numbers` the last part of a piece is, if all parts of it that tests leave a term are
-/// in them. Each part is looked for from where the one before it was found.
+/// Whether all numbers of a piece that tests leave a term are in `numbers`, which are searched from
+/// the index `from` on. If so, the index where the last of them were found: the search for a later
+/// piece begins there. If not, `None`.
 pub(crate) fn covered(
     piece: Piece,
     term: Term,
@@ -268,7 +274,7 @@ pub(crate) fn covered(
     }
 }
 
-/// Where the pieces of the first fact on a term are, if there is one.
+/// The span of pieces in which the first fact on a term puts its value, if there is such a fact.
 pub(crate) fn numbers_of(term: Term, facts: &[Fact]) -> Option<Span>
     ensures { IfSome result (λ span. (pieces : List Piece)
         → HasNumbers term span facts.now pieces) }
@@ -281,7 +287,7 @@ pub(crate) fn numbers_of(term: Term, facts: &[Fact]) -> Option<Span>
     None
 }
 
-/// The numbers that a term may be on any packet.
+/// The numbers that a term may be, whatever the packet: of a masked field those up to the mask.
 pub(crate) fn numbers_at_most(term: Term) -> Piece
     ensures { (p : List ℕ) (n number : ℕ) → value p n term ≡ Some number
         → in_piece number result ≡ true }
@@ -345,8 +351,8 @@ fn is_possible(outcome: &Learnt, knowledge: &Knowledge) -> bool
     }
 }
 
-/// Whether a test of a register with k holds, where that is known of the term that the register
-/// holds.
+/// Whether a test of a register with k holds, by what is known of the term that the register holds.
+/// `None`: that doesn't decide it.
 pub fn decided(test: Test, k: u32, term: Term, knowledge: &Knowledge) -> Option<bool>
     ensures { IfSome result (IsDecided test k term knowledge.now.facts.now
         knowledge.now.pieces.now knowledge.now.learnt.now) }

@@ -1,5 +1,6 @@
 //! Whether what is known at one place says all that a note claims of another one: terms that have
-//! to be there, facts, and registers. `wanted` is what is claimed.
+//! to be there, facts, and registers. `wanted` is what is claimed. A yes is proved; a no says
+//! nothing.
 
 ghost use Rattle.std.specs.Prelude.{◌≡◌, ℕ, true, List, IsTrue};
 ghost use Rattle.flt_bpf.specs.declared.machine.State.{State};
@@ -101,7 +102,8 @@ fn are_within(pieces: &[Piece], term: Term, learnt: &[Learnt], numbers: &[Piece]
     true
 }
 
-/// Whether the value of a fact's term is in the fact's pieces, if it has one.
+/// Whether the value of a fact's term is in the fact's pieces, if it has one. That it has one,
+/// `is_there` tells.
 fn numbers_follow(wanted: Fact, knowledge: &Knowledge) -> bool
     ensures { IsTrue result → NumbersFollow wanted knowledge.now.facts.now
         knowledge.now.pieces.now knowledge.now.learnt.now }
@@ -124,7 +126,7 @@ fn numbers_follow(wanted: Fact, knowledge: &Knowledge) -> bool
     }
 }
 
-/// Whether two parts of a list are the same.
+/// Whether two parts of a list are the same. (A function, so that `==` has a clause.)
 fn same_span(one: Span, other: Span) -> bool
     ensures { IsTrue result → one ≡ other }
 {
@@ -203,7 +205,7 @@ pub(crate) fn both_fit(known: &Both, wanted: &Both) -> bool
         && (!wanted.same_index || same_index(known))
 }
 
-/// A term that holds whichever of two holds.
+/// The term that a register holds where two ways meet: that of both, if they have the same.
 fn common_term(one: Term, other: Term) -> Term
     ensures one { (p : List ℕ) (n number : ℕ) → Holds p n one number → Holds p n result number }
     ensures other { (p : List ℕ) (n number : ℕ) → Holds p n other number
@@ -216,7 +218,7 @@ fn common_term(one: Term, other: Term) -> Term
     }
 }
 
-/// What is known of a run's registers, whichever of two holds.
+/// What is known of a run's registers where two ways meet: what holds on each.
 fn common_registers(one: Registers, other: Registers) -> Registers
     ensures one { (p : List ℕ) (n : ℕ) (s : State) → Hold p n one s → Hold p n result s }
     ensures other { (p : List ℕ) (n : ℕ) (s : State) → Hold p n other s → Hold p n result s }
@@ -227,7 +229,7 @@ fn common_registers(one: Registers, other: Registers) -> Registers
     }
 }
 
-/// What is known of the registers of both runs, whichever of two holds.
+/// What is known of the registers of both runs where two ways meet: what holds on each.
 pub(crate) fn common_both(one: &Both, other: &Both) -> Both
     ensures one { (p : List ℕ) (n : ℕ) (new old : State) → Agree p n one.now new old
         → Agree p n result new old }

@@ -45,7 +45,8 @@ pub struct Span {
     pub end: usize,
 }
 
-/// A term has a value on the packet, which is in one of the pieces. They ascend.
+/// A term has a value on the packet, which is in one of the pieces: part of a list beside. They
+/// ascend.
 #[derive(Clone, Copy)]
 pub struct Fact {
     pub term: Term,
@@ -72,8 +73,8 @@ pub struct Both {
     pub same_index: bool,
 }
 
-/// A place of the new program and one of the old program from which both return the same, where so
-/// much is known of a run that comes there.
+/// Claims that both programs return the same from a place of the new one and one of the old one on,
+/// in runs of which `registers` and `facts` hold there.
 #[derive(Clone, Copy)]
 pub struct Note {
     /// The index of the instruction of the new program.
@@ -83,9 +84,10 @@ pub struct Note {
     pub registers: Both,
     /// Which facts hold of the packet.
     pub facts: Span,
-    /// The note where the new run goes on; after a test that holds, if it is a test.
+    /// The index of the note where the new run goes on; of a test, where it holds. Of a return it
+    /// isn't read.
     pub yes: usize,
-    /// The note where it goes on after a test that doesn't hold.
+    /// Of a test, the index of the note where the new run goes on if it doesn't hold.
     pub no: usize,
 }
 

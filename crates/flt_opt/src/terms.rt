@@ -26,7 +26,7 @@ pub fn same_term(one: Term, other: Term) -> bool
     one == other
 }
 
-/// What A holds after a load at X and k.
+/// What A holds after a load at X + k, by the term that X holds.
 fn indirect(width: Width, k: u32, index: Term) -> Term
     ensures { result ≡ indirect width k index }
 {
@@ -73,7 +73,7 @@ pub fn masked(term: Term, k: u32) -> Term
     }
 }
 
-/// What A and X are together: only a number and a header's length are known as a term.
+/// The term of A + X. Only for a number in A and a header's length in X there is one.
 fn sum(accumulator: Term, index: Term) -> Term
     ensures { result ≡ sum accumulator index }
 {
@@ -86,7 +86,8 @@ fn sum(accumulator: Term, index: Term) -> Term
     }
 }
 
-/// What A holds after arithmetic; only what passes over IPv4 headers need is known as a term.
+/// What A holds after arithmetic. There is a term for a mask by a constant, and for A + X as code
+/// that looks past an IPv4 header has it; for nothing else.
 fn computed(operator: AluOperation, operand: Operand, k: u32, registers: Registers) -> Term
     ensures { result ≡ computed operator operand k registers }
 {
@@ -252,7 +253,7 @@ pub fn after_new(operation: Operation, k: u32, both: Both) -> Both
     }
 }
 
-/// The term that an operation makes, in A or X: what has to be there for it to lead on.
+/// The term that an operation makes, in A or X. A load from the packet leads on if that is there.
 pub fn asked(operation: Operation, k: u32, registers: Registers) -> Term
     ensures { result ≡ asked operation k registers }
 {

@@ -6,6 +6,9 @@
 //! - `does_own`: the new one does an instruction that can't fail, and the old one waits.
 //!
 //! After each the new run is at the place of another note, once the old run has walked on to it.
+//!
+//! A yes is proved; a no says nothing. `2 ^ 62` in clauses is more than any index of code, so that
+//! what is added to one for a jump can't overflow.
 
 ghost use Rattle.std.specs.Prelude.{◌≡◌, ◌≢◌, ◌↔◌, ℕ, ◌+◌, ◌^◌, ◌<◌, List, [], not, Some, All};
 ghost use Rattle.std.specs.Prelude.{IsTrue, slice_get};
@@ -31,7 +34,8 @@ use crate::walk::{MOST_STEPS, Stage, Start, goes_on, is_rejection, rejects, walk
 use flt_bpf::Wide;
 use flt_bpf::operation::{AluOperation, Operand, Operation, Test, decode};
 
-/// From how many tests, one after the other, a walk goes both ways at most.
+/// From how many tests, one after the other, a walk goes both ways at most: as deep as a search by
+/// halves among 4,096 numbers.
 const MOST_SPLITS: u32 = 12;
 
 /// Two programs and the notes on them.
@@ -131,8 +135,7 @@ fn leads_to_note_or_rejection(
     leads_to_note(programs, facts, learnt, way, to) || both_reject(programs, facts, learnt, way)
 }
 
-/// The way on a side of a test that the new run does at a note, while the old one is at the place
-/// `old`.
+/// The way on a side of a test that the new run does at a note, while the old one is at `old`.
 fn way_from_test(note: &Note, both: &Both, new: Wide, holds: bool, old: usize) -> Way
     requires { note.now.new < 2 ^ 62 }
     ensures { result ≡ record {
@@ -149,7 +152,7 @@ fn way_from_test(note: &Note, both: &Both, new: Wide, holds: bool, old: usize) -
     }
 }
 
-/// Whether a test of the new run never holds, or never fails, by what is known.
+/// Whether a test of the new run never has the outcome `holds`, by what is known.
 fn never_has_outcome(
     programs: &Programs,
     facts: &[Fact],
@@ -172,7 +175,8 @@ fn never_has_outcome(
     }
 }
 
-/// Whether the side of a test of the new run leads to the note that is named for it.
+/// Whether the side of a test of the new run leads to the note that is named for it, or is never
+/// taken. The old run is at `old`.
 fn side_leads(
     programs: &Programs,
     note: &Note,

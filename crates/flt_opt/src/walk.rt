@@ -21,7 +21,8 @@ use crate::terms::{after, after_old, asked, is_jump, is_sure, leads_on, test_of}
 use flt_bpf::Wide;
 use flt_bpf::operation::{Operation, Test, decode};
 
-/// How many instructions a walk passes at most, on all its ways together.
+/// How many instructions a walk passes at most, on all its ways together: so a call ends soon,
+/// whatever the notes say.
 pub(crate) const MOST_STEPS: u32 = 8192;
 
 /// Whether a run with these registers goes on after an operation, which changes no word of memory.
@@ -88,7 +89,8 @@ fn known_on_all_ways(met: &Option<Both>, known: &Both) -> Both
 
 /// What is known of both runs once the old one is at the goal, if it comes there. `splits` is past
 /// how many undecided tests, one on a side of the other, it may look for the goal, and `fuel` how
-/// many instructions all ways may pass together.
+/// many instructions all ways may still pass together. The loop's own bound, which is no less, shows
+/// that a walk ends.
 #[cycle(walking)]
 pub(crate) fn walk(
     old: &[Wide],
@@ -143,7 +145,7 @@ fn advance(
 }
 
 /// At a test that isn't decided one side has to lead to the goal; the walk goes on along the other
-/// one.
+/// one. `None`: neither does, no split is left, or it isn't a test with a constant.
 #[cycle(walking)]
 fn fork(
     old: &[Wide],
@@ -192,7 +194,8 @@ fn side_of_test(stage: &Stage, insn: Wide, test: Test, holds: bool) -> Stage
     }
 }
 
-/// The walk where one more way has met the goal.
+/// The walk on a side of a test. `met` is what is known at the goal on the ways that met there
+/// before the test, and `one` on the other side.
 fn with_met(stage: &Stage, met: &Option<Both>, one: &Both) -> Stage
     ensures at { result.at ≡ stage.now.at }
     ensures known { result.known ≡ stage.now.known }
@@ -335,7 +338,7 @@ fn both_ways_reject(
 }
 
 /// Whether a run returns 0 on a side of a test, which shows more of a term. Four outcomes are kept
-/// at most.
+/// at most, in an array, which takes no memory: at a fifth test the answer is no.
 #[cycle(rejecting)]
 fn one_way_rejects(
     code: &[Wide],

@@ -23,7 +23,7 @@ use Rattle.flt_opt.specs.declared.walk.Stage.{Stage}
 use Rattle.flt_opt.specs.inside.Facts.{AllLearnt, AllHold, Known, part}
 use Rattle.flt_opt.specs.inside.Terms.{Agree, Hold, There, Reads, asked, is_sure}
 
--- from a place of each program on both return the same, where so much is known
+-- from a place of each program on both return the same, where this is known
 pub record Alike (new old : List Insn) (p : List ℕ) (n : ℕ) (at_new at_old : ℕ) (b : Both)
     (facts : List Fact) (pieces : List Piece) (learnt : List Learnt) : Type 0 where
   pub returns : (s t : State) (answer : ℕ) → Agree p n b s t → Known p n facts pieces learnt
@@ -60,18 +60,20 @@ pub record Leads (op : Operation) (k : ℕ) (r : Registers) (p : List ℕ) (n : 
   pub sure : is_sure op k there ≡ true
   pub is_there : there ≡ true → There p n (asked op k r)
 
+-- an operation of one run leads on in all runs of which this is known
 abbrev pub IsSure : Operation → ℕ → Registers → Both → List Fact → List Piece → List Learnt → Type 0
 IsSure op k r b facts pieces learnt =
     (p : List ℕ) (n : ℕ) (s t : State) → Agree p n b s t → Known p n facts pieces learnt
     → Leads op k r p n
 
--- the old run goes on after an instruction, and so much is known then
+-- the old run goes on after an instruction, and this is known then
 pub record Passed (i : Insn) (far : ℕ) (b : Both) (p : List ℕ) (n : ℕ) (new old : State)
     : Type 0 where
   pub state : State
   pub goes : step i p n old ≡ Goes far state
   pub agree : Agree p n b new state
 
+-- the old run goes on after an instruction in all runs of which this is known
 abbrev pub Passes : Insn → ℕ → Both → Both → List Fact → List Piece → List Learnt → Type 0
 Passes i far b after facts pieces learnt =
     (p : List ℕ) (n : ℕ) (s t : State) → Agree p n b s t → Known p n facts pieces learnt
@@ -90,16 +92,18 @@ abbrev pub HasMet : List Insn → List ℕ → ℕ → State → ℕ → ℕ →
 HasMet old p n new_state answer goal None = ⊥
 HasMet old p n new_state answer goal (Some b) = Comes old p n b new_state answer goal
 
+-- the old run has met the goal on another way, or is where a walk is
 abbrev pub IsOn : List Insn → ℕ → List ℕ → ℕ → State → ℕ → Stage → Type 0
 IsOn old goal p n new_state answer stage =
     HasMet old p n new_state answer goal stage.met ⊎ HereAt old p n new_state answer stage
 
--- a walk goes on, and reaches its goal
+-- a run that is on a walk is on it at its next stage, too
 abbrev pub Advances : List Insn → ℕ → List Fact → List Piece → Stage → Stage → Type 0
 Advances old goal facts pieces stage next =
     (p : List ℕ) (n : ℕ) (s : State) (answer : ℕ) → AllHold p n pieces facts
     → IsOn old goal p n s answer stage → IsOn old goal p n s answer next
 
+-- a run that is on a walk comes to the goal
 abbrev pub Reaches : List Insn → ℕ → List Fact → List Piece → Stage → Both → Type 0
 Reaches old goal facts pieces stage known =
     (p : List ℕ) (n : ℕ) (s : State) (answer : ℕ) → AllHold p n pieces facts
@@ -149,6 +153,7 @@ IsSound programs m =
 abbrev pub OperandsAgree : Operation → Both → Type 0
 OperandsAgree op b = (p : List ℕ) (n : ℕ) (s t : State) → Agree p n b s t → Reads op s t
 
+-- all notes are
 abbrev pub AreSound : Programs → Type 0
 AreSound programs =
     (j : ℕ) (m : Note) → slice_get programs.notes.notes.now j ≡ Some m → IsSound programs m
@@ -168,13 +173,14 @@ pub record IsBits (new mask test : Insn) : Type 0 where
   pub zero : test.k ≡ 0
   pub same : mask.k ≡ new.k
 
--- a run goes on after an instruction, where so much is known, or returns 0
+-- a run goes on after an instruction, where this is known, and returns what it returned
 pub record Drifted (far : ℕ) (after : Registers) (p : List ℕ) (n answer : ℕ)
     (rest : ℕ → State → Option ℕ) : Type 0 where
   pub state : State
   pub hold : Hold p n after state
   pub returns : rest far state ≡ Some answer
 
+-- a run goes on so after an instruction, or returns 0
 abbrev pub Drifts : Insn → ℕ → Registers → Registers → List Fact → List Piece → List Learnt → Type 0
 Drifts i far r after facts pieces learnt =
     (p : List ℕ) (n : ℕ) (t : State) (rest : ℕ → State → Option ℕ) (answer : ℕ) → Hold p n r t

@@ -12,10 +12,11 @@ use Rattle.flt_opt.specs.declared.note.Term.{Term}
 use Rattle.flt_opt.specs.declared.note.Both.{Both}
 use Rattle.flt_opt.specs.inside.Terms.{value, There, Holds, Agree, masked}
 
--- the greatest `high` is no bound
+-- a number is in a piece, of which the greatest `high` is no bound
 abbrev pub in_piece : ℕ → Piece → Bool
 in_piece v q = nat_le q.low v && (nat_le v q.high || q.high == 0xffff_ffff)
 
+-- it is in one of some pieces
 abbrev pub within : ℕ → List Piece → Bool
 within v [] = false
 within v (q ∷ qs) = in_piece v q || within v qs
@@ -35,11 +36,12 @@ abbrev pub AllHold : List ℕ → ℕ → List Piece → List Fact → Type 0
 AllHold p n pieces [] = Unit {0}
 AllHold p n pieces (f ∷ fs) = FactHolds p n pieces f × AllHold p n pieces fs
 
--- what a test has shown holds of a packet: the value of a term, if it has one, is in one of two
--- pieces
+-- a number is in one of the two pieces that a test has shown
 abbrev pub in_either : ℕ → Learnt → Bool
 in_either v l = in_piece v l.below || in_piece v l.above
 
+-- what a test has shown holds of a packet: the value of a term, if it has one, is in one of two
+-- pieces
 pub record LearntHolds (p : List ℕ) (n : ℕ) (l : Learnt) : Type 0 where
   pub inside : (number : ℕ) → value p n l.term ≡ Some number → in_either number l ≡ true
 
@@ -53,7 +55,7 @@ pub record Known (p : List ℕ) (n : ℕ) (facts : List Fact) (pieces : List Pie
   pub noted : AllHold p n pieces facts
   pub shown : AllLearnt p n learnt
 
--- the numbers below one
+-- the numbers below one; of 0 the piece is empty
 abbrev pub before : ℕ → Piece
 before k = if k == 0 then record { low = 1; high = 0 } else record { low = 0; high = k - 1 }
 
@@ -97,7 +99,7 @@ IsWithin q t learnt numbers =
     (p : List ℕ) (n number : ℕ) → AllLearnt p n learnt → value p n t ≡ Some number
     → in_piece number q ≡ true → within number numbers ≡ true
 
--- a term's value is in part of the pieces
+-- by the facts a term's value, if it has one, is in part of the pieces
 abbrev pub HasNumbers : Term → Span → List Fact → List Piece → Type 0
 HasNumbers t s facts pieces =
     (p : List ℕ) (n number : ℕ) → AllHold p n pieces facts → value p n t ≡ Some number
@@ -120,13 +122,13 @@ CannotBe l facts pieces learnt =
     (p : List ℕ) (n number : ℕ) → Known p n facts pieces learnt → value p n l.term ≡ Some number
     → in_either number l ≡ false
 
--- a test has one outcome
+-- a test of a register that holds a term has this outcome
 abbrev pub IsDecided : Test → ℕ → Term → List Fact → List Piece → List Learnt → Bool → Type 0
 IsDecided test k t facts pieces learnt holds =
     (p : List ℕ) (n number : ℕ) → Known p n facts pieces learnt → Holds p n t number
     → test_holds test number k ≡ holds
 
--- a term has a value where so much is known
+-- a term has a value where this is known
 abbrev pub IsThere : Term → List Fact → Both → Type 0
 IsThere t facts b =
     (p : List ℕ) (n : ℕ) (pieces : List Piece) (new old : State) → Agree p n b new old
@@ -144,7 +146,7 @@ NumbersFollow f facts pieces learnt =
     (p : List ℕ) (n number : ℕ) → Known p n facts pieces learnt → value p n f.term ≡ Some number
     → within number (part pieces f.pieces) ≡ true
 
--- a fact holds, and all of them do, where so much is known
+-- a fact holds, and all of them do, where this is known
 abbrev pub FactFollows : Fact → Both → List Fact → List Piece → List Learnt → Type 0
 FactFollows f b facts pieces learnt =
     (p : List ℕ) (n : ℕ) (new old : State) → Agree p n b new old → Known p n facts pieces learnt

@@ -24,7 +24,7 @@ use Rattle.flt_opt.specs.declared.note.Both.{Both}
 abbrev pub header_at : List ℕ → ℕ → Option ℕ
 header_at p at = option_map header_length (field p at Byte)
 
--- the number so far past a header of a length
+-- the number at this place past a header of a length
 abbrev pub past : List ℕ → Width → ℕ → Option ℕ → Option ℕ
 past p width at None = None
 past p width at (Some length) = field p ((length + at) % 2 ^ 32) width
@@ -34,6 +34,7 @@ abbrev pub bare : List ℕ → Width → ℕ → Option ℕ → Option ℕ
 bare p width at None = field p at width
 bare p width at (Some header) = past p width at (header_at p header)
 
+-- the bits of a mask
 abbrev pub under : Option ℕ → ℕ → ℕ
 under None v = v
 under (Some mask) v = bit_and v mask
@@ -63,6 +64,7 @@ pub record There (p : List ℕ) (n : ℕ) (t : Term) : Type 0 where
 pub record Holds (p : List ℕ) (n : ℕ) (t : Term) (number : ℕ) : Type 0 where
   pub is : is_known t ≡ true → value p n t ≡ Some number
 
+-- both registers hold what their terms say
 pub record Hold (p : List ℕ) (n : ℕ) (r : Registers) (s : State) : Type 0 where
   pub accumulator : Holds p n r.accumulator s.accumulator
   pub index : Holds p n r.index s.index
@@ -83,19 +85,23 @@ indirect width k (HeaderLength at more) =
     Field (record { width = width; at = (more + k) % 2 ^ 32; header = Some at; mask = None })
 indirect width k _ = Anything
 
+-- the bits that a mask leaves of those that were left
 abbrev pub mask_of : Option ℕ → ℕ → ℕ
 mask_of None k = k
 mask_of (Some mask) k = bit_and mask k
 
+-- what a term is once a register that holds it is masked
 abbrev pub masked : Term → ℕ → Term
 masked (Number x) k = Number (bit_and x k)
 masked (Field l) k = Field (record l { mask = Some (mask_of l.mask k) })
 masked _ k = Anything
 
+-- A + X, of a number and a header's length
 abbrev pub sum : Term → Term → Term
 sum (Number k) (HeaderLength at more) = HeaderLength at ((more + k) % 2 ^ 32)
 sum _ _ = Anything
 
+-- what A holds after arithmetic
 abbrev pub computed : AluOperation → Operand → ℕ → Registers → Term
 computed And Constant k r = masked r.accumulator k
 computed Add IndexRegister k r = sum r.accumulator r.index
