@@ -89,7 +89,7 @@ fn known_on_all_ways(met: &Option<Both>, known: &Both) -> Both
 
 /// What is known of both runs once the old one is at the goal, if it comes there. `splits` is past
 /// how many undecided tests, one on a side of the other, it may look for the goal, and `fuel` how
-/// many instructions all ways may still pass together. The loop's own bound, which is no less, shows
+/// many instructions all ways may still pass together. The loop's own bound is no less; it shows
 /// that a walk ends.
 #[cycle(walking)]
 pub(crate) fn walk(

@@ -14,7 +14,8 @@ use std::alloc::{AllocError, Allocator};
 /// The code of a jump (`ja`).
 const JUMP: u16 = 5;
 
-/// As many instructions aren't laid out.
+/// Code of this many instructions (2^30) or more isn't laid out: with its jumps it could have more
+/// than a 32-bit offset reaches.
 const TOO_MANY: usize = 0x4000_0000;
 
 /// Code of so few instructions stays as it is: they seldom become fewer, and that takes longer than
@@ -25,11 +26,13 @@ const FEW: usize = 28;
 /// now, says the same again and again: it becomes much shorter, however few are left.
 const MANY: usize = 64;
 
-/// Code that was written with some instructions, of which these are left, stays as it is.
+/// Whether code isn't optimised, of which `left` instructions are left of `written`.
 fn stays(left: usize, written: usize) -> bool {
     left <= FEW && (written <= MANY || written / 2 <= left)
 }
 
+/// Whether no instruction is a `ja`. (`flt_opt` and `flt_short` have it too, with clauses of their
+/// own.)
 fn has_no_jump(code: &[Wide]) -> bool
     ensures { IsTrue result → HasNoJump code.now }
 {
@@ -61,7 +64,7 @@ fn optimised_insns<A: Allocator + Clone>(
 
 /// A program that returns what wide code returns: the code laid out, or optimised before, where it
 /// has more than a few instructions, or was written with many, and the optimiser finds no longer
-/// program.
+/// program. `written` is how many it had before it was threaded and shortened.
 ///
 /// An error is a failed allocation, an allocator that cannot be cloned, or that the code has 2^30
 /// instructions or more.

@@ -1,4 +1,5 @@
-//! The pass `Bits`: one instruction, or two, for several that do the same.
+//! The pass `Bits`: one instruction, or two, for several that do the same. The rules are those of
+//! `flt_short`, which has them for code; here they find what other passes left side by side.
 
 use crate::graph::Node;
 use crate::live::{Live, live_at, lives_of_graph};
@@ -112,8 +113,8 @@ fn header_load(nodes: &[Node], lives: &[Live], number: Node) -> Option<(Node, No
     Some((length, Node { k, ..load }))
 }
 
-/// The node in place of one and of those after it that it joins, if there is one. Where two nodes
-/// do the same as all, the second is put last.
+/// The node that does what `node` and those after it do, if there is one. Where it takes two, the
+/// second is added at the end of the graph.
 fn joined_node<A: Allocator>(
     nodes: &mut Vec<Node, A>,
     lives: &[Live],

@@ -3,11 +3,11 @@
 //! are finished one after the other, and ways lead only to later ones.
 
 use crate::graph::place_after;
-use crate::known::{Facts, NO_FACTS, facts_after, facts_after_test, facts_in_both};
+use crate::known::{Facts, NO_FACTS, common_facts, facts_after, facts_after_test};
 use crate::live::{Live, Reads, is_of_use, live_at, lives_of_code};
 use crate::rules::{Rule, may_be_own, rule_at};
 use crate::sets::pieces_for_all;
-use crate::walk::{Arrival, both_in_both, walk_to_replaced};
+use crate::walk::{Arrival, common_both, walk_to_replaced};
 use flt_bpf::Wide;
 use flt_bpf::operation::{Operation, decode};
 use flt_opt::{
@@ -144,15 +144,17 @@ impl<A: Allocator + Clone> Finder<'_, A> {
     /// One more way leads to a draft: what holds on all of them is kept. Returns the index of its
     /// note.
     fn join_draft(&mut self, index: usize, way: &Way) -> Result<usize, AllocError> {
+        // `draft_at` found it, so it is there.
         let Some(draft) = self.drafts.get_mut(index) else {
             return Ok(0);
         };
-        draft.way.old.both = both_in_both(&draft.way.old.both, &way.old.both);
-        draft.way.facts = facts_in_both(&mut self.found.pieces, &draft.way.facts, &way.facts)?;
+        draft.way.old.both = common_both(&draft.way.old.both, &way.old.both);
+        draft.way.facts = common_facts(&mut self.found.pieces, &draft.way.facts, &way.facts)?;
         Ok(draft.note)
     }
 
-    /// Where the old run is once the new one does its next instruction, by some rule.
+    /// Where the old run has to be when the new one does its next instruction: at what that
+    /// replaces by a rule, or where it is and waits. `None`: neither is allowed.
     fn old_arrival(&self, way: &Way, new: Wide) -> Option<Arrival> {
         let pieces = &self.found.pieces;
         let facts = &way.facts;
@@ -216,7 +218,7 @@ impl<A: Allocator + Clone> Finder<'_, A> {
     }
 
     /// Where the old run goes on after its instruction at a place: after a test, on the side where
-    /// it holds or doesn't. It isn't asked of a `ja`: walks pass those.
+    /// it holds or doesn't. The instruction is no `ja`: walks pass those.
     fn next_old_place(&self, at: usize, holds: bool) -> usize {
         let Some(insn) = self.old.get(at) else {
             return place_after(at, 0);
@@ -298,7 +300,7 @@ impl<A: Allocator + Clone> Finder<'_, A> {
     }
 
     /// The indices of the notes after an instruction, if they are found: of a test on both sides,
-    /// else twice the same.
+    /// else twice the same; of a return 0, which isn't read.
     fn notes_after(
         &mut self,
         way: &Way,
@@ -331,6 +333,7 @@ impl<A: Allocator + Clone> Finder<'_, A> {
         let Some(insn) = self.new.get(way.new).copied() else {
             return Ok(false);
         };
+        // Without a rule `old_arrival` let the old run wait.
         let rule = rule_at(insn, self.old, way.old.old, &way.old.both).unwrap_or(Rule::Own);
         let Some((yes, no)) = self.notes_after(way, insn, rule)? else {
             return Ok(false);
@@ -382,7 +385,8 @@ impl<A: Allocator + Clone> Finder<'_, A> {
     }
 }
 
-/// What is known of both runs after a test that the new one does by a rule.
+/// What is known of both runs after a test that the new one does by a rule. By `Bits` the old run
+/// has masked its A.
 fn both_after_test(rule: Rule, both: &Both) -> Both {
     match rule {
         Rule::Same | Rule::Load | Rule::Own => *both,

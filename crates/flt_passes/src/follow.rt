@@ -29,8 +29,10 @@ struct Way {
 /// How a run goes on.
 #[derive(Clone, Copy)]
 enum Step {
+    /// It ends, or may not be followed farther.
     Ends,
     To(Way),
+    /// On a side of a test that isn't decided.
     Either,
 }
 
@@ -220,7 +222,8 @@ impl<A: Allocator> Follower<'_, A> {
 }
 
 impl<A: Allocator> Follower<'_, A> {
-    /// The farthest node where a run may go on in place of one, as far as all tests are decided.
+    /// The farthest node where a run may go on in place of one, as far as all tests are decided. It
+    /// follows as `follow` does, but keeps no trail, so that no memory is taken.
     fn farthest_decided(&self, from: Way) -> usize {
         let mut way = from;
         let mut farthest = from.at;

@@ -92,6 +92,7 @@ impl<A: Allocator + Clone> Gathering<A> {
         test: usize,
         field: Field,
     ) -> Result<(), AllocError> {
+        // The index of a test that was found, so there is a node.
         let Some(node) = self.nodes.get(test).copied() else {
             return Ok(());
         };

@@ -5,7 +5,8 @@ use crate::ranges::{Range, count_single_numbers};
 use flt_bpf::operation::{Operand, Operation, Test};
 use std::alloc::{AllocError, Allocator};
 
-/// What a difference of one between the weights of two halves costs.
+/// What a difference of one between the weights of two halves costs. Only its ratio to `WIDE_COST`
+/// counts.
 const DIFFERENCE_COST: usize = 10;
 
 /// What it costs that a half begins with a range of several numbers.
@@ -85,7 +86,8 @@ fn push_node<A: Allocator>(nodes: &mut Vec<Node, A>, node: Node) -> Result<usize
     Ok(at)
 }
 
-/// Puts the nodes of a search of the ranges last. Returns the index of the one where it begins.
+/// Puts the nodes of a search of the ranges last. There is one range at least. Returns the index of
+/// the node where the search begins; of one range alone it is the node where that leads.
 pub(crate) fn put_search<A: Allocator>(
     nodes: &mut Vec<Node, A>,
     ranges: &[Range],
@@ -93,6 +95,7 @@ pub(crate) fn put_search<A: Allocator>(
     if let Some(node) = one_test(ranges) {
         return push_node(nodes, node);
     }
+    // No 0 is returned: there is a range, and `split_place` is between two.
     let (below, above) = match ranges {
         [] => return Ok(0),
         [only] => return Ok(only.exit),

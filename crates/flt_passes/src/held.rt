@@ -32,8 +32,8 @@ pub(crate) fn field_of(node: Node) -> Option<Field> {
     }
 }
 
-/// What A holds on both of two ways.
-fn held_in_both(one: Held, other: Held) -> Held {
+/// What A holds where two ways meet. A run comes on the second one.
+fn common_held(one: Held, other: Held) -> Held {
     if one == Held::Unreached || one == other {
         other
     } else {
@@ -53,7 +53,7 @@ fn held_after(held: Held, node: Node) -> Held {
 /// One more way leads to a node, on which A holds `came`.
 fn join_held<A: Allocator>(held: &mut Vec<Held, A>, at: usize, came: Held) {
     if let Some(here) = held.get_mut(at) {
-        *here = held_in_both(*here, came);
+        *here = common_held(*here, came);
     }
 }
 

@@ -24,6 +24,7 @@ const NO_FACT: Fact = Fact {
 #[derive(Clone, Copy)]
 pub(crate) struct Facts {
     list: [Fact; MOST_FACTS],
+    /// At most MOST_FACTS.
     len: usize,
 }
 
@@ -141,21 +142,22 @@ impl Facts {
     }
 }
 
-/// The term that a register holds on both of two ways.
-fn term_in_both(one: Term, other: Term) -> Term {
+/// The term that a register holds where two ways meet: that of both, if they have the same.
+fn common_term(one: Term, other: Term) -> Term {
     if one == other { one } else { Term::Anything }
 }
 
-/// What the registers hold on both of two ways.
-pub(crate) fn registers_in_both(one: Registers, other: Registers) -> Registers {
+/// What the registers hold where two ways meet: what they hold on each.
+pub(crate) fn common_registers(one: Registers, other: Registers) -> Registers {
     Registers {
-        accumulator: term_in_both(one.accumulator, other.accumulator),
-        index: term_in_both(one.index, other.index),
+        accumulator: common_term(one.accumulator, other.accumulator),
+        index: common_term(one.index, other.index),
     }
 }
 
-/// The facts that hold on both of two ways.
-pub(crate) fn facts_in_both<A: Allocator>(
+/// The facts that hold where two ways meet: each on a term of which both have one, with the numbers
+/// of both.
+pub(crate) fn common_facts<A: Allocator>(
     pieces: &mut Vec<Piece, A>,
     one: &Facts,
     other: &Facts,
@@ -220,15 +222,15 @@ pub(crate) const AT_START: Known = Known {
 };
 
 impl Known {
-    /// What is known on both of two ways.
+    /// What is known where two ways meet: what is known on each.
     pub(crate) fn in_both<A: Allocator>(
         &self,
         other: &Known,
         pieces: &mut Vec<Piece, A>,
     ) -> Result<Known, AllocError> {
         Ok(Known {
-            registers: registers_in_both(self.registers, other.registers),
-            facts: facts_in_both(pieces, &self.facts, &other.facts)?,
+            registers: common_registers(self.registers, other.registers),
+            facts: common_facts(pieces, &self.facts, &other.facts)?,
         })
     }
 

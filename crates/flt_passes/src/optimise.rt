@@ -179,6 +179,7 @@ pub fn optimised_counted<A: Allocator + Clone>(
         let before = made.changes;
         let passes = if turn == 0 { &FIRST } else { &LATER };
         made = after_turn(alloc.clone()?, made, passes)?;
+        // The first turn lacks `ThreadFar`, so a second one is always made.
         if made.changes == before && turn > 0 {
             break;
         }

@@ -54,6 +54,7 @@ impl<A: Allocator> Search<'_, A> {
     /// Searches all that a run reaches from the entry on.
     fn search(&mut self, entry: usize) -> Result<(), AllocError> {
         self.work.push(entry)?;
+        // Each node is entered once, which puts two on: so 3 steps a node and 1 are enough.
         let steps = self.nodes.len().saturating_mul(4).saturating_add(1);
         for _ in 0..steps {
             let Some(at) = self.work.last().copied() else {

@@ -1,4 +1,5 @@
-//! The rules by which an instruction of new code replaces some of the old code.
+//! The rules by which an instruction of new code replaces some of the old code. They are those of
+//! `flt_opt::validator`: here they find the notes that it then checks.
 
 use crate::known::loads;
 use flt_bpf::Wide;

@@ -243,7 +243,8 @@ impl<A: Allocator + Clone> Searching<A> {
         Ok(next)
     }
 
-    /// Puts what leads to the ranges last. Returns where it begins, if something was put.
+    /// Puts what leads to the ranges last: a chain for few numbers, else a search. Returns where it
+    /// begins. `None`: the tests stay, since they lead to more than two nodes and are few.
     fn put_tests(
         &mut self,
         chain: &Chain<A>,
@@ -273,6 +274,7 @@ impl<A: Allocator + Clone> Searching<A> {
             self.ranges_of_region(head, region)?
         };
         let count = self.nodes.len();
+        // A search for many numbers may have twice as many tests: of these a run meets few.
         let most = if count_single_numbers(&ranges) < LEAST {
             1
         } else {

@@ -5,22 +5,23 @@ use crate::order::{entry_at, order_nodes};
 use std::alloc::{AllocError, Allocator};
 use std::collections::HashMap;
 
-/// What a node does and where it leads, as numbers that are equal for nodes that do the same.
+/// What a node does and where it leads, as a key that is equal for nodes that do the same.
 #[derive(Clone, Copy, PartialEq, Eq, Hash)]
-struct Deeds {
+struct NodeKey {
     does: u64,
     leads: u64,
 }
 
-/// What a node does: its code and k, and its two edges.
-fn deeds_of(node: Node) -> Deeds {
-    Deeds {
+/// The key of a node: its code and k, and its two edges.
+fn key_of(node: Node) -> NodeKey {
+    NodeKey {
         does: u64::from(node.operation.code()) << 32 | u64::from(node.k),
         leads: (node.yes as u64) << 32 ^ node.no as u64,
     }
 }
 
-/// A node whose edges lead to what its targets are replaced by.
+/// A node whose edges lead to the nodes that its targets are replaced by: `stands` has one for each
+/// index.
 fn with_shared_targets(node: Node, stands: &[usize]) -> Node {
     Node {
         yes: entry_at(stands, node.yes),
@@ -34,6 +35,7 @@ pub(crate) fn share_nodes<A: Allocator + Clone>(
     alloc: A,
     mut nodes: Vec<Node, A>,
 ) -> Result<Vec<Node, A>, AllocError> {
+    // For each node the index of the one that stands for it: itself, or one that does the same.
     let mut stands = vec![in alloc.clone()?; NOWHERE; nodes.len()]?;
     let mut seen = HashMap::with_capacity(alloc.clone()?, nodes.len())?;
     let mut is_changed = false;
@@ -44,9 +46,9 @@ pub(crate) fn share_nodes<A: Allocator + Clone>(
         let node = with_shared_targets(*place, &stands);
         *place = node;
         let mut stand = at;
-        match seen.get(&deeds_of(node)) {
+        match seen.get(&key_of(node)) {
             None => {
-                seen.insert(deeds_of(node), at)?;
+                seen.insert(key_of(node), at)?;
             }
             Some(other) => {
                 stand = *other;

@@ -119,7 +119,7 @@ impl<A: Allocator + Clone> Threading<A> {
 }
 
 impl<A: Allocator + Clone> Threading<A> {
-    /// Whether a test can hold, and whether it can fail, by what is known.
+    /// Whether a test can hold, and whether it can fail, by what is known. One of both is true.
     fn outcomes(&self, known: &Known, node: Node) -> (bool, bool) {
         let term = known.registers.accumulator;
         match known.facts.decide(&self.pieces, node.test(), node.k, term) {
@@ -173,12 +173,12 @@ impl<A: Allocator + Clone> Threading<A> {
             if can_hold { yes } else { no },
             if can_fail { no } else { yes },
         );
-        self.turn(at, node, yes, no);
+        self.redirect(at, node, yes, no);
         Ok(())
     }
 
-    /// Turns the edges of a node to other nodes.
-    fn turn(&mut self, at: usize, node: Node, yes: usize, no: usize) {
+    /// Lets the edges of a node lead to other nodes.
+    fn redirect(&mut self, at: usize, node: Node, yes: usize, no: usize) {
         if let Some(place) = self.nodes.get_mut(at)
             && (yes != node.yes || no != node.no)
         {
@@ -203,7 +203,7 @@ impl<A: Allocator + Clone> Threading<A> {
         {
             to = node.yes;
         }
-        self.turn(at, node, to, to);
+        self.redirect(at, node, to, to);
         self.arrive(to, known)
     }
 

@@ -2,7 +2,7 @@
 //! It is the search for what `flt_opt::walk` then checks.
 
 use crate::graph::place_after;
-use crate::known::{Facts, loads, registers_in_both};
+use crate::known::{Facts, common_registers, loads};
 use crate::rules::rule_at;
 use flt_bpf::Wide;
 use flt_bpf::operation::{Operation, decode};
@@ -24,8 +24,8 @@ const FEW_SPLITS: usize = 3;
 /// How many instructions are passed on that way from a test on that isn't decided.
 const LITTLE_FUEL: usize = 64;
 
-/// On which sides of the first tests a goal is looked for: a bit for a test, from the last one.
-/// Then it goes on along the side that comes last.
+/// On which sides of tests a goal is looked for, one try after the other: the lowest bit is for the
+/// first test, the highest one for the third and all after it. A 1 is the side where a test holds.
 const SIDES: [u8; 8] = [7, 0, 5, 2, 1, 6, 3, 4];
 
 /// How many bits these have.
@@ -51,8 +51,10 @@ struct Way {
 /// How the old run goes on.
 #[derive(Clone, Copy)]
 enum Step {
+    /// It ends, or may not be followed farther.
     Ends,
     To(Way),
+    /// On a side of a test that isn't decided.
     Either,
 }
 
@@ -68,11 +70,13 @@ struct Walker<'a, A: Allocator> {
     fuel: usize,
 }
 
-/// What holds of both runs on each of two ways.
-pub(crate) fn both_in_both(one: &Both, other: &Both) -> Both {
+/// What is known of the registers of both runs where two ways meet: what holds on each. A and X are
+/// the same also where only the terms show it, which those of two ways may no longer do.
+/// (`flt_opt::follows::common_both` looks at the flags alone, so that it may know less.)
+pub(crate) fn common_both(one: &Both, other: &Both) -> Both {
     Both {
-        new: registers_in_both(one.new, other.new),
-        old: registers_in_both(one.old, other.old),
+        new: common_registers(one.new, other.new),
+        old: common_registers(one.old, other.old),
         same_accumulator: same_accumulator(one) && same_accumulator(other),
         same_index: same_index(one) && same_index(other),
     }
@@ -232,7 +236,8 @@ impl<A: Allocator> Walker<'_, A> {
         None
     }
 
-    /// Walks from a test on to the goal, one side after the other of which leads there.
+    /// Walks from a test that isn't decided on to the goal. One side of each such test has to lead
+    /// there; the walk goes on along the other one. Returns what is known at the goal on all ways.
     #[cycle(splits)]
     fn go_on(&mut self, from: Way, splits: usize) -> Option<Arrival> {
         let mut way = from;
@@ -279,7 +284,7 @@ fn met_by(met: Option<Arrival>, one: &Arrival) -> Arrival {
         None => *one,
         Some(other) => Arrival {
             old: one.old,
-            both: both_in_both(&other.both, &one.both),
+            both: common_both(&other.both, &one.both),
         },
     }
 }

@@ -95,7 +95,8 @@ impl<A: Allocator + Clone> Writer<'_, A> {
         Ok(tail)
     }
 
-    /// Puts the instruction of a node in front, and between once more those that have to be next.
+    /// Puts the instruction of a node in front. Where the node next to it stands elsewhere, that
+    /// one and those after it, up to a test or a return, are written once more between.
     fn put_before(&mut self, at: usize, alloc: A) -> Result<(), AllocError> {
         if let Some(node) = self.node(at)
             && node.flow() == Flow::Goes
