@@ -29,7 +29,7 @@ pub search_some : (k : ℕ) (vs : List ℕ) (hit miss : ℕ) (c : List Insn) →
 unfolding emit_search
 search_some k vs hit miss c l = let many : nat_lt (length vs) 2 ≡ false = grind (arith, nat_tests) in if_is _ false _ _ many
 
-pub search_put : (levels : ℕ) (vs : List ℕ) (hit miss : ℕ) (c : List Insn) → 0 < levels → 2 ≤ length vs → emit_search levels vs hit miss c ≡ halved (levels - 1) vs hit miss c
+pub search_put : (halvings : ℕ) (vs : List ℕ) (hit miss : ℕ) (c : List Insn) → 0 < halvings → 2 ≤ length vs → emit_search halvings vs hit miss c ≡ halved (halvings - 1) vs hit miss c
 search_put zero vs hit miss c some l = absurd (omega arith)
 search_put (suc k) vs hit miss c some l =
     let same : k ≡ suc k - 1 = omega arith in
@@ -70,15 +70,15 @@ by_halves k pivot low high hit miss c =
     let upper = emit_search k high hit miss c in
     emit_halves pivot (emit_search k low hit miss upper.code) upper.entry
 
-pub search_both : (levels : ℕ) (xs ys : List ℕ) (h cut pivot hit miss : ℕ) (c : List Insn) → 0 < levels → 2 ≤ length xs + length ys → h ≡ (length xs + length ys) / 2 → cut ≡ min h (length xs) → pivot ≡ get_or (xs ++ ys) h 0 → emit_search levels (xs ++ ys) hit miss c ≡ by_halves (levels - 1) pivot (take cut xs ++ take (h - cut) ys) (drop cut xs ++ drop (h - cut) ys) hit miss c
-search_both levels xs ys h cut pivot hit miss c some many half_is cut_is pivot_is =
+pub search_both : (halvings : ℕ) (xs ys : List ℕ) (h cut pivot hit miss : ℕ) (c : List Insn) → 0 < halvings → 2 ≤ length xs + length ys → h ≡ (length xs + length ys) / 2 → cut ≡ min h (length xs) → pivot ≡ get_or (xs ++ ys) h 0 → emit_search halvings (xs ++ ys) hit miss c ≡ by_halves (halvings - 1) pivot (take cut xs ++ take (h - cut) ys) (drop cut xs ++ drop (h - cut) ys) hit miss c
+search_both halvings xs ys h cut pivot hit miss c some many half_is cut_is pivot_is =
     let all : length (xs ++ ys) ≡ length xs + length ys = length-append xs ys in
     let half : length (xs ++ ys) / 2 ≡ h = ap (λ n. n / 2) all ∙ sym half_is in
-    search_put levels (xs ++ ys) hit miss c some (omega arith)
-    ∙ ap (λ j. by_halves (levels - 1) (get_or (xs ++ ys) j 0) (take j (xs ++ ys)) (drop j (xs ++ ys)) hit miss c) half
-    ∙ ap (λ v. by_halves (levels - 1) v (take h (xs ++ ys)) (drop h (xs ++ ys)) hit miss c) (sym pivot_is)
-    ∙ ap (λ zs. by_halves (levels - 1) pivot zs (drop h (xs ++ ys)) hit miss c) (take_both h cut xs ys cut_is)
-    ∙ ap (λ zs. by_halves (levels - 1) pivot (take cut xs ++ take (h - cut) ys) zs hit miss c) (drop_both h cut xs ys cut_is)
+    search_put halvings (xs ++ ys) hit miss c some (omega arith)
+    ∙ ap (λ j. by_halves (halvings - 1) (get_or (xs ++ ys) j 0) (take j (xs ++ ys)) (drop j (xs ++ ys)) hit miss c) half
+    ∙ ap (λ v. by_halves (halvings - 1) v (take h (xs ++ ys)) (drop h (xs ++ ys)) hit miss c) (sym pivot_is)
+    ∙ ap (λ zs. by_halves (halvings - 1) pivot zs (drop h (xs ++ ys)) hit miss c) (take_both h cut xs ys cut_is)
+    ∙ ap (λ zs. by_halves (halvings - 1) pivot (take cut xs ++ take (h - cut) ys) zs hit miss c) (drop_both h cut xs ys cut_is)
 
 -- a number left out at the place where it stands first
 pub without_at : (a : ℕ) (vs : List ℕ) (at : ℕ) → at ≤ length vs → ((i : ℕ) → i < at → get_or vs i 0 ≢ a) → (at < length vs → get_or vs at 0 ≡ a) → take at vs ++ drop (at + 1) vs ≡ without a vs

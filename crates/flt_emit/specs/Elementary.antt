@@ -58,18 +58,19 @@ abbrev pub under_mask : Option ℕ → ℕ → ℕ
 under_mask None v = v
 under_mask (Some mask) v = bit_and v mask
 
+-- what a test of a field reads
 abbrev pub field_reads : FieldTest → List ℕ → MatchResult
 field_reads t p =
     reading_of
     (with (field_at t.offset t.width p)
     (λ v. Some (compares t.comparison (under_mask t.mask v) t.value)))
 
+-- what an elementary test reads; what the link type alone decides is the same of all packets
 abbrev pub elementary_reads : Elementary → List ℕ → MatchResult
 elementary_reads (Outcome b) p = reading_of (Some b)
 elementary_reads (Field t) p = field_reads t p
 
--- the field at a place is this number; its bits under a mask are; it is at least, or at most, this
--- number
+-- the field at a place is this number; its bits under a mask are; it compares so with this number
 abbrev pub is_at : ℕ → Width → ℕ → Elementary
 is_at at width value =
     Field (record {
@@ -122,6 +123,7 @@ abbrev pub is_ethernet : Link → Bool
 is_ethernet Ether = true
 is_ethernet _ = false
 
+-- a frame is of a kind
 abbrev pub kind_test : Link → FrameKind → Elementary
 kind_test link Ethernet = Outcome (is_ethernet link)
 kind_test link kind = type_test (type_offset link) kind

@@ -44,11 +44,13 @@ negation Yes = No
 negation No = Yes
 negation Rejected = Rejected
 
+-- two numbers compare so, or one of them has no value
 abbrev pub relation_reads : Link → Comparison → NumberTree → NumberTree → List ℕ → ℕ → MatchResult
 relation_reads link c l r p n =
     reading_of (with (number link l p n)
     (λ x. with (number link r p n) (λ y. Some (compares c x y))))
 
+-- a number is one of some
 abbrev pub is_one_of : ℕ → List ℕ → Bool
 is_one_of x [] = false
 is_one_of x (v ∷ vs) = x == v || is_one_of x vs
@@ -92,10 +94,7 @@ sides (direction.One Destination) source destination = all_of destination
 sides (direction.Both Or) source destination = Either (all_of source) (all_of destination)
 sides (direction.Both And) source destination = Both (all_of source) (all_of destination)
 
--- several numbers on a side, or on either. The source is compared with the first alone before the
--- destination is looked at: so a packet that ends between the two is read as by tests of one number
--- after the other. After the destination the source is known not to be the first
-
+-- a field of which all bits count
 abbrev pub whole_field : Offset → Width → MaskedField
 whole_field offset width = record { offset = offset; width = width; mask = None }
 
@@ -108,6 +107,9 @@ without a (v ∷ vs) = if v == a then vs else v ∷ without a vs
 abbrev pub remaining : ℕ → List ℕ → List ℕ
 remaining first numbers = if nat_lt (length numbers) 2 then numbers else without first numbers
 
+-- several numbers on a side, or on either. The source is compared with the first alone before the
+-- destination is looked at: so a packet that ends between the two is read as by tests of one number
+-- after the other. After the destination the source is known not to be the first
 abbrev pub any_sides : Direction → Sides → ℕ → List ℕ → Formula
 any_sides (direction.One Source) at first numbers = Among (whole_field at.source at.width) numbers
 any_sides (direction.One Destination) at first numbers =

@@ -2,7 +2,7 @@
 
 ghost use Rattle.std.specs.Prelude.{◌≡◌, ◌≤◌, ◌<◌, ◌+◌, ◌++◌, length, take, drop, get_or};
 ghost use Rattle.flt_emit.specs.Formula.{whole_field, without, remaining};
-ghost use Rattle.flt_emit.specs.inside.Code.{emit_chain, emit_search, levels_of, emit_among};
+ghost use Rattle.flt_emit.specs.inside.Code.{emit_chain, emit_search, most_halvings, emit_among};
 ghost use Rattle.flt_emit.specs.inside.Emits.{Emits};
 
 use crate::code::{Code, Targets};
@@ -10,9 +10,10 @@ use crate::elementary::{MaskedField, Offset};
 use flt_bpf::operation::{Operand, Test, Width};
 use std::alloc::{AllocError, Allocator};
 
-/// How often numbers are halved at most: two aren't, since that would be one more test.
-fn levels_of(count: usize) -> usize
-    ensures { result ≡ levels_of count }
+/// How often numbers are halved at most. Two alone aren't, since that would be one more test; more
+/// are, down to one each, for which 16 times is enough (4,096 numbers take twelve).
+fn most_halvings(count: usize) -> usize
+    ensures { result ≡ most_halvings count }
 {
     if count < 3 { 0 } else { 16 }
 }
@@ -41,7 +42,7 @@ fn number_at(lower: &[u32], upper: &[u32], at: usize) -> u32
     }
 }
 
-/// Where a number stands first among others, or their end.
+/// The index at which a number stands first among others, or their count if it doesn't.
 #[tactic(auto, using(crate::proofs::Search::without_at))]
 fn place_of(number: u32, numbers: &[u32]) -> usize
     ensures upper_bound { result ≤ length numbers.now }
@@ -57,7 +58,7 @@ fn place_of(number: u32, numbers: &[u32]) -> usize
 }
 
 /// The numbers without `first`, the one that is first in the expression, in two slices, one after
-/// the other.
+/// the other. A number that is alone stays, so that one is left at least.
 fn remaining(first: u32, numbers: &[u32]) -> (&[u32], &[u32])
     ensures { result.0.now ++ result.1.now ≡ remaining first numbers.now }
 {
@@ -72,7 +73,8 @@ fn remaining(first: u32, numbers: &[u32]) -> (&[u32], &[u32])
 }
 
 impl<A: Allocator> Code<A> {
-    /// Whether A is one of some numbers, by one test after the other. There are few of them.
+    /// Emits whether A is one of some numbers, by one test after the other. Returns where the code
+    /// begins; of no number that is `to.no`. It calls itself for each: they are few.
     fn emit_chain(&mut self, values: &[u32], to: Targets) -> Result<usize, AllocError>
         ensures { Emits result (emit_chain values.now to.yes to.no self.old) self.new }
     {
@@ -87,33 +89,34 @@ impl<A: Allocator> Code<A> {
         }
     }
 
-    /// The same of numbers that ascend, by halves. They are in two slices, the second after the
-    /// first.
+    /// The same of numbers that ascend, halved at most `halvings` times. They are in two slices,
+    /// the second after the first.
     fn emit_search(
         &mut self,
-        levels: usize,
+        halvings: usize,
         lower: &[u32],
         upper: &[u32],
         to: Targets,
     ) -> Result<usize, AllocError>
         ensures { Emits result
-            (emit_search levels (lower.now ++ upper.now) to.yes to.no self.old) self.new }
+            (emit_search halvings (lower.now ++ upper.now) to.yes to.no self.old) self.new }
     {
         let count = lower.len() + upper.len();
-        if levels == 0 || count < 2 {
+        if halvings == 0 || count < 2 {
             let no = self.emit_chain(upper, to)?;
             return self.emit_chain(lower, Targets { yes: to.yes, no });
         }
         let half = count / 2;
         let cut = half.min(lower.len());
-        let yes = self.emit_search(levels - 1, &lower[cut..], &upper[half - cut..], to)?;
-        let no = self.emit_search(levels - 1, &lower[..cut], &upper[..half - cut], to)?;
+        let yes = self.emit_search(halvings - 1, &lower[cut..], &upper[half - cut..], to)?;
+        let no = self.emit_search(halvings - 1, &lower[..cut], &upper[..half - cut], to)?;
         let pivot = number_at(lower, upper, half);
         self.emit_branch(Test::AtLeast, Operand::Constant, pivot, Targets { yes, no })?;
         Ok(self.top())
     }
 
-    /// Whether a field is one of some numbers, which ascend. The result is where the code begins.
+    /// Emits whether a field is one of some numbers. There is one at least, and they ascend.
+    /// Returns where the code begins.
     pub fn emit_among(
         &mut self,
         field: MaskedField,
@@ -151,7 +154,8 @@ impl<A: Allocator> Code<A> {
         ensures { Emits result
             (emit_among field (lower.now ++ upper.now) to.yes to.no self.old) self.new }
     {
-        self.emit_search(levels_of(lower.len() + upper.len()), lower, upper, to)?;
+        // There is a number, so the search begins at `top()`, in front of which the load goes.
+        self.emit_search(most_halvings(lower.len() + upper.len()), lower, upper, to)?;
         self.emit_mask(field.mask)?;
         self.emit_field(field.offset, field.width)?;
         Ok(self.top())

@@ -31,7 +31,7 @@ impl<A: Allocator> Model for Code<A> {
     ghost view = { λ c. reverse c.backwards.items };
 }
 
-/// Where a test goes on.
+/// The places where a test goes on: if it holds, and if it doesn't.
 #[derive(Clone, Copy)]
 pub struct Targets {
     pub yes: usize,
@@ -68,7 +68,8 @@ impl<A: Allocator> Code<A> {
         self.backwards.len()
     }
 
-    /// How many instructions stand in front of a place. An error is a number that no test can skip.
+    /// How many instructions stand in front of a place: as many are skipped by a test that is put
+    /// in front and goes on there. An error is a number of more than 32 bits.
     fn distance(&self, place: usize) -> Result<u32, AllocError>
         ensures { IfOk result (λ skipped. skipped ≡ length self.now - place) }
     {
@@ -78,7 +79,7 @@ impl<A: Allocator> Code<A> {
         }
     }
 
-    /// An instruction in front that isn't a test.
+    /// Puts an instruction in front that isn't a test.
     pub fn emit_plain(&mut self, operation: Operation, k: u32) -> Result<(), AllocError>
         ensures { OnOk result (self.new ≡ plain operation k ∷ self.old) }
     {
@@ -91,7 +92,7 @@ impl<A: Allocator> Code<A> {
         Ok(())
     }
 
-    /// A test that goes on at one of two places.
+    /// Puts a test in front, which goes on at one of two places.
     pub fn emit_branch(
         &mut self,
         test: Test,

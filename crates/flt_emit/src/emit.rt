@@ -12,7 +12,7 @@ use flt_words::Comparison;
 use std::alloc::{AllocError, Allocator};
 
 impl<A: Allocator> Code<A> {
-    /// A field goes into A.
+    /// Emits the load of a field into A.
     pub fn emit_field(&mut self, offset: Offset, width: Width) -> Result<(), AllocError>
         ensures { OnOk result (self.new ≡ emit_field offset width self.old) }
     {
@@ -25,7 +25,7 @@ impl<A: Allocator> Code<A> {
         }
     }
 
-    /// Of A only the bits of a mask are left.
+    /// Emits the mask of A, if there is one: only its bits are left.
     pub fn emit_mask(&mut self, mask: Option<u32>) -> Result<(), AllocError>
         ensures { OnOk result (self.new ≡ emit_mask mask self.old) }
     {
@@ -38,8 +38,8 @@ impl<A: Allocator> Code<A> {
         }
     }
 
-    /// A comparison of A with an operand. The machine has three of the six; the others exchange
-    /// the targets.
+    /// Emits a comparison of A with an operand. The machine has three of the six; the others
+    /// exchange the targets.
     pub fn emit_comparison(
         &mut self,
         comparison: Comparison,
@@ -61,8 +61,8 @@ impl<A: Allocator> Code<A> {
         }
     }
 
-    /// One test. What the link type alone decides takes no code. The result is where the test
-    /// begins.
+    /// Emits one test. Returns where it begins: of one that the link type alone decides, which
+    /// takes no code, that is one of the targets.
     pub fn emit_elementary(&mut self, test: Elementary, to: Targets) -> Result<usize, AllocError>
         ensures { Emits result (emit_elementary test to.yes to.no self.old) self.new }
     {
@@ -78,7 +78,8 @@ impl<A: Allocator> Code<A> {
         }
     }
 
-    /// All of some tests. There are few of them.
+    /// Emits some tests that all have to hold. Returns where they begin; of no test that is
+    /// `to.yes`. It calls itself for each: they are few.
     pub fn emit_all(&mut self, tests: &[Elementary], to: Targets) -> Result<usize, AllocError>
         ensures { Emits result (emit_all tests.now to.yes to.no self.old) self.new }
     {

@@ -40,7 +40,7 @@ fn is_masked(at: u32, width: Width, mask: u32, value: u32) -> Elementary
     })
 }
 
-/// A field compares so with a number.
+/// The field at `offset` compares with a number as `comparison` says.
 pub fn compares_at(offset: Offset, width: Width, comparison: Comparison, value: u32) -> Elementary
     ensures { result ≡ compares_at offset width comparison value }
 {
@@ -105,14 +105,14 @@ pub fn first_fragment(link: Link) -> Elementary
     is_masked(network_offset(link) + 6, Width::HalfWord, 0x1fff, 0)
 }
 
-/// The protocol after an IPv4 header (RFC 791, section 3.1).
+/// The protocol that an IPv4 header names is this number (RFC 791, section 3.1).
 pub fn has_ip_proto(link: Link, protocol: u32) -> Elementary
     ensures { result ≡ has_ip_proto link protocol }
 {
     is_at(network_offset(link) + 9, Width::Byte, protocol)
 }
 
-/// The protocol after an IPv6 header (RFC 8200, section 3).
+/// The next header that an IPv6 header names is this number (RFC 8200, section 3).
 pub fn has_ip6_proto(link: Link, protocol: u32) -> Elementary
     ensures { result ≡ has_ip6_proto link protocol }
 {

@@ -36,7 +36,7 @@ use Rattle.flt_emit.specs.declared.elementary.Offset.{Offset}
 use Rattle.flt_emit.specs.declared.elementary.Offset.TheVariants.{Fixed, AfterHeader}
 use Rattle.flt_emit.specs.Numbers.{width_of}
 use Rattle.flt_emit.specs.Formula.{Formula, Single, Compare, Both, Either, Except, Among}
-use Rattle.flt_emit.specs.inside.Code.{plain, computation, takes, constant, constant_operand, branch_insn, emit_branch, emit_comparison, emit_field, emit_mask, emit_accessor, emit_number, Block, at_top, emit_chain, emit_search, levels_of, emit_elementary, emit_formula}
+use Rattle.flt_emit.specs.inside.Code.{plain, computation, takes, constant, constant_operand, branch_insn, emit_branch, emit_comparison, emit_field, emit_mask, emit_accessor, emit_number, Block, at_top, emit_chain, emit_search, most_halvings, emit_elementary, emit_formula}
 use Rattle.flt_gen.specs.inside.Counts.{words, nodes, tests}
 use Rattle.flt_gen.proofs.Ascending.{if_case}
 use Rattle.flt_gen.proofs.Codes.{code_is}
@@ -300,5 +300,5 @@ emitted_fits link (Either a b) hit miss c few s h m =
     (fits_on f.grows (emitted_fits link a hit e.entry e.code (omega arith) f.grows.sound (inside_on f.grows h) f.entry))
 emitted_fits link (Except a) hit miss c few s h m = emitted_fits link a miss hit c few s m h
 emitted_fits link (Among f vs) hit miss c few s h m =
-    let g = search_fits (levels_of (length vs)) vs hit miss c s h m in
+    let g = search_fits (most_halvings (length vs)) vs hit miss c s h m in
     fits_more _ _ (omega arith) (omega arith) (fits_top (field_grows f.offset f.width (mask_grows f.mask g.grows)))

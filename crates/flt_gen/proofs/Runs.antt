@@ -29,7 +29,7 @@ use Rattle.flt_emit.specs.declared.elementary.Elementary.TheVariants.{Outcome, F
 use Rattle.flt_emit.specs.Elementary.{MatchResult, Yes, No, Rejected, reading_of, with, compares, field_at, under_mask, field_reads, elementary_reads}
 use Rattle.flt_emit.specs.Numbers.{number}
 use Rattle.flt_emit.specs.Formula.{Formula, Single, Compare, Both, Either, Except, Among, is_one_of, among_reads, relation_reads, both, either, negation as exchanged, reads}
-use Rattle.flt_emit.specs.inside.Code.{plain, constant, branch_insn, emit_elementary, emit_branch, emit_comparison, emit_field, emit_mask, emit_test, emit_relation, Block, emit_chain, emit_search, levels_of, emit_among, emit_formula}
+use Rattle.flt_emit.specs.inside.Code.{plain, constant, branch_insn, emit_elementary, emit_branch, emit_comparison, emit_field, emit_mask, emit_test, emit_relation, Block, emit_chain, emit_search, most_halvings, emit_among, emit_formula}
 use Rattle.flt_gen.specs.inside.Counts.{words}
 use Rattle.flt_gen.proofs.Ascending.{if_case, Ascending, Searchable, Searches, searchable_ascends, ascending_take, ascending_drop, lower_half, upper_half}
 use Rattle.flt_gen.proofs.Codes.{run, run_plain}
@@ -184,15 +184,15 @@ module _ (p : List ℕ) (n : ℕ) where
       (λ few. absurd (let no : length (x ∷ y ∷ vs) < 2 = grind (arith, nat_tests) in omega arith))
       (λ many. omega arith)
 
-  search_tops : (a : ℕ) (vs : List ℕ) (hit miss v w : ℕ) (c : List Insn) → Searchable vs → Leads p n HasWords c hit v → Leads p n HasWords c miss w → Tops p n (Has a) (emit_search (levels_of (length vs)) vs hit miss c).code (if is_one_of a vs then v else w)
+  search_tops : (a : ℕ) (vs : List ℕ) (hit miss v w : ℕ) (c : List Insn) → Searchable vs → Leads p n HasWords c hit v → Leads p n HasWords c miss w → Tops p n (Has a) (emit_search (most_halvings (length vs)) vs hit miss c).code (if is_one_of a vs then v else w)
   search_tops a vs hit miss v w c up h m =
-      let e = emit_search (levels_of (length vs)) vs hit miss c in
-      let l = search_leads (levels_of (length vs)) a vs hit miss v w c (searchable_ascends vs up) (leads_in p n (λ s q. q.0) h) (leads_in p n (λ s q. q.0) m) in
-      λ s q. ap (λ k. answer_of e.code p n k s) (search_top (levels_of (length vs)) vs hit miss c up) ∙ l.by s q
+      let e = emit_search (most_halvings (length vs)) vs hit miss c in
+      let l = search_leads (most_halvings (length vs)) a vs hit miss v w c (searchable_ascends vs up) (leads_in p n (λ s q. q.0) h) (leads_in p n (λ s q. q.0) m) in
+      λ s q. ap (λ k. answer_of e.code p n k s) (search_top (most_halvings (length vs)) vs hit miss c up) ∙ l.by s q
 
   among_leads : (f : MaskedField) (vs : List ℕ) (hit miss v w : ℕ) (c : List Insn) → Searchable vs → Leads p n HasWords c hit v → Leads p n HasWords c miss w → Leads p n HasWords (emit_among f vs hit miss c).code (emit_among f vs hit miss c).entry (pick (among_reads f vs p) v w)
   among_leads f vs hit miss v w c up h m =
-      let e = emit_search (levels_of (length vs)) vs hit miss c in
+      let e = emit_search (most_halvings (length vs)) vs hit miss c in
       leads_top p n (emit_field f.offset f.width (emit_mask f.mask e.code)) (pick (among_reads f vs p) v w)
       (field_tops f.offset f.width (λ x. is_one_of (under_mask f.mask x) vs) (emit_mask f.mask e.code) v w (λ x. masked_tops f.mask e.code x _ (search_tops (under_mask f.mask x) vs hit miss v w c up h m)))
 

@@ -19,7 +19,7 @@ use Rattle.flt_emit.specs.declared.elementary.Elementary.{Elementary}
 use Rattle.flt_emit.specs.declared.elementary.Elementary.TheVariants.{Outcome, Field}
 use Rattle.flt_emit.specs.Numbers.{width_of}
 use Rattle.flt_emit.specs.Formula.{Formula, Single, Compare, Both, Either, Except, Among}
-use Rattle.flt_emit.specs.inside.Code.{plain, emit_branch, emit_comparison, emit_field, emit_mask, emit_accessor, constant, constant_operand, emit_right, emit_number, emit_relation, Block, emit_chain, emit_search, levels_of, emit_elementary, emit_formula}
+use Rattle.flt_emit.specs.inside.Code.{plain, emit_branch, emit_comparison, emit_field, emit_mask, emit_accessor, constant, constant_operand, emit_right, emit_number, emit_relation, Block, emit_chain, emit_search, most_halvings, emit_elementary, emit_formula}
 use Rattle.flt_bpf.specs.declared.operation.Operation.TheVariants.{Store}
 use Rattle.flt_bpf.specs.declared.operation.Register.TheVariants.{Accumulator}
 use Rattle.flt_gen.proofs.Ascending.{if_case}
@@ -121,4 +121,4 @@ emitted_extends link (Both a b) hit miss c =
 emitted_extends link (Either a b) hit miss c =
     let e = emit_formula link b hit miss c in extends_on (emitted_extends link b hit miss c) (emitted_extends link a hit e.entry e.code)
 emitted_extends link (Except a) hit miss c = emitted_extends link a miss hit c
-emitted_extends link (Among f vs) hit miss c = field_extends f.offset f.width c _ (mask_extends f.mask c _ (search_extends (levels_of (length vs)) vs hit miss c))
+emitted_extends link (Among f vs) hit miss c = field_extends f.offset f.width c _ (mask_extends f.mask c _ (search_extends (most_halvings (length vs)) vs hit miss c))

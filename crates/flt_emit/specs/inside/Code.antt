@@ -72,6 +72,7 @@ constant _ = None
 abbrev pub constant_operand : Operator → NumberTree → Option ℕ
 constant_operand operator r = with (constant r) (λ k. if takes operator k then Some k else None)
 
+-- a test that skips this many instructions if it holds, and this many if it doesn't
 abbrev pub branch_insn : Test → Operand → ℕ → ℕ → ℕ → Insn
 branch_insn test operand k jt jf = record {
   code = code_of (JumpIf test operand);
@@ -101,10 +102,12 @@ emit_field (Fixed k) width c = plain (LoadAbsolute width) k ∷ c
 emit_field (AfterHeader header k) width c =
     plain LoadHeaderLength header ∷ plain (LoadIndirect width) k ∷ c
 
+-- of A only the bits of a mask are left
 abbrev pub emit_mask : Option ℕ → List Insn → List Insn
 emit_mask None c = c
 emit_mask (Some mask) c = plain (Compute arithmetic.And Constant) mask ∷ c
 
+-- a test of a field
 abbrev pub emit_test : FieldTest → ℕ → ℕ → List Insn → List Insn
 emit_test t hit miss c =
     emit_field t.offset t.width (emit_mask t.mask
@@ -116,6 +119,7 @@ emit_transport link width c =
     plain LoadHeaderLength (network_offset link) ∷ plain (Compute arithmetic.Add IndexRegister) 0
     ∷ plain CopyToIndex 0 ∷ plain (LoadIndirect width) (network_offset link) ∷ c
 
+-- the field at a fixed place and the number in A goes into A
 abbrev pub emit_base : ℕ → Width → List Insn → List Insn
 emit_base at width c = plain CopyToIndex 0 ∷ plain (LoadIndirect width) at ∷ c
 
@@ -152,6 +156,7 @@ emit_number link (applied operator l r) slot c =
     (emit_number link r (slot + 1)
     (emit_operands slot (plain (computation operator IndexRegister) 0 ∷ c))))
 
+-- a comparison of two numbers
 abbrev pub emit_relation : Link → Comparison → NumberTree → NumberTree → ℕ → ℕ → List Insn
     → List Insn
 emit_relation link comparison l r hit miss c =
@@ -168,6 +173,7 @@ pub record Block : Type 0 where
 abbrev pub block : List Insn → ℕ → Block
 block c entry = record { code = c; entry = entry }
 
+-- code that is entered at its first instruction
 abbrev pub at_top : List Insn → Block
 at_top c = record { code = c; entry = length c }
 
@@ -198,15 +204,14 @@ emit_search (suc k) vs hit miss c =
     emit_halves (get_or vs (length vs / 2) 0)
     (emit_search k (take (length vs / 2) vs) hit miss upper.code) upper.entry)
 
--- how often numbers are halved at most
--- how often numbers are halved at most: two aren't, since that would be one more test
-abbrev pub levels_of : ℕ → ℕ
-levels_of count = if nat_lt count 3 then 0 else 16
+-- how often numbers are halved at most: two alone aren't, since that would be one more test
+abbrev pub most_halvings : ℕ → ℕ
+most_halvings count = if nat_lt count 3 then 0 else 16
 
--- whether a field is one of some numbers
+-- whether a field is one of some numbers, of which there is one at least
 abbrev pub emit_among : MaskedField → List ℕ → ℕ → ℕ → List Insn → Block
 emit_among f vs hit miss c =
-    at_top (emit_field f.offset f.width (emit_mask f.mask (emit_search (levels_of (length vs)) vs hit miss c).code))
+    at_top (emit_field f.offset f.width (emit_mask f.mask (emit_search (most_halvings (length vs)) vs hit miss c).code))
 
 -- the code of a formula that goes on at one of two places
 abbrev pub emit_formula : Link → Formula → ℕ → ℕ → List Insn → Block

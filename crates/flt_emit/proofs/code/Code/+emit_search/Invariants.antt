@@ -2,4 +2,4 @@
 use Rattle.flt_emit.proofs.code.Code.+emit_search.Given as goal
 
 abbrev pub decreases-emit_search : goal.decreases-emit_search
-decreases-emit_search g l = l.levels
+decreases-emit_search g l = l.halvings
