@@ -58,6 +58,7 @@ any_proto link n = Either (ip_proto link n) (ip6_proto link n)
 abbrev pub ether_proto : Link → ℕ → Formula
 ether_proto link n = Single (has_type link n)
 
+-- a protocol's keyword alone
 abbrev pub check_formula : Link → Protocol → Formula
 check_formula link protocol.Ether = Single (kind_test link Ethernet)
 check_formula link protocol.Ip = Single (kind_test link Ip)
@@ -69,6 +70,7 @@ check_formula link protocol.Udp = any_proto link IPPROTO_UDP
 check_formula link protocol.Icmp = ip_proto link IPPROTO_ICMP
 check_formula link protocol.Icmp6 = ip6_proto link IPPROTO_ICMPV6
 
+-- `proto N`, after a protocol or none
 abbrev pub proto_formula : Link → Option Protocol → ℕ → Formula
 proto_formula link (Some protocol.Ip) n = ip_proto link n
 proto_formula link (Some protocol.Ip6) n = ip6_proto link n
@@ -83,6 +85,7 @@ abbrev pub mac_tests : ℕ → ℕ → List Elementary
 mac_tests at address =
     is_at at Word (address / 2 ^ 16 % 2 ^ 32) ∷ is_at (at + 4) HalfWord (address % 2 ^ 16) ∷ []
 
+-- `ether host`: the source is at byte 6, the destination at byte 0
 abbrev pub ether_host : Link → Direction → ℕ → Formula
 ether_host link direction address =
     after (kind_test link Ethernet)
@@ -99,6 +102,7 @@ is_group_address =
       value = 0;
     })
 
+-- `broadcast` and `multicast`, after a protocol or none
 abbrev pub cast_formula : Link → Option Protocol → Cast → Formula
 cast_formula link None Broadcast = ether_host link (direction.One Destination) 0xffff_ffff_ffff
 cast_formula link (Some protocol.Ether) Broadcast =
@@ -120,6 +124,7 @@ cast_formula link (Some _) Multicast = Single (Outcome false)
 abbrev pub partial_mask : ℕ → Option ℕ
 partial_mask mask = if mask == 2 ^ 32 - 1 then None else Some mask
 
+-- the word at a place is an address, as far as the mask goes
 abbrev pub address_test : Option ℕ → ℕ → Offset → Elementary
 address_test mask address offset =
     Field (record {
@@ -139,6 +144,7 @@ abbrev pub destination_offset : FrameKind → ℕ
 destination_offset Ip = 16
 destination_offset _ = 24
 
+-- where both addresses of a header of a kind stand
 abbrev pub address_places : Link → FrameKind → Sides
 address_places link kind = record {
   width = Word;
@@ -157,6 +163,7 @@ hosts_sides link kind (hosts.Net net) numbers = net_tests (address_places link k
 hosts_sides link kind (hosts.Several direction first) numbers =
     any_sides direction (address_places link kind) first numbers
 
+-- hosts in a header of a kind
 abbrev pub hosts_of_kind : Link → FrameKind → Hosts → List ℕ → Formula
 hosts_of_kind link kind wanted numbers =
     after (kind_test link kind) (hosts_sides link kind wanted numbers)
@@ -166,6 +173,7 @@ any_hosts link wanted numbers =
     Either (hosts_of_kind link Ip wanted numbers)
     (Either (hosts_of_kind link Arp wanted numbers) (hosts_of_kind link Rarp wanted numbers))
 
+-- hosts of IPv4 in the headers that a protocol, or none, allows
 abbrev pub hosts_formula : Link → Option Protocol → Hosts → List ℕ → Formula
 hosts_formula link (Some protocol.Ip) wanted numbers = hosts_of_kind link Ip wanted numbers
 hosts_formula link (Some protocol.Arp) wanted numbers = hosts_of_kind link Arp wanted numbers
@@ -181,6 +189,7 @@ net_test direction mask address = record { direction = direction; mask = mask; a
 
 -- IPv6 addresses and networks: four words
 
+-- one of the four words of an IPv6 address, as far as the prefix goes
 abbrev pub ip6_test : Option ℕ → ℕ → ℕ → ℕ → Elementary
 ip6_test prefix address at word =
     address_test (with prefix (λ bits. partial_mask (first_bits 32 (bits - 32 * word))))
@@ -198,9 +207,11 @@ ip6_formula link direction prefix address =
 
 -- ports
 
+-- the port at a place is this one
 abbrev pub port_is : ℕ → Offset → List Elementary
 port_is n offset = compares_at offset HalfWord Equal n ∷ []
 
+-- the port at a place is in a range
 abbrev pub port_between : ℕ → ℕ → Offset → List Elementary
 port_between a b offset =
     compares_at offset HalfWord AtLeast a ∷ compares_at offset HalfWord AtMost b ∷ []
@@ -233,10 +244,12 @@ abbrev pub following : Option Elementary → Formula → Formula
 following None f = f
 following (Some t) f = after t f
 
+-- the ports after a header, which is no later fragment's
 abbrev pub ports_after : Transport → PortTest → List ℕ → Formula
 ports_after header wanted numbers =
     following header.whole (port_sides wanted.ports wanted.direction header numbers)
 
+-- the same after the protocol that is asked for
 abbrev pub transport_ports : Transport → PortTest → List ℕ → Formula
 transport_ports header wanted numbers =
     transport wanted.protocol header.tcp header.udp (ports_after header wanted numbers)

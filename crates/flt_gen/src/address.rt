@@ -68,7 +68,7 @@ fn address_test(mask: Option<u32>, address: u32, offset: Offset) -> Elementary
     })
 }
 
-/// Where both addresses of a header of a kind stand (RFC 791, RFC 826).
+/// Where both addresses of a header of a kind stand: IPv4 (RFC 791), or ARP and RARP (RFC 826).
 fn address_places(link: Link, kind: FrameKind) -> Sides
     ensures { result ≡ address_places link kind }
 {
@@ -84,7 +84,7 @@ fn address_places(link: Link, kind: FrameKind) -> Sides
     }
 }
 
-/// A mask of `bits` bits, of 32.
+/// The mask of a word whose first `bits` bits count, or all 32 if there are more.
 fn prefix_mask(bits: u32) -> u32
     ensures { result ≡ first_bits 32 bits }
 {
@@ -92,7 +92,8 @@ fn prefix_mask(bits: u32) -> u32
     (0x1_0000_0000 - 2u64.pow(others)) as u32
 }
 
-/// One of the four words of an IPv6 address that begins at a place.
+/// One of the four words (0 to 3) of the IPv6 address that begins at a place is that of `address`,
+/// as far as the prefix goes.
 fn ip6_test(prefix: Option<u32>, address: u128, at: u32, word: u32) -> Elementary
     requires { (at ≤ longest_header + 24) × (word ≤ 3) }
     ensures { result ≡ ip6_test prefix address at word }
@@ -105,6 +106,7 @@ fn ip6_test(prefix: Option<u32>, address: u128, at: u32, word: u32) -> Elementar
     address_test(mask, part as u32, Offset::Fixed(at + 4 * word))
 }
 
+/// The tests of all four words.
 fn ip6_tests(prefix: Option<u32>, address: u128, at: u32) -> [Elementary; 4]
     requires { at ≤ longest_header + 24 }
     ensures { result ≡ ip6_tests prefix address at }
@@ -117,7 +119,7 @@ fn ip6_tests(prefix: Option<u32>, address: u128, at: u32) -> [Elementary; 4]
     ]
 }
 
-/// A test of a word of which no bit counts: it is yes wherever the word is captured.
+/// Whether a test is of a word of which no bit counts, so that it is yes wherever that is captured.
 fn is_idle(test: Elementary) -> bool
     ensures { result ≡ is_idle test }
 {
@@ -194,8 +196,9 @@ impl<A: Allocator> Steps<A> {
         }
     }
 
-    /// All of some tests of words, each after the one before. One of which no bit counts is left
-    /// out in front of another: where its word isn't captured, no later one is.
+    /// Adds the steps of tests of words that all have to hold, each after the one before. One of
+    /// which no bit counts is left out in front of another: where its word isn't captured, no later
+    /// one is.
     fn check_words(&mut self, tests: &[Elementary]) -> Result<(), AllocError>
         ensures { OnOk result (IsPut (all_of (needed_tests tests.now)) self.old self.new) }
     {
@@ -246,6 +249,7 @@ impl<A: Allocator> Steps<A> {
             (IsPut (ip6_needed link direction prefix address) self.old self.new) }
     {
         let start = network_offset(link);
+        // The addresses stand at bytes 8 and 24 of the header (RFC 8200, section 3).
         let source = ip6_tests(prefix, address, start + 8);
         let destination = ip6_tests(prefix, address, start + 24);
         self.check(kind_test(link, FrameKind::Ip6))?;

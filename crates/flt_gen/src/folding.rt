@@ -11,7 +11,7 @@ use flt_bpf::compute;
 use flt_words::Operator;
 use std::alloc::{AllocError, Allocator};
 
-/// The number that a node is.
+/// The number that a node is, if it is one.
 fn node_constant(node: Node) -> Option<u32>
     ensures { result ≡ node_constant node }
 {
@@ -32,7 +32,8 @@ fn applied_constant(operator: Operator, left: Option<u32>, right: Option<u32>) -
     }
 }
 
-/// A negation, of a number the negative number.
+/// Pushes a negation: if the latest node is a number, which then is its operand, the negative
+/// number replaces it. In a tree each has an operand.
 fn push_negation<A: Allocator>(nodes: &mut Stack<Node, A>) -> Result<(), AllocError>
     ensures { OnOk result (nodes.new ≡ with_negation nodes.old) }
 {
@@ -48,7 +49,8 @@ fn push_negation<A: Allocator>(nodes: &mut Stack<Node, A>) -> Result<(), AllocEr
     }
 }
 
-/// An operator, of two numbers the number that it makes of them.
+/// Pushes an operator: if the two latest nodes are numbers, which then are its operands, the number
+/// that it makes of them replaces both. In a tree each has two operands.
 fn push_operator<A: Allocator>(
     nodes: &mut Stack<Node, A>,
     operator: Operator,
@@ -72,7 +74,7 @@ fn push_operator<A: Allocator>(
     }
 }
 
-/// One more node, of numbers alone as one number.
+/// Pushes one more node; arithmetic of numbers alone becomes one number.
 fn push_folded<A: Allocator>(nodes: &mut Stack<Node, A>, node: Node) -> Result<(), AllocError>
     ensures { OnOk result (nodes.new ≡ with_folded nodes.old node) }
 {

@@ -17,7 +17,8 @@ use flt_words::{Join, Protocol, Side, ValueType};
 use std::alloc::{AllocError, Allocator};
 use std::marker::Model;
 
-/// How many are looked for together at most.
+/// How many are looked for together at most: each is put in its place among the others, which takes
+/// time by their number.
 const MOST_TOGETHER: usize = 4096;
 
 /// Hosts or ports with the same protocol and direction: the address or number of the one that
@@ -45,6 +46,7 @@ impl<A: Allocator> Model for Group<A> {
     } };
 }
 
+/// Whether both are hosts or both ports: others aren't looked for together.
 fn same_type(one: ValueType, other: ValueType) -> bool
     ensures { result ≡ same_type one other }
 {
@@ -54,6 +56,8 @@ fn same_type(one: ValueType, other: ValueType) -> bool
     }
 }
 
+/// Whether both have no protocol, or the same of `ip`, `tcp` and `udp`. Any other counts as never
+/// the same: it isn't looked for together.
 fn same_protocol(one: Option<Protocol>, other: Option<Protocol>) -> bool
     ensures { result ≡ same_protocol one other }
 {
@@ -66,7 +70,8 @@ fn same_protocol(one: Option<Protocol>, other: Option<Protocol>) -> bool
     }
 }
 
-/// Those that ask for both sides at once are never the same.
+/// Whether both have the same direction. `src and dst` counts as never the same: it isn't looked
+/// for together.
 fn same_direction(one: Direction, other: Direction) -> bool
     ensures { result ≡ same_direction one other }
 {
@@ -78,7 +83,7 @@ fn same_direction(one: Direction, other: Direction) -> bool
     }
 }
 
-/// The address of a host of four parts, or the number of a port.
+/// The address of an IPv4 host, or the number of a port. `None`: it can't be a member.
 fn member_number(value_type: ValueType, value: Value) -> Option<u32>
     ensures { result ≡ member_number value_type value }
 {
@@ -89,7 +94,7 @@ fn member_number(value_type: ValueType, value: Value) -> Option<u32>
     }
 }
 
-/// Where a number comes among others that ascend.
+/// The index at which a number is put among others that ascend.
 fn place_among(numbers: &[u32], number: u32) -> usize
     ensures inside { result ≤ length numbers.now }
     ensures place { insert numbers.now result number ≡ insert_ascending number numbers.now }
@@ -103,6 +108,7 @@ fn place_among(numbers: &[u32], number: u32) -> usize
 }
 
 impl<A: Allocator> Group<A> {
+    /// A group without members.
     pub fn new(alloc: A) -> Self
         ensures { result ≡ no_group }
     {
@@ -115,6 +121,7 @@ impl<A: Allocator> Group<A> {
         }
     }
 
+    /// Leaves no member.
     pub fn clear(&mut self)
         ensures { self.new ≡ no_group }
     {
@@ -132,6 +139,8 @@ impl<A: Allocator> Group<A> {
         &self.numbers
     }
 
+    /// Whether a value with these qualifiers may join the members: any may if there are none, else
+    /// one with the same, while there are fewer than `MOST_TOGETHER`.
     fn goes_with(&self, qualifiers: CompleteQualifiers) -> bool
         ensures { result ≡ goes_with qualifiers self.now self.now.numbers }
     {
@@ -142,7 +151,8 @@ impl<A: Allocator> Group<A> {
                         && self.numbers.len() < MOST_TOGETHER)))
     }
 
-    /// A member in front of the others, if it goes with them. The result is whether it does.
+    /// Adds a member, which stands in front of the others in the expression, if it goes with them.
+    /// Returns whether it does.
     pub fn add(&mut self, qualifiers: CompleteQualifiers, value: Value) -> Result<bool, AllocError>
         ensures taken { IfOk result (λ taken. larger_group qualifiers value self.old
             ≡ (if taken then Some self.new else None)) }
@@ -162,7 +172,7 @@ impl<A: Allocator> Group<A> {
         }
     }
 
-    /// The steps of its members, which are looked for together. The steps have their numbers.
+    /// Adds the steps that look for its members together. `steps` has their numbers.
     pub fn put(&self, link: Link, steps: &mut Steps<A>) -> Result<(), AllocError>
         requires { steps.old.numbers ≡ self.now.numbers }
         ensures { OnOk result (IsPut (group_formula link self.now) steps.old steps.new) }
@@ -185,6 +195,7 @@ impl<A: Allocator> Group<A> {
                     PortTest::new(protocol, direction, Ports::Several(first)),
                 )
             }
+            // No other type has members.
             _ => steps.check(Elementary::Outcome(false)),
         }
     }

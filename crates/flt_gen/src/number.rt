@@ -52,7 +52,7 @@ pub fn takes(operator: Operator, constant: u32) -> bool
     }
 }
 
-/// How much an accessor reads of which the size in bytes is written: 1, 2 or 4.
+/// How much an accessor reads, by the size in bytes that is written in it: 1, 2 or 4.
 pub fn width_of(size: u32) -> Width
     ensures { result ≡ width_of size }
 {
@@ -63,7 +63,7 @@ pub fn width_of(size: u32) -> Width
     }
 }
 
-/// The left operand comes back from its word into A, and the right one goes into X.
+/// Emits that the right operand goes from A into X, and the left one from its word into A.
 pub fn emit_operands<A: Allocator>(code: &mut Code<A>, slot: u32) -> Result<(), AllocError>
     ensures { OnOk result (code.new ≡ emit_operands slot code.old) }
 {
@@ -94,7 +94,7 @@ fn emit_transport<A: Allocator>(
     code.emit_plain(Operation::LoadHeaderLength, start)
 }
 
-/// An accessor's field goes into A, where its index is.
+/// Emits the load of an accessor's field into A, where its index is.
 pub fn emit_accessor<A: Allocator>(
     code: &mut Code<A>,
     link: Link,
@@ -110,7 +110,7 @@ pub fn emit_accessor<A: Allocator>(
     }
 }
 
-/// What must hold of a packet before a protocol's bytes are read.
+/// Emits what must hold of a packet before a protocol's bytes are read. Returns where that begins.
 fn emit_accessor_tests<A: Allocator>(
     code: &mut Code<A>,
     link: Link,
@@ -135,7 +135,8 @@ fn emit_accessor_tests<A: Allocator>(
     }
 }
 
-/// The tests of accessors, of which the one whose word stands last comes first here.
+/// Emits the tests of accessors' protocols, of which that of the last word comes first here.
+/// Returns where they begin.
 pub fn emit_accessors<A: Allocator>(
     code: &mut Code<A>,
     link: Link,

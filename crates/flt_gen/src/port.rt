@@ -75,6 +75,7 @@ fn ip_transport(link: Link) -> Transport
     }
 }
 
+/// An IPv6 header has 40 bytes, and the ports follow it.
 fn ip6_transport(link: Link) -> Transport
     ensures { result ≡ ip6_transport link }
 {
@@ -88,14 +89,14 @@ fn ip6_transport(link: Link) -> Transport
     }
 }
 
-/// A port at a place.
+/// The port at a place is this one.
 fn port_is(port: u32, offset: Offset) -> [Elementary; 1]
     ensures { result ≡ port_is port offset }
 {
     [compares_at(offset, Width::HalfWord, Comparison::Equal, port)]
 }
 
-/// A port at a place that is in a range.
+/// The port at a place is in a range.
 fn port_between(first: u32, last: u32, offset: Offset) -> [Elementary; 2]
     ensures { result ≡ port_between first last offset }
 {
@@ -108,7 +109,7 @@ fn port_between(first: u32, last: u32, offset: Offset) -> [Elementary; 2]
 impl<A: Allocator> Steps<A> {
     ghost use Rattle.flt_gen.specs.inside.Steps.{IsPut};
 
-    /// The source port at one place, the destination port at another.
+    /// The ports of a header, on the sides that are asked for.
     fn put_port_sides(&mut self, header: Transport, wanted: PortTest) -> Result<(), AllocError>
         ensures { OnOk result (IsPut
             (port_sides wanted.ports wanted.direction header self.old.numbers) self.old self.new) }

@@ -46,12 +46,14 @@ fn is_group_address() -> Elementary
 impl<A: Allocator> Steps<A> {
     ghost use Rattle.flt_gen.specs.inside.Steps.{IsPut};
 
+    /// IPv4, with this protocol.
     fn put_ip_proto(&mut self, link: Link, protocol: u32) -> Result<(), AllocError>
         ensures { OnOk result (IsPut (ip_proto link protocol) self.old self.new) }
     {
         self.check_all(&[kind_test(link, FrameKind::Ip), has_ip_proto(link, protocol)])
     }
 
+    /// IPv6, with this next header. Extension headers aren't looked past.
     fn put_ip6_proto(&mut self, link: Link, protocol: u32) -> Result<(), AllocError>
         ensures { OnOk result (IsPut (ip6_proto link protocol) self.old self.new) }
     {
@@ -61,6 +63,7 @@ impl<A: Allocator> Steps<A> {
         ])
     }
 
+    /// Either of both.
     fn put_any_proto(&mut self, link: Link, protocol: u32) -> Result<(), AllocError>
         ensures { OnOk result (IsPut (any_proto link protocol) self.old self.new) }
     {
@@ -69,7 +72,7 @@ impl<A: Allocator> Steps<A> {
         self.join(Join::Or)
     }
 
-    /// A protocol alone.
+    /// A protocol's keyword alone, as `tcp` or `arp`.
     pub fn put_check(&mut self, link: Link, protocol: Protocol) -> Result<(), AllocError>
         ensures { OnOk result (IsPut (check_formula link protocol) self.old self.new) }
     {
@@ -86,7 +89,8 @@ impl<A: Allocator> Steps<A> {
         }
     }
 
-    /// `proto N`.
+    /// `proto N`, after the protocol `below`, whose header names N: `ip`, `ip6`, `ether`, or none
+    /// for either of IPv4 and IPv6.
     pub fn put_proto(
         &mut self,
         link: Link,
@@ -138,13 +142,13 @@ impl<A: Allocator> Steps<A> {
                 self.check_all(&[kind_test(link, FrameKind::Ethernet), is_group_address()])
             }
             (Cast::Multicast, Some(Protocol::Ip)) => {
-                // The first byte of the destination address.
+                // The first byte of the destination address: groups begin at 224.0.0.0.
                 let first = Offset::Fixed(network_offset(link) + 16);
                 let is_high = compares_at(first, Width::Byte, Comparison::AtLeast, 224);
                 self.check_all(&[kind_test(link, FrameKind::Ip), is_high])
             }
             (Cast::Multicast, Some(Protocol::Ip6)) => {
-                // The same of an IPv6 header.
+                // The same of an IPv6 header: groups are ff00::/8.
                 let is_high = is_at(network_offset(link) + 24, Width::Byte, 255);
                 self.check_all(&[kind_test(link, FrameKind::Ip6), is_high])
             }

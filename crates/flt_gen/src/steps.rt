@@ -5,8 +5,9 @@
 //!
 //!     IPv4?  protocol 6?  and  IPv6?  next header 6?  and  or
 //!
-//! The files beside this one put the rows of the table of primitives into steps; the walk emits
-//! their code, from the last one to the first.
+//! The files beside this one put the rows of the table of primitives into steps: a function
+//! `put_..` adds the steps of the formula that its clause names. The walk emits their code, from the
+//! last one to the first.
 
 ghost use Rattle.std.specs.Prelude.{◌≡◌, [], OnOk, IfOk, MatchOption};
 ghost use Rattle.flt_emit.specs.Formula.{Single, Among, all_of, sides, any_sides, remaining};
@@ -55,7 +56,7 @@ impl<A: Allocator> Steps<A> {
         &self.numbers
     }
 
-    /// The last step is taken out.
+    /// Takes the last step out.
     pub fn pop(&mut self) -> Option<Step>
         ensures { MatchOption result ((self.old.steps ≡ []) × (self.new ≡ self.old))
             (λ step. self.old ≡ with_step step self.new) }
@@ -153,6 +154,7 @@ impl<A: Allocator> Steps<A> {
                 self.join(Join::Or)?;
                 self.join(Join::Or)
             }
+            // Several numbers never have this direction (`same_direction` of group.rt).
             Direction::Both(Join::And) => self.check(Elementary::Outcome(false)),
         }
     }

@@ -79,7 +79,7 @@ impl<T: Drop, A: Allocator> Stack<T, A> {
         &self.entries
     }
 
-    /// No entry is left.
+    /// Leaves no entry.
     pub fn clear(&mut self)
         ensures { self.new ≡ [] }
     {
@@ -95,6 +95,7 @@ impl<T: Drop, A: Allocator> Stack<T, A> {
     }
 }
 
+/// Whether two protocols are the same.
 fn equals(one: Protocol, other: Protocol) -> bool
     ensures { result ≡ equals one other }
 {
@@ -112,7 +113,8 @@ fn equals(one: Protocol, other: Protocol) -> bool
     }
 }
 
-/// A protocol is left out. There are few entries, since each protocol stands once.
+/// Takes a protocol out of the list, wherever it stands. It calls itself for each entry: they are
+/// few, since each protocol stands once.
 fn leave_out<A: Allocator>(
     protocols: &mut Stack<Protocol, A>,
     protocol: Protocol,
@@ -129,7 +131,7 @@ fn leave_out<A: Allocator>(
     protocols.push(latest)
 }
 
-/// A protocol of an accessor, in front of those that come later. It stands once.
+/// Puts the protocol of an accessor in front of those of later words, among which it is left out.
 pub fn add_accessor<A: Allocator>(
     protocols: &mut Stack<Protocol, A>,
     protocol: Protocol,

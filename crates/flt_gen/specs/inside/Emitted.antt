@@ -74,6 +74,7 @@ abbrev pub capture_test : Elementary → Elementary
 capture_test (Outcome b) = Outcome b
 capture_test (Field t) = Field (record t { mask = None; comparison = AtLeast; value = 0 })
 
+-- the last test of some words: an idle one only asks whether its word is captured
 abbrev pub last_test : Elementary → Elementary
 last_test t = if is_idle t then capture_test t else t
 
@@ -89,12 +90,14 @@ abbrev pub needed_sides : Direction → List Elementary → List Elementary → 
 needed_sides direction source destination =
     sides direction (needed_tests source) (needed_tests destination)
 
+-- `host` and `net` of IPv6
 abbrev pub ip6_needed : Link → Direction → Option ℕ → ℕ → Formula
 ip6_needed link direction prefix address =
     after (kind_test link kind.Ip6)
     (needed_sides direction (ip6_tests prefix address (network_offset link + 8))
     (ip6_tests prefix address (network_offset link + 24)))
 
+-- `net` with a network of IPv4 or IPv6
 abbrev pub net_needed : Link → Option Protocol → Direction → Value → Formula
 net_needed link protocol direction (value.Ip6 address prefix) =
     ip6_needed link direction prefix address

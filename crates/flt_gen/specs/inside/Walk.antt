@@ -143,15 +143,18 @@ finish_group link w group next.Or = record w { group = group; pending = next.Not
 finish_group link w group next.Nothing =
     finish_formula link (group_formula link group) (record w { group = no_group })
 
+-- a value with its qualifiers: a member of the group, if there is such a group, or else on its own
 abbrev pub emit_value : Link → CompleteQualifiers → Value → Walk → Option Group → Walk
 emit_value link q v w None = finish_formula link (qualified_needed link q v) (flush_group link w)
 emit_value link q v w (Some group) = finish_group link w group w.pending
 
+-- an operator between two truths
 abbrev pub emit_join : Link → Join → Walk → Walk
 emit_join link Or w = record (begin_right w.pending w) { pending = next.Or }
 emit_join link And w =
     let v = flush_group link w in record v { truths = record { join = And; to = v.to } ∷ v.truths }
 
+-- a primitive or a negation
 abbrev pub emit_truth_node : Link → Walk → Node → Walk
 emit_truth_node link w (node.Check protocol) = finish_formula link (check_formula link protocol) w
 emit_truth_node link w (node.Cast protocol c) = finish_formula link (cast_formula link protocol c) w
