@@ -6,8 +6,8 @@
 //!     IPv4?  protocol 6?  and  IPv6?  next header 6?  and  or
 //!
 //! The files beside this one put the rows of the table of primitives into steps: a function
-//! `put_..` adds the steps of the formula that its clause names. The walk emits their code, from the
-//! last one to the first.
+//! `put_..` adds the steps of the formula that its clause names. The walk emits their code, from
+//! the last one to the first.
 
 ghost use Rattle.std.specs.Prelude.{◌≡◌, [], OnOk, IfOk, MatchOption};
 ghost use Rattle.flt_emit.specs.Formula.{Single, Among, all_of, sides, any_sides, remaining};

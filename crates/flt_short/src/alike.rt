@@ -1,4 +1,5 @@
-//! Whether a program does what an old one does: instruction by instruction, with what is read.
+//! Whether a program does what an old one does: instruction by instruction, with what is read. What
+//! an operation reads and sets `flt_opt` has too, which compares by notes; this crate stands alone.
 
 ghost use Rattle.std.specs.Prelude.{◌≡◌, ◌≢◌, ◌↔◌, ◌-◌, ◌==◌, ◌&&◌, nat_lt, length, IsTrue, All};
 ghost use Rattle.flt_bpf.specs.Instructions.{operation_of};
@@ -27,7 +28,7 @@ pub struct Landing {
     pub index: bool,
 }
 
-/// An operation reads A.
+/// Whether an operation reads A.
 pub fn reads_accumulator(operation: Operation) -> bool
     ensures { result ≡ reads_accumulator operation }
 {
@@ -42,7 +43,7 @@ pub fn reads_accumulator(operation: Operation) -> bool
     )
 }
 
-/// It reads X.
+/// Whether an operation reads X.
 pub fn reads_index(operation: Operation) -> bool
     ensures { result ≡ reads_index operation }
 {
@@ -56,7 +57,7 @@ pub fn reads_index(operation: Operation) -> bool
     )
 }
 
-/// It puts something into A.
+/// Whether an operation puts something into A.
 pub fn sets_accumulator(operation: Operation) -> bool
     ensures { result ≡ sets_accumulator operation }
 {
@@ -71,7 +72,7 @@ pub fn sets_accumulator(operation: Operation) -> bool
     )
 }
 
-/// It puts something into X.
+/// Whether an operation puts something into X.
 pub fn sets_index(operation: Operation) -> bool
     ensures { result ≡ sets_index operation }
 {
@@ -81,22 +82,25 @@ pub fn sets_index(operation: Operation) -> bool
     )
 }
 
+/// Whether `other` holds if `one` does.
 fn implied(one: bool, other: bool) -> bool
     ensures { result ≡ implies one other }
 {
     if one { other } else { true }
 }
 
-/// How far a way leads: in the old program, of which the landings after an instruction are given,
-/// and in the new one, after the instruction at a place.
+/// How far a way leads in both programs, each after an instruction.
 #[derive(Clone, Copy)]
 struct Way {
+    /// How many instructions it skips in the old program: an index of the landings after that one.
     pub old: usize,
+    /// How many it skips in the new program.
     pub new: usize,
+    /// The place of the new program's instruction.
     pub place: usize,
 }
 
-/// The way in the new program leads to a place.
+/// Whether the way in the new program leads to a place.
 fn leads_to(way: Way, place: usize) -> bool
     ensures { result ≡ ((nat_lt 0 place && nat_lt place way.place)
         && way.place - place - 1 == way.new) }
@@ -104,7 +108,8 @@ fn leads_to(way: Way, place: usize) -> bool
     (0 < place && place < way.place) && way.place - place - 1 == way.new
 }
 
-/// Both ways lead to one landing, and what is read there is the same in both programs.
+/// Whether both ways lead to one landing, and what is read there is the same in both programs.
+/// `accumulator` and `index` are whether A and X are.
 fn fits(following: &[Landing], way: Way, accumulator: bool, index: bool) -> bool
     ensures { result ≡ landing_fits following.now way.old way.new way.place accumulator index }
 {
@@ -117,7 +122,7 @@ fn fits(following: &[Landing], way: Way, accumulator: bool, index: bool) -> bool
     }
 }
 
-/// Both programs go on alike after an instruction that both have.
+/// Whether both programs go on alike after an instruction that both have.
 fn goes_on(
     operation: Operation,
     new: Wide,
@@ -161,7 +166,7 @@ fn goes_on(
     }
 }
 
-/// The instruction of the new program is that of the old one.
+/// Whether the instruction of the new program is that of the old one, and both go on alike.
 #[tactic(auto, unfolding(crate::specs::inside::Alike::same_step))]
 fn same_step(new: Wide, landing: Landing, old: Wide, following: &[Landing]) -> bool
     ensures { result ≡ same_step (operation_of old.code) new landing old following.now }
@@ -177,7 +182,7 @@ fn same_step(new: Wide, landing: Landing, old: Wide, following: &[Landing]) -> b
     }
 }
 
-/// A test of bits means a mask, and a test of whether what is left is 0.
+/// Whether a test of bits means a mask, and a test of whether what is left is 0.
 fn tests_bits(new: Wide, mask: Wide, test: Wide) -> bool
     ensures { result ≡ ((mask.code == MASK && test.code == EQUAL)
         && (test.k == 0 && (new.code == ANY_BIT && mask.k == new.k))) }
@@ -189,7 +194,8 @@ fn tests_bits(new: Wide, mask: Wide, test: Wide) -> bool
                 && mask.k == new.k))
 }
 
-/// It is one test of bits for a mask and a test of what is left for 0.
+/// Whether the new program has one test of bits for a mask and a test of what is left for 0, after
+/// which A isn't read.
 #[tactic(auto, unfolding(crate::specs::inside::Alike::one_test))]
 fn one_test(new: Wide, landing: Landing, old: Wide, after: &[Wide], following: &[Landing]) -> bool
     ensures { result ≡ one_test new landing old after.now following.now }
@@ -216,7 +222,7 @@ fn one_test(new: Wide, landing: Landing, old: Wide, after: &[Wide], following: &
     }
 }
 
-/// The code of a load at a fixed place is as wide as the one at X.
+/// Whether `code` is that of the load at a fixed place that is as wide as this one at X.
 fn is_direct(indirect: u16, code: u16) -> bool
     ensures { result ≡ is_number (direct_code (operation_of indirect)) code }
 {
@@ -226,7 +232,8 @@ fn is_direct(indirect: u16, code: u16) -> bool
     }
 }
 
-/// It is one load for a number that goes to X by A, and a load at X.
+/// Whether the new program has one load for a number that goes to X by A, and a load at X, after
+/// which X isn't read.
 #[tactic(auto, unfolding(crate::specs::inside::Alike::direct_load))]
 fn direct_load(
     new: Wide,
@@ -254,7 +261,7 @@ fn direct_load(
     }
 }
 
-/// A number and the header length are added in A, and the sum goes to X.
+/// Whether a number and the header length are added in A, and the sum goes to X.
 pub fn adds_header(number: Wide, length: Wide, add: Wide, to_index: Wide) -> bool
     ensures { result ≡ adds_header number length add to_index }
 {
@@ -264,7 +271,7 @@ pub fn adds_header(number: Wide, length: Wide, add: Wide, to_index: Wide) -> boo
             && to_index.code == Operation::CopyToIndex.code())
 }
 
-/// Two loads are the same header's length, and as many bytes past X.
+/// Whether both pairs load the same header's length, and then equally many bytes at X.
 fn loads_alike(old_length: Wide, new_length: Wide, old_load: Wide, new_load: Wide) -> bool
     ensures { result ≡ loads_alike old_length new_length old_load new_load }
 {
@@ -272,15 +279,15 @@ fn loads_alike(old_length: Wide, new_length: Wide, old_load: Wide, new_load: Wid
         && (is_indirect(old_load.code) && old_load.code == new_load.code)
 }
 
-/// The code is that of a load at X.
+/// Whether a code is that of a load at X.
 pub fn is_indirect(code: u16) -> bool
     ensures { result ≡ is_indirect (operation_of code) }
 {
     matches!(decode(code), Some(Operation::LoadIndirect(_)))
 }
 
-/// They are the header length and a load after it, for a number, the header length, their sum that
-/// goes to X by A, and a load at X.
+/// Whether the new program has the header length and a load after it, for a number, the header
+/// length, their sum that goes to X by A, and a load at X, after which X isn't read.
 #[tactic(auto, unfolding(crate::specs::inside::Alike::header_load))]
 fn header_load(
     new: &[Wide],
@@ -307,7 +314,8 @@ fn header_load(
     }
 }
 
-/// The code does at a landing, if it is one, what an instruction and those after it do.
+/// Whether the code does at a landing, if it is one, what an instruction and those after it do, by
+/// one of four rules.
 fn stands(code: &[Wide], landing: Landing, old: Wide, after: &[Wide], following: &[Landing]) -> bool
     ensures { result ≡ stands code.now landing old after.now following.now }
 {
@@ -330,7 +338,7 @@ fn stands(code: &[Wide], landing: Landing, old: Wide, after: &[Wide], following:
     }
 }
 
-/// The code does at each landing what the old code does there.
+/// Whether the code does at each landing what the old code does there.
 fn are_alike(code: &[Wide], old: &[Wide], landings: &[Landing]) -> bool
     requires { length landings.now ≡ length old.now }
     ensures { result ≡ are_alike code.now old.now landings.now }
@@ -347,7 +355,7 @@ fn are_alike(code: &[Wide], old: &[Wide], landings: &[Landing]) -> bool
     true
 }
 
-/// The first landing is where the code begins.
+/// Whether the first landing is where the code begins.
 fn begins(landings: &[Landing], len: usize) -> bool
     ensures { result ≡ begins landings.now len }
 {
@@ -357,14 +365,15 @@ fn begins(landings: &[Landing], len: usize) -> bool
     }
 }
 
+/// Whether no instruction is a jump (`ja` has the code 5).
 fn has_no_jump(code: &[Wide]) -> bool
     ensures { IsTrue result ↔ All (λ i. i.code ≢ JUMP) code.now }
 {
     code.iter().all(|insn| insn.code != 5)
 }
 
-/// A program may replace an old one: it does the same by its landings, breaks no rule, has no more
-/// instructions and no more tests, and has no jump.
+/// Whether a program is seen to replace an old one: it does the same by its landings, breaks no
+/// rule, has no more instructions and no more tests, and has no jump. A no says nothing.
 pub fn replaces(code: &[Wide], old: &[Wide], landings: &[Landing]) -> bool
     ensures { IsTrue result → Shortens code.now old.now }
 {

@@ -6,7 +6,8 @@ ghost use Rattle.flt_short.specs.inside.Arrivals.{at_start};
 
 use crate::facts::{Known, joined, nothing_known, unreached};
 
-/// Of how many places at a time is kept what is known there.
+/// Of how many places at a time is kept what is known there: on the stack, since the pass takes no
+/// memory. Few expressions lead to more.
 pub const MOST_PLACES: usize = 8;
 
 /// What is known in the runs that go on at a place, of those seen so far.
@@ -19,7 +20,7 @@ pub struct Arrival {
 /// What is known where runs go on.
 #[derive(Drop)]
 pub struct Arrivals {
-    /// Of these places; one that is passed gives way to another.
+    /// What is known at each of these places. One that is passed gives way to another.
     pub kept: [Arrival; MOST_PLACES],
     /// Of a place in front of this one that isn't kept nothing is known: a run found no room.
     pub unknown_end: usize,

@@ -19,7 +19,7 @@ ghost use Rattle.flt_short.specs.inside.Facts.{known_by, known_by_test, nothing_
 use flt_bpf::Wide;
 use flt_bpf::operation::{AluOperation, Operand, Operation, Register, Test, decode};
 
-/// How many facts are kept at a place.
+/// How many facts are kept at a place. One more takes the place of another (`place_for`).
 pub const MOST_FACTS: usize = 5;
 
 /// A number of the packet: what the load with this code and this number puts into A, and of that
@@ -40,7 +40,7 @@ pub enum Claim {
     IsOneOf(u32, u32),
 }
 
-/// A field is captured, and its number is as claimed; or nothing is claimed.
+/// A field is captured, and its number is as claimed. With `Nothing` neither is claimed.
 #[derive(Clone, Copy)]
 pub struct Fact {
     pub field: Field,
@@ -69,13 +69,14 @@ pub struct Known {
     pub facts: [Fact; MOST_FACTS],
 }
 
-/// Nothing is claimed of this.
+/// The field of a fact that claims nothing.
 const NO_FIELD: Field = Field {
     code: 0,
     k: 0,
     mask: None,
 };
 
+/// A fact that claims nothing.
 fn nothing_claimed() -> Fact
     ensures { result ≡ nothing_claimed }
 {
@@ -128,7 +129,7 @@ fn is_nothing(claim: Claim) -> bool
     matches!(claim, Claim::Nothing)
 }
 
-/// A number is as claimed.
+/// Whether a number is as claimed.
 fn allows(claim: Claim, number: u32) -> bool
     ensures { result ≡ allows claim number }
 {
@@ -140,7 +141,7 @@ fn allows(claim: Claim, number: u32) -> bool
     }
 }
 
-/// A claim is that it isn't this number.
+/// Whether a claim is that it isn't this number.
 fn is_not(claim: Claim, number: u32) -> bool
     ensures { result ≡ is_not claim number }
 {
@@ -150,7 +151,7 @@ fn is_not(claim: Claim, number: u32) -> bool
     }
 }
 
-/// What is as one claim says is as the other one says.
+/// Whether the other claim holds of each number of which this one holds.
 fn entails(claim: Claim, other: Claim) -> bool
     ensures { result ≡ entails claim other }
 {
@@ -276,7 +277,7 @@ pub fn joined(known: &Known, came: &Known) -> Known
     }
 }
 
-/// What a claim says of the test whether the number is this one.
+/// The outcome that a claim gives to the test whether the number is this one, if it decides that.
 fn says(claim: Claim, number: u32) -> Option<bool>
     ensures { result ≡ says claim number }
 {
@@ -292,7 +293,7 @@ fn says(claim: Claim, number: u32) -> Option<bool>
     }
 }
 
-/// The outcome of the test whether a field is a number.
+/// The outcome of the test whether a field is a number, if a fact decides it.
 pub fn decided(facts: &[Fact], field: Field, number: u32) -> Option<bool>
     ensures { result ≡ decided facts.now field number }
 {
@@ -310,7 +311,7 @@ pub fn decided(facts: &[Fact], field: Field, number: u32) -> Option<bool>
     }
 }
 
-/// The two numbers of which a field is one.
+/// The two numbers of which a field is one, if a fact says so.
 pub fn one_of(facts: &[Fact], field: Field) -> Option<(u32, u32)>
     ensures { result ≡ one_of facts.now field }
 {
@@ -328,14 +329,14 @@ pub fn one_of(facts: &[Fact], field: Field) -> Option<(u32, u32)>
     }
 }
 
-/// The old fact says nothing, or nothing that the new one doesn't.
+/// Whether an old fact says nothing, or nothing that the new one doesn't.
 fn gives_way(old: Fact, fact: Fact) -> bool
     ensures { result ≡ gives_way old fact }
 {
     is_nothing(old.claim) || (same_field(old.field, fact.field) && entails(fact.claim, old.claim))
 }
 
-/// Where one more fact goes: the place of one that gives way, or the last.
+/// The index where one more fact goes: of one that gives way, or else of the last.
 fn place_for(facts: &[Fact], fact: Fact) -> usize
     ensures place { result ≡ place_for facts.now fact }
     ensures upper_bound { result ≤ length facts.now }
@@ -352,13 +353,15 @@ fn place_for(facts: &[Fact], fact: Fact) -> usize
     }
 }
 
-/// One more fact.
+/// What is known with one more fact: it takes the place of one that gives way to it, else that of
+/// the last one, which is lost.
 pub fn with_fact(known: &Known, field: Field, claim: Claim) -> Known
     ensures { result ≡ with_fact known.now field claim }
 {
     let fact = Fact { field, claim };
     let at = place_for(&known.facts, fact);
     let mut facts = known.facts;
+    // It always is: `place_for` returns an index of the facts where there are some.
     if at < MOST_FACTS {
         facts[at] = fact;
     }
@@ -369,7 +372,7 @@ pub fn with_fact(known: &Known, field: Field, claim: Claim) -> Known
     }
 }
 
-/// By a fact the bytes that a load takes are captured.
+/// Whether by a fact the bytes that a load takes are captured.
 fn captures(fact: Fact, code: u16, k: u32) -> bool
     ensures { result ≡ captures fact code k }
 {
@@ -394,14 +397,14 @@ fn holds_field(held: Held, code: u16, k: u32) -> bool
     }
 }
 
-/// The bytes that a load takes are captured.
+/// Whether the bytes that a load takes are captured, by what A holds or by a fact.
 pub fn is_captured(known: &Known, code: u16, k: u32) -> bool
     ensures { result ≡ is_captured known.now code k }
 {
     holds_field(known.held, code, k) || any_captures(&known.facts, code, k)
 }
 
-/// The bits of a mask of a field, if none is masked yet.
+/// A field under a mask, if it has none yet: two masks aren't kept.
 pub fn masked_field(field: Field, mask: u32) -> Option<Field>
     ensures { result ≡ masked_field field mask }
 {
@@ -415,6 +418,7 @@ pub fn masked_field(field: Field, mask: u32) -> Option<Field>
     }
 }
 
+/// What A holds after a mask.
 fn masked_held(held: Held, mask: u32) -> Held
     ensures { result ≡ masked_held held mask }
 {
@@ -502,6 +506,7 @@ fn claim_after(outcome: bool, number: u32, two: Option<(u32, u32)>) -> Claim
     }
 }
 
+/// What is known once the test whether a field is a number had an outcome.
 fn known_by(known: &Known, field: Field, number: u32, outcome: bool) -> Known
     ensures { result ≡ known_by known.now field number outcome }
 {
@@ -509,7 +514,8 @@ fn known_by(known: &Known, field: Field, number: u32, outcome: bool) -> Known
     with_fact(known, field, claim)
 }
 
-/// What is known once a test had an outcome.
+/// What is known once a test had an outcome. Only one for equality, of a field in A, shows
+/// something.
 pub fn known_by_test(known: &Known, insn: Wide, outcome: bool) -> Known
     ensures { result
         ≡ known_by_test (operation_of insn.code) known.now.held known.now insn.k outcome }

@@ -16,6 +16,7 @@ use std::alloc::{AllocError, Allocator};
 /// In longer code tests aren't shared, since the optimiser makes less of it then.
 const MERGED: usize = 256;
 
+/// The landing of what isn't in the new code.
 const NOWHERE: Landing = Landing {
     place: 0,
     accumulator: false,
@@ -59,7 +60,7 @@ fn in_front_of(place: usize) -> usize {
     place.saturating_add(1)
 }
 
-/// The run doesn't just go on at the next instruction.
+/// Whether a run doesn't just go on at the next instruction. (Code with a `ja` isn't shortened.)
 fn ends_block(insn: Wide) -> bool {
     matches!(
         decode(insn.code),
@@ -67,7 +68,7 @@ fn ends_block(insn: Wide) -> bool {
     )
 }
 
-/// A test with these offsets, if they are so few.
+/// A test with these offsets, if they have at most 32 bits.
 fn reaching(insn: Wide, yes: usize, no: usize) -> Option<Wide> {
     match (u32::try_from(yes), u32::try_from(no)) {
         (Ok(yes), Ok(no)) => Some(Wide { yes, no, ..insn }),
@@ -75,7 +76,8 @@ fn reaching(insn: Wide, yes: usize, no: usize) -> Option<Wide> {
     }
 }
 
-/// An instruction put `farther` instructions earlier, if its offsets reach so far.
+/// An instruction that is put again, `farther` instructions earlier, with the same targets, if its
+/// offsets reach so far.
 fn in_front(insn: Wide, farther: usize) -> Option<Wide> {
     match decode(insn.code) {
         Some(Operation::JumpIf(_, _)) => reaching(
@@ -87,14 +89,14 @@ fn in_front(insn: Wide, farther: usize) -> Option<Wide> {
     }
 }
 
-/// They are a mask, and a test of what is left for 0.
+/// Whether two instructions are a mask, and a test of what is left for 0.
 fn is_mask(mask: Wide, test: Wide) -> bool {
     mask.code == Operation::Compute(AluOperation::And, Operand::Constant).code()
         && test.code == Operation::JumpIf(Test::Equal, Operand::Constant).code()
         && test.k == 0
 }
 
-/// They are a number in A that goes to X.
+/// Whether two instructions put a number into A and then into X.
 fn is_copied(number: Wide, copy: Wide) -> bool {
     number.code == Operation::Load(Register::Accumulator, Source::Immediate).code()
         && copy.code == Operation::CopyToIndex.code()
@@ -124,7 +126,8 @@ struct Shortening<'a> {
 }
 
 impl Shortening<'_> {
-    /// One more instruction, in front of the others.
+    /// Puts one more instruction in front of the others. Without room for it the new code isn't
+    /// shorter, and isn't taken in the end.
     fn push(&mut self, insn: Wide) {
         if let Some(free) = self.backwards.get_mut(self.len) {
             *free = insn;
@@ -146,7 +149,7 @@ impl Shortening<'_> {
         }
     }
 
-    /// A run reaches an instruction. Until it has its landing, the place says so.
+    /// Marks that a run reaches an instruction: until it has its landing, place 1 says so.
     fn reach(&mut self, at: usize) {
         self.land(
             at,
@@ -157,7 +160,7 @@ impl Shortening<'_> {
         );
     }
 
-    /// Which instructions a run reaches.
+    /// Marks the instructions that a run reaches.
     fn reach_all(&mut self) {
         self.reach(0);
         for (at, insn) in self.insns.iter().enumerate() {
@@ -232,13 +235,14 @@ impl Shortening<'_> {
         Some((*length, Wide { k, ..*load }))
     }
 
-    /// An instruction loads a number into A.
+    /// Whether an instruction puts a number into A.
     fn is_number(&self, at: usize) -> bool {
         let code = Operation::Load(Register::Accumulator, Source::Immediate).code();
         self.insns.get(at).is_some_and(|insn| insn.code == code)
     }
 
-    /// The number `before` instructions in front is in one load with this one.
+    /// Whether the number `before` instructions in front makes one load of itself and those after
+    /// it, of which this is one: two (`load_at`), or four (`header_load_at`).
     fn is_joined_by(&self, at: usize, before: usize) -> bool {
         let number = at.saturating_sub(before);
         at >= before
@@ -247,13 +251,13 @@ impl Shortening<'_> {
                 || self.header_load_at(number).is_some())
     }
 
-    /// An instruction in front replaces this one too.
+    /// Whether what an instruction in front is joined to replaces this one too.
     fn is_joined(&self, at: usize) -> bool {
         at >= 1 && self.bits_at(at - 1).is_some()
             || (1..=4).any(|before| self.is_joined_by(at, before))
     }
 
-    /// A test with such targets stands right in front of a place.
+    /// Whether the test right in front of a place has these targets.
     fn has_targets(&self, at: usize, yes: usize, no: usize) -> bool {
         self.backwards.get(at).is_some_and(|other| {
             other.yes as usize == at.saturating_sub(yes)
@@ -261,7 +265,8 @@ impl Shortening<'_> {
         })
     }
 
-    /// The instruction of the old code in front of one stands right in front of a place.
+    /// Whether the instruction in front of `at` in the old code also stands right in front of a
+    /// place of the new one.
     fn is_front_at(&self, place: usize, at: usize) -> bool {
         match self.insn_at(at.wrapping_sub(1)) {
             None => false,
@@ -304,7 +309,7 @@ impl Shortening<'_> {
         Some(in_front_of(top))
     }
 
-    /// A test, whose targets are this far past the instruction `last` of the old code.
+    /// Emits a test, whose offsets count from the instruction `last` of the old code.
     fn emit_test(&mut self, at: usize, insn: Wide, last: usize) {
         let yes = self.landing_at(following(last, insn.yes as usize));
         let no = self.landing_at(following(last, insn.no as usize));
@@ -314,7 +319,7 @@ impl Shortening<'_> {
         }
     }
 
-    /// The block that an instruction lands in, from there to its end, is emitted again in front.
+    /// Emits again, in front, the block that an instruction lands in, from there to its end.
     fn emit_again(&mut self, from: usize) {
         let (place, top) = (self.landing_at(from).place, self.len);
         let mut low = place;
@@ -351,14 +356,17 @@ impl Shortening<'_> {
         }
     }
 
-    /// The code has such an instruction, a test with any targets, right in front of a place.
+    /// Whether such an instruction stands right in front of a place; of a test, one with any
+    /// targets.
     fn is_at(&self, place: usize, insn: Wide) -> bool {
         self.backwards
             .get(place)
             .is_some_and(|other| other.code == insn.code && other.k == insn.k)
     }
 
-    /// Another instruction, after which the run goes on where one of the old code lands.
+    /// Emits an instruction that is no test, after which the run goes on where `next` of the old
+    /// code lands. If such an instruction is in front of that already, none is put; if another one
+    /// is, the block is put again.
     fn emit_plain(&mut self, at: usize, insn: Wide, next: usize) {
         let landing = self.landing_at(next);
         let Some(operation) = decode(insn.code) else {
@@ -380,7 +388,7 @@ impl Shortening<'_> {
         self.land(at, landing_before(operation, place, landing));
     }
 
-    /// An instruction of the old code that no other one joins.
+    /// Emits an instruction of the old code that is joined to no other one.
     fn emit_alone(&mut self, at: usize, insn: Wide) {
         match decode(insn.code) {
             Some(Operation::JumpIf(_, _)) => self.emit_test(at, insn, at),
@@ -392,7 +400,7 @@ impl Shortening<'_> {
         }
     }
 
-    /// An instruction of the old code, in one with those after it where that is shorter.
+    /// Emits an instruction of the old code, joined to those after it where that is shorter.
     fn emit(&mut self, at: usize) {
         if let Some(test) = self.bits_at(at) {
             self.emit_test(at, test, following(at, 0));
@@ -406,7 +414,7 @@ impl Shortening<'_> {
         }
     }
 
-    /// One more instruction of the old code is read.
+    /// Reads one more instruction of the old code.
     fn read(&mut self, at: usize) {
         let is_reached = self.landing_at(at).place > 0;
         self.land(at, NOWHERE);
@@ -415,7 +423,7 @@ impl Shortening<'_> {
         }
     }
 
-    /// The whole old code is read. Returns how many instructions the new one has.
+    /// Reads the whole old code. Returns how many instructions the new one has.
     fn read_all(&mut self) -> usize {
         self.reach_all();
         for at in (0..self.insns.len()).rev() {

@@ -21,7 +21,8 @@ use std::alloc::Allocator;
 /// How many instructions a walk passes at most.
 const FUEL: usize = 128;
 
-/// Of how many instructions code is at most in which repeated loads are looked for one by one.
+/// The most instructions of code of which it is asked first whether a load is there twice. That
+/// takes time by the square of the length, so longer code is threaded without asking.
 const SHORT: usize = 64;
 
 /// Where a walk is.
@@ -39,7 +40,7 @@ pub struct Reached {
     pub best: usize,
 }
 
-/// The field that A would hold.
+/// The field that A would hold at a spot, if it would hold one.
 fn field_at(held: Held, other: Option<Field>) -> Option<Field>
     ensures { result ≡ field_at held other }
 {
@@ -50,7 +51,7 @@ fn field_at(held: Held, other: Option<Field>) -> Option<Field>
     }
 }
 
-/// A field in A, if it isn't what A holds.
+/// What `other` of a spot is where A would hold this field: `None` if A holds it already.
 fn away(held: Held, field: Field) -> Option<Field>
     ensures { result ≡ away held field }
 {
@@ -66,7 +67,7 @@ fn away(held: Held, field: Field) -> Option<Field>
     }
 }
 
-/// Past a test that is decided.
+/// Where a walk is past a test, if what is known decides it.
 fn past_test(known: &Known, insn: Wide, spot: Spot) -> Option<Spot>
     requires { spot.place < 2 ^ 63 }
     ensures { result ≡ past_test known.now insn spot }
@@ -86,7 +87,7 @@ fn past_test(known: &Known, insn: Wide, spot: Spot) -> Option<Spot>
     }
 }
 
-/// Past a mask of a field.
+/// Where a walk is past a mask, if A would hold a field without one.
 fn past_mask(known: &Known, mask: u32, spot: Spot) -> Option<Spot>
     requires { spot.place < 2 ^ 63 }
     ensures { result ≡ past_mask known.now mask spot }
@@ -103,7 +104,7 @@ fn past_mask(known: &Known, mask: u32, spot: Spot) -> Option<Spot>
     }
 }
 
-/// A holds what a load at X would put there.
+/// Whether A holds what this load at X would put there.
 fn holds_load(held: Held, insn: Wide) -> bool
     ensures { result ≡ holds_load held insn }
 {
@@ -113,7 +114,7 @@ fn holds_load(held: Held, insn: Wide) -> bool
     }
 }
 
-/// X holds this header's length.
+/// Whether X holds this header's length.
 fn holds_header(index: Option<u32>, header: u32) -> bool
     ensures { result ≡ holds_header index header }
 {
@@ -123,7 +124,7 @@ fn holds_header(index: Option<u32>, header: u32) -> bool
     }
 }
 
-/// Past one instruction, if what is known decides what it does.
+/// Where a walk is past one instruction, if what is known decides what it does.
 fn step(known: &Known, insn: Wide, spot: Spot) -> Option<Spot>
     requires { spot.place < 2 ^ 63 }
     ensures { result ≡ step (operation_of insn.code) known.now insn spot }
@@ -163,7 +164,7 @@ fn step(known: &Known, insn: Wide, spot: Spot) -> Option<Spot>
     }
 }
 
-/// The instruction puts something into A, or ends the run, without reading A.
+/// Whether an instruction puts something into A, or ends the run, without reading A.
 fn sets(code: u16) -> bool
     ensures { result ≡ sets (operation_of code) }
 {
@@ -179,6 +180,7 @@ fn sets(code: u16) -> bool
     )
 }
 
+/// Whether the instruction at a place does.
 fn sets_at(code: &[Wide], place: usize) -> bool
     ensures { result ≡ sets_at code.now place }
 {
@@ -188,7 +190,8 @@ fn sets_at(code: &[Wide], place: usize) -> bool
     }
 }
 
-/// Something is put into A from a place on before A is read.
+/// Whether A isn't read from a place on before something is put into it: at that instruction, or
+/// at the next one after a header's length.
 fn is_free(code: &[Wide], place: usize) -> bool
     ensures { result ≡ is_free code.now place }
 {
@@ -201,7 +204,7 @@ fn is_free(code: &[Wide], place: usize) -> bool
     }
 }
 
-/// A run may go on where a walk is, in place of where the walk began.
+/// Whether a run may go on where a walk is, in place of where the walk began.
 fn can_stop(code: &[Wide], spot: Spot) -> bool
     ensures { result ≡ can_stop code.now spot }
 {
@@ -219,7 +222,7 @@ fn best_of(code: &[Wide], spot: Spot, best: usize) -> usize
     }
 }
 
-/// A walk goes on, past at most `fuel` instructions.
+/// How far a walk goes on, past at most `fuel` instructions.
 #[tactic(auto, unfolding(crate::specs::inside::Threads::walk))]
 fn walk(fuel: usize, known: &Known, code: &[Wide], reached: Reached) -> Reached
     ensures { result ≡ walk fuel known.now code.now reached }
@@ -239,7 +242,7 @@ fn walk(fuel: usize, known: &Known, code: &[Wide], reached: Reached) -> Reached
     }
 }
 
-/// A walk from a place.
+/// How far a walk from a place goes.
 fn walked(known: &Known, code: &[Wide], from: usize) -> Reached
     ensures { result ≡ walk FUEL known.now code.now
         (record { spot = record { place = from; other = None }; best = from }) }
@@ -289,6 +292,7 @@ fn moved(known: &Known, following: &[Wide], skipped: u32) -> u32
     ensures { result ≡ moved known.now following.now skipped }
 {
     let place = target(known, following, skipped as usize);
+    // An expression's code is too short for an error.
     match u32::try_from(place) {
         Ok(place) => place,
         Err(_) => skipped,
@@ -376,7 +380,7 @@ fn threaded_insns<A: Allocator>(mut insns: Vec<Wide, A>) -> Vec<Wide, A>
     insns
 }
 
-/// An instruction is a load from the packet.
+/// Whether an instruction is a load from the packet.
 fn is_load(insn: Wide) -> bool {
     matches!(
         decode(insn.code),
@@ -384,7 +388,7 @@ fn is_load(insn: Wide) -> bool {
     )
 }
 
-/// Some load is there twice.
+/// Whether some load is there twice. It calls itself for each instruction: the code is short.
 fn repeats_a_load(insns: &[Wide]) -> bool {
     match insns {
         [] => false,

@@ -1,5 +1,5 @@
 //! Whether code whose tests may skip any number of instructions breaks a rule, and how many tests
-//! it has.
+//! it has. The rules are those of `flt_bpf::check`, but for that on the length.
 
 ghost use Rattle.std.specs.Prelude.{◌≡◌, None, true, IsTrue, count_by};
 ghost use Rattle.flt_bpf.specs.Check.{fault_of, constant_fault, is_return};
@@ -13,7 +13,7 @@ use flt_bpf::operation::{AluOperation, Operand, Operation, Source, decode};
 /// How many words of memory there are.
 const WORDS: u32 = 16;
 
-/// Arithmetic by this constant is allowed.
+/// Whether arithmetic with this constant is allowed: no division by 0, no shift by 32 or more.
 fn is_constant(operator: AluOperation, k: u32) -> bool
     ensures { IsTrue result → constant_fault operator k ≡ None }
 {
@@ -25,7 +25,7 @@ fn is_constant(operator: AluOperation, k: u32) -> bool
     }
 }
 
-/// An instruction that has `following` after it breaks no rule.
+/// Whether an instruction that has `following` after it breaks no rule.
 #[tactic(auto, unfolding(flt_bpf::specs::Check::fault_of))]
 fn is_faultless(insn: Wide, following: usize) -> bool
     ensures { IsTrue result → fault_of insn following ≡ None }
@@ -42,7 +42,7 @@ fn is_faultless(insn: Wide, following: usize) -> bool
     }
 }
 
-/// No instruction breaks a rule.
+/// Whether no instruction breaks a rule.
 fn are_faultless(code: &[Wide]) -> bool
     ensures { IsTrue result → IsFaultless code.now }
 {
@@ -57,7 +57,7 @@ fn are_faultless(code: &[Wide]) -> bool
     true
 }
 
-/// A code is that of a return.
+/// Whether a code is that of a return.
 fn returns(code: u16) -> bool
     ensures { result ≡ is_return (operation_of code) }
 {
@@ -67,7 +67,7 @@ fn returns(code: u16) -> bool
     )
 }
 
-/// The last instruction is a return.
+/// Whether the last instruction is a return.
 fn ends_in_return(code: &[Wide]) -> bool
     ensures { IsTrue result → ends_in_return code.now ≡ true }
 {
@@ -79,14 +79,14 @@ fn ends_in_return(code: &[Wide]) -> bool
     returns(last.code)
 }
 
-/// Code breaks no rule but for that on its length.
+/// Whether code breaks no rule, that on its length aside.
 pub fn are_valid(code: &[Wide]) -> bool
     ensures { IsTrue result → IsValidUnlessLong code.now }
 {
     are_faultless(code) && ends_in_return(code)
 }
 
-/// An instruction is a test.
+/// Whether an instruction is a test.
 fn is_test(insn: &Wide) -> bool
     ensures { result ≡ is_branch (operation_of insn.now.code) }
 {

@@ -57,6 +57,7 @@ landing_fits_at (Some l) far place a x =
     ((nat_lt 0 l.place && nat_lt l.place place) && place - l.place - 1 == far)
     && (implies l.accumulator a && implies l.index x)
 
+-- the same of the landing with an index among those after an instruction
 abbrev pub landing_fits : List Landing → ℕ → ℕ → ℕ → Bool → Bool → Bool
 landing_fits ls k far place a x = landing_fits_at (slice_get ls k) far place a x
 

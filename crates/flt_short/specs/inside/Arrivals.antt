@@ -8,7 +8,7 @@ use Rattle.flt_short.specs.inside.Facts.{nothing_known, unreached, joined}
 abbrev pub arrival : ℕ → Known → Arrival
 arrival place k = record { place = place; known = k }
 
--- a run goes on at the first place
+-- a run goes on at the first place, and nothing is known: all entries are for it
 abbrev pub at_start : Arrivals
 at_start = record { kept = replicate 8 (arrival 0 nothing_known); unknown_end = 0 }
 

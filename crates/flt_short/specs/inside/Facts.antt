@@ -18,6 +18,7 @@ use Rattle.flt_short.specs.declared.facts.Known.{Known}
 abbrev pub nothing_claimed : Fact
 nothing_claimed = record { field = record { code = 0; k = 0; mask = None }; claim = Nothing }
 
+-- nothing is known; or no run comes there
 abbrev pub nothing_known : Known
 nothing_known = record {
   held = held.Unknown;
@@ -92,6 +93,7 @@ joined_held (held.AtIndex code k) (held.AtIndex other_code other_k) =
     if code == other_code && k == other_k then held.AtIndex code k else held.Unknown
 joined_held _ _ = held.Unknown
 
+-- the header whose length X holds on both ways, if it is one
 abbrev pub same_index : Option ℕ → Option ℕ → Option ℕ
 same_index a b = if same_mask a b then a else None
 
@@ -132,6 +134,7 @@ one_of [] f = None
 one_of (x ∷ xs) f =
     if same_field x.field f then the_two x.claim (one_of xs f) else one_of xs f
 
+-- an old fact says nothing, or nothing that the new one doesn't
 abbrev pub gives_way : Fact → Fact → Bool
 gives_way x y = is_nothing x.claim || (same_field x.field y.field && entails y.claim x.claim)
 
@@ -140,6 +143,7 @@ abbrev pub place_for : List Fact → Fact → ℕ
 place_for [] y = 0
 place_for (x ∷ xs) y = if length xs == 0 || gives_way x y then 0 else suc (place_for xs y)
 
+-- one more fact, in the place of one that gives way, or of the last
 abbrev pub with_one : Known → Fact → Known
 with_one k y = record k { facts = slice_set k.facts (place_for k.facts y) y }
 
@@ -174,6 +178,7 @@ abbrev pub held_if_some : Option Field → Held
 held_if_some None = held.Unknown
 held_if_some (Some f) = held.Field f
 
+-- what A holds after a mask
 abbrev pub masked_held : Held → ℕ → Held
 masked_held (held.Field f) m = held_if_some (masked_field f m)
 masked_held _ m = held.Unknown
@@ -203,6 +208,7 @@ index_after (Some (Load Index source)) x i = None
 index_after (Some CopyToIndex) x i = None
 index_after _ x i = x
 
+-- what is known after an instruction that isn't a test
 abbrev pub known_after : Option Operation → Known → Insn → Known
 known_after op k i = record {
   held = held_after op k.held i;
@@ -217,6 +223,7 @@ claim_after false n None = IsNot n
 claim_after false n (Some two) =
     if n == two.0 then Is two.1 else (if n == two.1 then Is two.0 else IsNot n)
 
+-- what is known once the test whether a field is a number had an outcome
 abbrev pub known_by : Known → Field → ℕ → Bool → Known
 known_by k f n outcome = with_fact k f (claim_after outcome n (one_of k.facts f))
 
