@@ -1,4 +1,4 @@
-//! The table of elementary tests, for every link.
+//! The table of elementary tests, for every link. A doc says what holds where the test is yes.
 
 ghost use Rattle.std.specs.Prelude.{◌≡◌, ◌≤◌, IfSome, Some, None};
 ghost use Rattle.cap_octet.specs.Link.{longest_header, network_offset};

@@ -147,7 +147,7 @@ fn last_test(test: Elementary) -> Elementary
 impl<A: Allocator> Steps<A> {
     ghost use Rattle.flt_gen.specs.inside.Steps.{IsPut};
 
-    /// The hosts of a header of a kind.
+    /// Adds the steps of hosts in a header of a kind.
     fn put_hosts_of_kind(
         &mut self,
         link: Link,
@@ -170,8 +170,8 @@ impl<A: Allocator> Steps<A> {
         self.join(Join::And)
     }
 
-    /// `host` and `net` of IPv4, by the forms that their protocol allows: without one those of
-    /// IPv4, ARP and RARP.
+    /// Adds the steps of `host` and `net` of IPv4, by the forms that their protocol allows: without
+    /// one those of IPv4, ARP and RARP.
     pub fn put_hosts(
         &mut self,
         link: Link,
@@ -216,7 +216,8 @@ impl<A: Allocator> Steps<A> {
         }
     }
 
-    /// The words of the source and of the destination, as a direction asks for them.
+    /// Adds the steps of the words of the source and of the destination, as a direction asks for
+    /// them.
     fn check_word_sides(
         &mut self,
         direction: Direction,
@@ -237,7 +238,8 @@ impl<A: Allocator> Steps<A> {
         }
     }
 
-    /// `host` and `net` of IPv6, with the length of the prefix where not the whole address counts.
+    /// Adds the steps of `host` and `net` of IPv6, with the length of the prefix where not the
+    /// whole address counts.
     pub fn put_ip6(
         &mut self,
         link: Link,

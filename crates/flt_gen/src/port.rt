@@ -109,7 +109,7 @@ fn port_between(first: u32, last: u32, offset: Offset) -> [Elementary; 2]
 impl<A: Allocator> Steps<A> {
     ghost use Rattle.flt_gen.specs.inside.Steps.{IsPut};
 
-    /// The ports of a header, on the sides that are asked for.
+    /// Adds the steps of a header's ports, on the sides that are asked for.
     fn put_port_sides(&mut self, header: Transport, wanted: PortTest) -> Result<(), AllocError>
         ensures { OnOk result (IsPut
             (port_sides wanted.ports wanted.direction header self.old.numbers) self.old self.new) }
@@ -143,7 +143,7 @@ impl<A: Allocator> Steps<A> {
         }
     }
 
-    /// The ports of a header that isn't a later fragment's.
+    /// Adds the steps of the ports of a header that isn't a later fragment's.
     fn put_ports_after(&mut self, header: Transport, wanted: PortTest) -> Result<(), AllocError>
         ensures { OnOk result
             (IsPut (ports_after header wanted self.old.numbers) self.old self.new) }
@@ -177,7 +177,7 @@ impl<A: Allocator> Steps<A> {
         self.join(Join::And)
     }
 
-    /// `port` and `portrange`, after a header of IPv4 or of IPv6.
+    /// Adds the steps of `port` and `portrange`, after a header of IPv4 or of IPv6.
     pub fn put_ports(&mut self, link: Link, wanted: PortTest) -> Result<(), AllocError>
         ensures { OnOk result
             (IsPut (port_formula link wanted self.old.numbers) self.old self.new) }

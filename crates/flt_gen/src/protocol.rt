@@ -46,14 +46,14 @@ fn is_group_address() -> Elementary
 impl<A: Allocator> Steps<A> {
     ghost use Rattle.flt_gen.specs.inside.Steps.{IsPut};
 
-    /// IPv4, with this protocol.
+    /// Adds the steps of IPv4 with this protocol.
     fn put_ip_proto(&mut self, link: Link, protocol: u32) -> Result<(), AllocError>
         ensures { OnOk result (IsPut (ip_proto link protocol) self.old self.new) }
     {
         self.check_all(&[kind_test(link, FrameKind::Ip), has_ip_proto(link, protocol)])
     }
 
-    /// IPv6, with this next header. Extension headers aren't looked past.
+    /// Adds the steps of IPv6 with this next header. Extension headers aren't looked past.
     fn put_ip6_proto(&mut self, link: Link, protocol: u32) -> Result<(), AllocError>
         ensures { OnOk result (IsPut (ip6_proto link protocol) self.old self.new) }
     {
@@ -63,7 +63,7 @@ impl<A: Allocator> Steps<A> {
         ])
     }
 
-    /// Either of both.
+    /// Adds the steps of either of both.
     fn put_any_proto(&mut self, link: Link, protocol: u32) -> Result<(), AllocError>
         ensures { OnOk result (IsPut (any_proto link protocol) self.old self.new) }
     {
@@ -72,7 +72,7 @@ impl<A: Allocator> Steps<A> {
         self.join(Join::Or)
     }
 
-    /// A protocol's keyword alone, as `tcp` or `arp`.
+    /// Adds the steps of a protocol's keyword alone, as `tcp` or `arp`.
     pub fn put_check(&mut self, link: Link, protocol: Protocol) -> Result<(), AllocError>
         ensures { OnOk result (IsPut (check_formula link protocol) self.old self.new) }
     {
@@ -89,8 +89,8 @@ impl<A: Allocator> Steps<A> {
         }
     }
 
-    /// `proto N`, after the protocol `below`, whose header names N: `ip`, `ip6`, `ether`, or none
-    /// for either of IPv4 and IPv6.
+    /// Adds the steps of `proto N`, after the protocol `below`, whose header names N: `ip`, `ip6`,
+    /// `ether`, or none for either of IPv4 and IPv6.
     pub fn put_proto(
         &mut self,
         link: Link,
@@ -109,7 +109,7 @@ impl<A: Allocator> Steps<A> {
         }
     }
 
-    /// `ether host M`.
+    /// Adds the steps of `ether host M`.
     pub fn put_ether_host(
         &mut self,
         link: Link,
@@ -124,7 +124,7 @@ impl<A: Allocator> Steps<A> {
         self.join(Join::And)
     }
 
-    /// `broadcast` and `multicast`, with the protocol before it.
+    /// Adds the steps of `broadcast` or `multicast`, with the protocol before it.
     pub fn put_cast(
         &mut self,
         link: Link,

@@ -16,7 +16,7 @@ use std::alloc::{AllocError, Allocator};
 impl<A: Allocator> Steps<A> {
     ghost use Rattle.flt_gen.specs.inside.Steps.{IsPut};
 
-    /// `host` with an address of any kind.
+    /// Adds the steps of `host` with an address of any kind.
     fn put_host(
         &mut self,
         link: Link,
@@ -38,7 +38,7 @@ impl<A: Allocator> Steps<A> {
         }
     }
 
-    /// `net` with a network of IPv4 or IPv6.
+    /// Adds the steps of `net` with a network of IPv4 or IPv6.
     fn put_net(
         &mut self,
         link: Link,
@@ -61,7 +61,8 @@ impl<A: Allocator> Steps<A> {
         }
     }
 
-    /// A value with its qualifiers. One that doesn't fit them is no.
+    /// Adds the steps of a value with its qualifiers. One that doesn't fit them is no: such
+    /// expressions were refused before.
     pub fn put_qualified(
         &mut self,
         link: Link,

@@ -98,7 +98,7 @@ impl<A: Allocator + Clone> Walk<A> {
         })
     }
 
-    /// All nodes of a tree, from the last to the first.
+    /// Emits the code of all nodes of a tree, from the last to the first.
     pub fn emit_nodes(&mut self, link: Link, nodes: &[Node]) -> Result<(), AllocError>
         ensures { OnOk result (self.new ≡ emit_nodes link self.old (reverse nodes.now)) }
     {
@@ -117,8 +117,8 @@ impl<A: Allocator + Clone> Walk<A> {
         Ok(())
     }
 
-    /// A node and the one before it at once, where that is its right operand and a constant that
-    /// its instruction may have. `false`: they aren't emitted.
+    /// Emits a node and the one before it at once, where that is its right operand and a constant
+    /// that its instruction may have. `false`: it isn't, and nothing is emitted.
     fn emit_both_nodes(&mut self, link: Link, node: &Node, right: &Node) -> Result<bool, AllocError>
         ensures emits { IfOk result (λ fits. emit_both_nodes link self.old node.now right.now
             ≡ (if fits then Some self.new else None)) }
@@ -136,7 +136,8 @@ impl<A: Allocator + Clone> Walk<A> {
         }
     }
 
-    /// An operator with a constant as its right operand. `false`: its instruction may not have it.
+    /// Emits an operator with a constant as its right operand. `false`: its instruction may not
+    /// have it, and nothing is emitted.
     fn emit_applied(&mut self, operator: Operator, constant: u32) -> Result<bool, AllocError>
         ensures emits { IfOk result (λ fits. emit_applied operator constant self.old
             ≡ (if fits then Some self.new else None)) }
@@ -150,7 +151,7 @@ impl<A: Allocator + Clone> Walk<A> {
         Ok(true)
     }
 
-    /// A comparison with a constant as its right operand.
+    /// Emits a comparison with a constant as its right operand.
     fn emit_compared(
         &mut self,
         link: Link,
@@ -165,7 +166,7 @@ impl<A: Allocator + Clone> Walk<A> {
             .emit_comparison(comparison, Operand::Constant, constant, self.to)
     }
 
-    /// One more node, the one before those that were emitted.
+    /// Emits one more node, the one before those that were emitted.
     fn emit_node(&mut self, link: Link, node: &Node) -> Result<(), AllocError>
         ensures { OnOk result (self.new ≡ emit_node link self.old node.now) }
     {
@@ -185,7 +186,7 @@ impl<A: Allocator + Clone> Walk<A> {
         }
     }
 
-    /// An operator between two truths.
+    /// Reads `and` or `or`: it has no code of its own, but targets for its operands.
     fn emit_join(&mut self, link: Link, join: Join) -> Result<(), AllocError>
         ensures { OnOk result (self.new ≡ emit_join link join self.old) }
     {
@@ -203,8 +204,8 @@ impl<A: Allocator + Clone> Walk<A> {
         }
     }
 
-    /// A value with all its qualifiers. A host or port joins the group of those after it. As the
-    /// right operand of an `or` it waits there for one more; else the group is emitted.
+    /// Emits a value with all its qualifiers. A host or port joins the group of those after it. As
+    /// the right operand of an `or` it waits there for one more; else the group is emitted.
     fn emit_value(
         &mut self,
         link: Link,
@@ -227,7 +228,7 @@ impl<A: Allocator + Clone> Walk<A> {
         self.emit_steps(steps)
     }
 
-    /// A primitive or a negation. A value whose qualifiers aren't filled in yet is no.
+    /// Emits a primitive or a negation. A value whose qualifiers aren't filled in yet is no.
     fn emit_truth_node(&mut self, link: Link, node: &Node) -> Result<(), AllocError>
         requires truth { is_truth_node node.now ≡ true }
         ensures { OnOk result (self.new ≡ emit_truth_node link self.old node.now) }
@@ -262,7 +263,7 @@ impl<A: Allocator + Clone> Walk<A> {
         }
     }
 
-    /// `less N` and `greater N`: the original length is compared with a number.
+    /// Emits `less N` and `greater N`: the original length is compared with a number.
     fn emit_sized(&mut self, size: Size, number: u32) -> Result<(), AllocError>
         ensures { OnOk result ((link : Link)
             → self.new ≡ finish_formula link (sized_formula size number) self.old) }
@@ -294,8 +295,8 @@ impl<A: Allocator + Clone> Walk<A> {
         }
     }
 
-    /// The code of the group that waits is emitted: another operand of an `or` stands in front of
-    /// it.
+    /// Emits the code of the group that waits, if it has members: another operand of an `or` stands
+    /// in front of it.
     fn flush_group(&mut self, link: Link) -> Result<(), AllocError>
         ensures { OnOk result (self.new ≡ flush_group link self.old) }
     {
@@ -309,7 +310,7 @@ impl<A: Allocator + Clone> Walk<A> {
         self.emit_group(link)
     }
 
-    /// The group's code is emitted.
+    /// Emits the code of the group, which has members, and leaves it empty.
     fn emit_group(&mut self, link: Link) -> Result<(), AllocError>
         ensures { OnOk result (self.new ≡ finish_formula link (group_formula link self.old.group)
             (record self.old { group = no_group })) }
@@ -320,8 +321,8 @@ impl<A: Allocator + Clone> Walk<A> {
         self.emit_steps(steps)
     }
 
-    /// The code of a formula's steps, from the last one to the first. An operator's right operand
-    /// comes first, and its left one waits.
+    /// Emits the code of a formula's steps, from the last one to the first. An operator's right
+    /// operand comes first, and its left one waits.
     fn emit_steps(&mut self, mut steps: Steps<A>) -> Result<(), AllocError>
         ensures { OnOk result
             ((link : Link) → self.new ≡ emit_parts link self.old (meaning steps).parts) }
@@ -360,7 +361,7 @@ impl<A: Allocator + Clone> Walk<A> {
         self.to = Targets { yes, no };
     }
 
-    /// A node of arithmetic.
+    /// Emits a node of arithmetic.
     fn emit_number_node(&mut self, link: Link, node: &Node) -> Result<(), AllocError>
         requires { is_number_node node.now ≡ true }
         ensures { OnOk result (self.new ≡ emit_node link self.old node.now) }
@@ -382,7 +383,7 @@ impl<A: Allocator + Clone> Walk<A> {
         }
     }
 
-    /// A number, or the length of the packet.
+    /// Emits the load of a number, or of the length of the packet.
     fn emit_loaded(&mut self, link: Link, source: Source, number: u32) -> Result<(), AllocError>
         ensures { OnOk result (self.new ≡ emit_loaded link source number self.old) }
     {
@@ -391,8 +392,8 @@ impl<A: Allocator + Clone> Walk<A> {
         self.finish_number(link)
     }
 
-    /// Two operands: the right one is next, and the left one waits. An error is a word that no
-    /// number names.
+    /// Emits what is after two operands: the right one is next, and the left one waits, which goes
+    /// into the word `slot`. An error is a word that no number names.
     fn begin_operands(&mut self, slot: u32) -> Result<(), AllocError>
         ensures { OnOk result (self.new ≡ begin_operands slot self.old.code self.old) }
     {

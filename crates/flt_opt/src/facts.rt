@@ -251,7 +251,7 @@ fn find_enclosing_piece(piece: Piece, numbers: &[Piece], from: usize) -> Option<
 /// Whether all numbers of a piece that tests leave a term are in `numbers`, which are searched from
 /// the index `from` on. If so, the index where the last of them were found: the search for a later
 /// piece begins there. If not, `None`.
-pub(crate) fn covered(
+pub(crate) fn find_enclosing_pieces(
     piece: Piece,
     term: Term,
     learnt: &[Learnt],
@@ -265,10 +265,16 @@ pub(crate) fn covered(
         [] => find_enclosing_piece(piece, numbers, from),
         [first, rest @ ..] => {
             if same_term(first.term, term) {
-                let next = covered(overlap(piece, first.below), term, rest, numbers, from)?;
-                covered(overlap(piece, first.above), term, rest, numbers, next)
+                let next = find_enclosing_pieces(
+                    overlap(piece, first.below),
+                    term,
+                    rest,
+                    numbers,
+                    from,
+                )?;
+                find_enclosing_pieces(overlap(piece, first.above), term, rest, numbers, next)
             } else {
-                covered(piece, term, rest, numbers, from)
+                find_enclosing_pieces(piece, term, rest, numbers, from)
             }
         }
     }

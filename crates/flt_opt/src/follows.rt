@@ -9,7 +9,7 @@ ghost use Rattle.flt_opt.specs.inside.Facts.{FactFollows, FactsFollow};
 ghost use Rattle.flt_opt.specs.inside.Terms.{There, Hold, Holds, Agree, source, is_constant};
 ghost use Rattle.flt_opt.specs.declared.note.Piece.{Piece};
 
-use crate::facts::{Knowledge, Learnt, covered, numbers_at_most, numbers_of, part};
+use crate::facts::{Knowledge, Learnt, find_enclosing_pieces, numbers_at_most, numbers_of, part};
 use crate::note::{Both, Fact, Load, Piece, Registers, Span, Term};
 use crate::terms::{is_known, same_term};
 
@@ -94,7 +94,7 @@ fn are_within(pieces: &[Piece], term: Term, learnt: &[Learnt], numbers: &[Piece]
 {
     let mut from = 0;
     for piece in pieces {
-        match covered(*piece, term, learnt, numbers, from) {
+        match find_enclosing_pieces(*piece, term, learnt, numbers, from) {
             None => return false,
             Some(at) => from = at,
         }
@@ -111,7 +111,7 @@ fn numbers_follow(wanted: Fact, knowledge: &Knowledge) -> bool
     let (pieces, learnt) = (knowledge.pieces, knowledge.learnt);
     let numbers = part(pieces, wanted.pieces);
     match numbers_of(wanted.term, knowledge.facts) {
-        None => covered(
+        None => find_enclosing_pieces(
             numbers_at_most(wanted.term),
             wanted.term,
             learnt,

@@ -90,7 +90,7 @@ struct Finder<'a, A: Allocator> {
     firsts: Vec<Option<usize>, A>,
 }
 
-/// The note of a draft until it is finished.
+/// What stands in the list of notes for a draft until that is finished.
 fn draft_note(new: usize, old: usize) -> Note {
     Note {
         new,
@@ -352,7 +352,7 @@ impl<A: Allocator + Clone> Finder<'_, A> {
         Ok(true)
     }
 
-    /// Makes the notes for a place of the new program. Returns whether all can be ones.
+    /// Finishes the drafts for a place of the new program. Returns whether all can be notes.
     fn finish_notes_at(&mut self, new: usize) -> Result<bool, AllocError> {
         let mut next = self.firsts.get(new).copied().flatten();
         for _ in 0..self.drafts.len() {

@@ -166,8 +166,8 @@ impl<A: Allocator> Follower<'_, A> {
         Ok(None)
     }
 
-    /// Keeps, of the trail from `first` to before `second`, the nodes that are on its rest too:
-    /// those of both sides of a test.
+    /// The trail from `first` on is that of one side of a test, and from `second` on that of the
+    /// other one; both ascend. Keeps the nodes that are on both.
     fn keep_common(&mut self, first: usize, second: usize) {
         let mut kept = first;
         for at in first..second {

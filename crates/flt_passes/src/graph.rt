@@ -34,8 +34,8 @@ fn is_jump_code(code: u16) -> bool {
     decode(code).is_some_and(|operation| is_jump(operation))
 }
 
-/// For each instruction of some code, how many nodes there are from the one on that a run reaches
-/// by it, to the end: past a jump it is the node where that leads.
+/// For each instruction of some code, how many nodes there are from its own to the end; for a jump,
+/// from the node where it leads. 0: there is none.
 fn places_from_end<A: Allocator>(alloc: A, code: &[Wide]) -> Result<Vec<usize, A>, AllocError> {
     let mut places = vec![in alloc; 0; code.len()]?;
     let mut count: usize = 0;
@@ -65,7 +65,8 @@ impl Indices<'_> {
         self.places.first().copied().unwrap_or(0)
     }
 
-    /// The index of the node that a run reaches by the instruction `at`, or `NOWHERE`.
+    /// The index of the node of the instruction `at`, or for a jump of the one where it leads.
+    /// `NOWHERE`: there is none, or it is in front of the first one.
     fn index_of(&self, at: usize) -> usize {
         match self.places.get(at) {
             Some(place) if *place > 0 => self.count().checked_sub(*place).unwrap_or(NOWHERE),

@@ -35,7 +35,7 @@ pub(crate) fn share_nodes<A: Allocator + Clone>(
     alloc: A,
     mut nodes: Vec<Node, A>,
 ) -> Result<Vec<Node, A>, AllocError> {
-    // For each node the index of the one that stands for it: itself, or one that does the same.
+    // For each node the index of the one that is kept for it: itself, or one that does the same.
     let mut stands = vec![in alloc.clone()?; NOWHERE; nodes.len()]?;
     let mut seen = HashMap::with_capacity(alloc.clone()?, nodes.len())?;
     let mut is_changed = false;

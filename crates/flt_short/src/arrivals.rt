@@ -90,7 +90,8 @@ impl Arrivals {
         }
     }
 
-    /// A run goes on at a place with this known. All places in front of `from` are passed.
+    /// A run goes on at a place with this known. All places in front of `from` are passed, so that
+    /// their entries are free. Where none is, nothing is known at the place.
     pub fn arrive(&mut self, from: usize, place: usize, known: &Known)
         requires { place < 2 ^ 64 - 1 }
         ensures { self.new ≡ arrived self.old from place known.now }

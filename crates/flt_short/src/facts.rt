@@ -107,6 +107,7 @@ pub fn unreached() -> Known
     }
 }
 
+/// Whether two numbers that may be missing are the same: masks, or headers.
 fn same_mask(one: Option<u32>, other: Option<u32>) -> bool
     ensures { result ≡ same_mask one other }
 {
@@ -465,7 +466,7 @@ fn held_after(held: Held, insn: Wide) -> Held
     }
 }
 
-/// Which header's length X holds then.
+/// Which header's length X holds after an instruction that isn't a test.
 fn index_after(index: Option<u32>, insn: Wide) -> Option<u32>
     ensures { result ≡ index_after (operation_of insn.code) index insn }
 {

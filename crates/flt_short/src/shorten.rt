@@ -143,6 +143,7 @@ impl Shortening<'_> {
         self.landings.get(at).copied().unwrap_or(NOWHERE)
     }
 
+    /// Notes the landing of an instruction of the old code.
     fn land(&mut self, at: usize, landing: Landing) {
         if let Some(here) = self.landings.get_mut(at) {
             *here = landing;

@@ -180,7 +180,7 @@ fn sets(code: u16) -> bool
     )
 }
 
-/// Whether the instruction at a place does.
+/// Whether the instruction at a place does that.
 fn sets_at(code: &[Wide], place: usize) -> bool
     ensures { result ≡ sets_at code.now place }
 {

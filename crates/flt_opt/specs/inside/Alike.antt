@@ -103,7 +103,7 @@ Advances old goal facts pieces stage next =
     (p : List ℕ) (n : ℕ) (s : State) (answer : ℕ) → AllHold p n pieces facts
     → IsOn old goal p n s answer stage → IsOn old goal p n s answer next
 
--- a run that is on a walk comes to the goal
+-- a run that is on a walk reaches the goal
 abbrev pub Reaches : List Insn → ℕ → List Fact → List Piece → Stage → Both → Type 0
 Reaches old goal facts pieces stage known =
     (p : List ℕ) (n : ℕ) (s : State) (answer : ℕ) → AllHold p n pieces facts
