@@ -89,8 +89,8 @@ impl<A: Allocator> Code<A> {
         }
     }
 
-    /// The same of numbers that ascend, halved at most `halvings` times. They are in two slices,
-    /// the second after the first.
+    /// As `emit_chain`, of numbers that ascend, which are halved at most `halvings` times. They are
+    /// in two slices, the second after the first.
     fn emit_search(
         &mut self,
         halvings: usize,
@@ -128,7 +128,7 @@ impl<A: Allocator> Code<A> {
         self.emit_among_both(field, numbers, &[], to)
     }
 
-    /// The same of the numbers without `first`, which is tested before.
+    /// As `emit_among`, of the numbers without `first`, which is tested before.
     pub fn emit_among_others(
         &mut self,
         field: MaskedField,
@@ -143,7 +143,7 @@ impl<A: Allocator> Code<A> {
         self.emit_among_both(field, lower, upper, to)
     }
 
-    /// The same of numbers in two slices, the second after the first.
+    /// As `emit_among`, of numbers in two slices, the second after the first.
     fn emit_among_both(
         &mut self,
         field: MaskedField,

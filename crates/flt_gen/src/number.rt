@@ -79,7 +79,7 @@ fn emit_base<A: Allocator>(code: &mut Code<A>, at: u32, width: Width) -> Result<
     code.emit_plain(Operation::CopyToIndex, 0)
 }
 
-/// The same after an IPv4 header.
+/// Emits A = the field A bytes past the IPv4 header.
 fn emit_transport<A: Allocator>(
     code: &mut Code<A>,
     link: Link,

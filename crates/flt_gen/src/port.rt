@@ -158,7 +158,8 @@ impl<A: Allocator> Steps<A> {
         }
     }
 
-    /// The same after the protocol that is asked for, or else TCP or UDP.
+    /// Adds the steps of the ports of a header whose protocol is the one that is asked for, or else
+    /// TCP or UDP.
     fn put_transport_ports(&mut self, header: Transport, wanted: PortTest) -> Result<(), AllocError>
         ensures { OnOk result
             (IsPut (transport_ports header wanted self.old.numbers) self.old self.new) }

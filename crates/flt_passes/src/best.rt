@@ -18,8 +18,8 @@ const JUMP: u16 = 5;
 /// than a 32-bit offset reaches.
 const TOO_MANY: usize = 0x4000_0000;
 
-/// Code of so few instructions stays as it is: they seldom become fewer, and that takes longer than
-/// all else that makes a program.
+/// Code of at most this many instructions isn't optimised: they seldom become fewer, and that takes
+/// longer than all else that makes a program.
 const FEW: usize = 28;
 
 /// Code that was written with more instructions than this, and more than twice as many as it has
@@ -27,7 +27,7 @@ const FEW: usize = 28;
 const MANY: usize = 64;
 
 /// Whether code isn't optimised, of which `left` instructions are left of `written`.
-fn stays(left: usize, written: usize) -> bool {
+fn skips_optimiser(left: usize, written: usize) -> bool {
     left <= FEW && (written <= MANY || written / 2 <= left)
 }
 
@@ -79,7 +79,7 @@ pub fn best_of<A: Allocator + Clone>(
         return Err(AllocError);
     }
     let insns = laid_out(alloc.clone()?, &plain)?;
-    if stays(plain.len(), written) {
+    if skips_optimiser(plain.len(), written) {
         return Ok(insns);
     }
     let found = optimised_insns(alloc, plain, insns.len())?;

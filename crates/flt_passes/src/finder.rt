@@ -90,7 +90,7 @@ struct Finder<'a, A: Allocator> {
     firsts: Vec<Option<usize>, A>,
 }
 
-/// What stands in the list of notes for a draft until that is finished.
+/// The entry of a draft in the list of notes until it is finished.
 fn draft_note(new: usize, old: usize) -> Note {
     Note {
         new,

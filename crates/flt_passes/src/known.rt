@@ -113,7 +113,8 @@ impl Facts {
         self.len = kept;
     }
 
-    /// The facts with this one, in place of another one on its term, or of the oldest one.
+    /// The facts with this one last. Another one on its term is dropped, or else, where there is no
+    /// room, the oldest one.
     fn with_fact(&self, fact: Fact) -> Facts {
         let mut facts = *self;
         let same = self

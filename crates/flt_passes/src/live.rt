@@ -62,8 +62,8 @@ pub(crate) fn is_of_use(term: Term, reads: &[Reads]) -> bool {
 /// A prime near 2^32 divided by the golden ratio: the upper bits of a product by it spread well.
 const SPREAD: u32 = 0x9E37_79B1;
 
-/// One of the 62 bits for fields, which are those from 4 on, for a field of a kind (0 to 3) at this
-/// byte. Other fields may have it too.
+/// One of the 62 bits for fields (all but `LENGTH` and `PAST_HEADER`), for a field of a kind (0 to
+/// 3) at this byte. Other fields may have it too.
 fn bit_at(at: u32, kind: u32) -> u64 {
     let mixed = at.wrapping_mul(4).wrapping_add(kind).wrapping_mul(SPREAD);
     4 << (mixed >> 16).wrapping_rem(62)

@@ -32,7 +32,7 @@ fn piece_count(span: Span) -> usize {
     span.end.saturating_sub(span.start)
 }
 
-/// The numbers that are in both pieces.
+/// The numbers that are in both pieces. (`flt_opt` has it too, with a clause.)
 fn overlap(one: Piece, other: Piece) -> Piece {
     Piece {
         low: one.low.max(other.low),

@@ -15,7 +15,8 @@ use std::alloc::Allocator;
 /// How many instructions are passed at most, on all ways together.
 const FUEL: usize = 2048;
 
-/// How many tests that aren't decided are passed at most, one on a side of the other.
+/// How many tests that aren't decided are passed at most, one on a side of the other: as many as
+/// `flt_opt` passes.
 const SPLITS: usize = 12;
 
 /// The same on the way to a test, which may as well be the new code's own.

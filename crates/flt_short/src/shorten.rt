@@ -41,7 +41,7 @@ fn landing_before(operation: Operation, place: usize, next: Landing) -> Landing 
     }
 }
 
-/// What is read after a test that goes on at one of two landings.
+/// What is read after a test that goes on at one of two landings, as a landing without a place.
 fn next_of_test(yes: Landing, no: Landing) -> Landing {
     Landing {
         place: 0,

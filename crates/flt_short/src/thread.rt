@@ -357,7 +357,7 @@ fn thread_insn(
     }
 }
 
-/// The same for all instructions, with what is known where a run reaches each from those in front.
+/// Threads all instructions, each by what is known where runs reach it from those in front.
 fn thread_all(arrivals: &mut Arrivals, insns: &mut [Wide])
     ensures { insns.new ≡ flow 0 arrivals.old insns.old }
 {

@@ -4,8 +4,8 @@ use Rattle.flt_passes.specs.Lays.{Lays}
 use Rattle.flt_passes.proofs.Laying.{lays_laid_out, lays_no_longer}
 use Rattle.flt_passes.proofs.best.best_of.Goals as goal
 
-pub returns-then-stays : goal.returns-then-stays
-returns-then-stays g c =
+pub returns-then-skips_optimiser : goal.returns-then-skips_optimiser
+returns-then-skips_optimiser g c =
     let laid = c.in_ok-insns.ensures in
     subst (Lays c.in_ok-insns.insns.items) c.deref.ensures.value (lays_laid_out c.in_ok-insns.insns.items c.deref.result.now laid.answers laid.at_most laid.jumps laid.short laid.valid)
 
