@@ -195,6 +195,7 @@ ip6_test prefix address at word =
     address_test (with prefix (λ bits. partial_mask (first_bits 32 (bits - 32 * word))))
     (address / 2 ^ (96 - 32 * word) % 2 ^ 32) (Fixed (at + 4 * word))
 
+-- all four words of an IPv6 address
 abbrev pub ip6_tests : Option ℕ → ℕ → ℕ → List Elementary
 ip6_tests prefix address at =
     ip6_test prefix address at 0 ∷ ip6_test prefix address at 1 ∷ ip6_test prefix address at 2
@@ -289,6 +290,7 @@ port_test protocol direction ports = record {
 
 -- values with their qualifiers; what doesn't fit was refused before, and is no here and above
 
+-- `host` with an address of any kind
 abbrev pub host_formula : Link → Option Protocol → Direction → Value → Formula
 host_formula link protocol direction (value.Dotted dotted mask) =
     net_formula link protocol (net_test direction None dotted.address)

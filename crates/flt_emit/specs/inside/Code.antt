@@ -195,7 +195,7 @@ abbrev pub emit_halves : ℕ → Block → ℕ → Block
 emit_halves pivot lower upper =
     at_top (emit_branch test.AtLeast Constant pivot upper lower.entry lower.code)
 
--- whether A is one of some numbers, which ascend: halved so often, and then one after the other
+-- whether A is one of some numbers, which ascend: halved this often, and then one after the other
 unfoldable pub emit_search : ℕ → List ℕ → ℕ → ℕ → List Insn → Block
 emit_search zero vs hit miss c = emit_chain vs hit miss c
 emit_search (suc k) vs hit miss c =

@@ -22,6 +22,7 @@ use Rattle.flt_gen.specs.Primitives.{after, ip6_tests, net_value_formula, value_
 
 -- ---- the tests of a protocol's accessors stand once in front of a comparison
 
+-- two protocols are the same
 abbrev pub equals : Protocol → Protocol → Bool
 equals Ether Ether = true
 equals Ip Ip = true
@@ -34,6 +35,7 @@ equals Icmp Icmp = true
 equals Icmp6 Icmp6 = true
 equals _ _ = false
 
+-- a list without a protocol
 abbrev pub without_protocol : Protocol → List Protocol → List Protocol
 without_protocol p [] = []
 without_protocol p (q ∷ qs) =
@@ -60,11 +62,12 @@ relation_formula link c l r =
 
 -- ---- a word of an IPv6 address of which no bit counts is loaded only where that decides
 
--- a test of a word of which no bit counts, and which is 0: it is yes wherever the word is captured
+-- a mask of no bit
 abbrev pub is_empty : Option ℕ → Bool
 is_empty None = false
 is_empty (Some mask) = mask == 0
 
+-- a test of a word of which no bit counts, and which is 0: it is yes wherever the word is captured
 abbrev pub is_idle : Elementary → Bool
 is_idle (Outcome b) = false
 is_idle (Field t) = is_empty t.mask && t.value == 0
@@ -86,6 +89,7 @@ needed_tests (t ∷ []) = last_test t ∷ []
 needed_tests (t ∷ u ∷ ts) =
     if is_idle t then needed_tests (u ∷ ts) else t ∷ needed_tests (u ∷ ts)
 
+-- the same of the words of both sides, as a direction asks for them
 abbrev pub needed_sides : Direction → List Elementary → List Elementary → Formula
 needed_sides direction source destination =
     sides direction (needed_tests source) (needed_tests destination)

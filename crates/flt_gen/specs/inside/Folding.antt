@@ -47,6 +47,7 @@ folded_expression (truth a) = truth (folded_truth a)
 
 -- ---- the same of nodes, of which the latest comes first
 
+-- the number that a node is
 abbrev pub node_constant : Node → Option ℕ
 node_constant (node.Literal k) = Some k
 node_constant (node.Named k) = Some k
@@ -64,9 +65,11 @@ abbrev pub node_or : Option ℕ → List Node → List Node → List Node
 node_or (Some k) before nodes = node.Literal k ∷ before
 node_or None before nodes = nodes
 
+-- a negation comes, or the negative of a number in its place
 abbrev pub with_negation : List Node → List Node
 with_negation ns = node_or (negated_constant (latest_constant ns)) (earlier ns) (node.Negate ∷ ns)
 
+-- an operator comes, or what it makes of two numbers in their place
 abbrev pub with_operator : Operator → List Node → List Node
 with_operator operator ns =
     node_or (applied_constant operator (latest_constant (earlier ns)) (latest_constant ns))

@@ -30,6 +30,7 @@ pub record Group : Type 0 where
   pub first : ℕ
   pub numbers : List ℕ
 
+-- a group without members
 abbrev pub no_group : Group
 no_group = record {
   value_type = Host;
@@ -53,11 +54,13 @@ with_member q a group = record {
   numbers = insert_ascending a group.numbers;
 }
 
+-- both are hosts, or both are ports
 abbrev pub same_type : ValueType → ValueType → Bool
 same_type Host Host = true
 same_type Port Port = true
 same_type _ _ = false
 
+-- both have no protocol, or the same of ip, tcp and udp
 abbrev pub same_protocol : Option Protocol → Option Protocol → Bool
 same_protocol None None = true
 same_protocol (Some Ip) (Some Ip) = true
@@ -76,6 +79,7 @@ same_direction _ _ = false
 abbrev pub MOST_TOGETHER : ℕ
 MOST_TOGETHER = 4096
 
+-- a value with these qualifiers may join the members: any may if there are none
 abbrev pub goes_with : CompleteQualifiers → Group → List ℕ → Bool
 goes_with q group [] = true
 goes_with q group (a ∷ others) =

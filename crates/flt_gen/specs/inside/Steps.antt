@@ -39,6 +39,7 @@ pub record Meaning : Type 0 where
   pub numbers : List ℕ
   pub parts : List Part
 
+-- what steps mean: the numbers, and a part for each step
 abbrev pub meaning : Steps → Meaning
 meaning s = record { numbers = s.numbers; parts = parts_of s.numbers s.steps }
 

@@ -203,6 +203,7 @@ emit_applied operator k w =
     then Some (with_insns (plain (computation operator Constant) k ∷ w.code) w)
     else None
 
+-- a comparison with a constant as its right operand
 abbrev pub emit_compared : Comparison → ℕ → Walk → Option Walk
 emit_compared comparison k w =
     Some (with_insns (emit_comparison comparison Constant k w.to.yes w.to.no w.code) w)

@@ -32,6 +32,7 @@ pub record FactHolds (p : List ℕ) (n : ℕ) (pieces : List Piece) (f : Fact) :
   pub is : value p n f.term ≡ Some number
   pub inside : within number (part pieces f.pieces) ≡ true
 
+-- all of some facts do
 abbrev pub AllHold : List ℕ → ℕ → List Piece → List Fact → Type 0
 AllHold p n pieces [] = Unit {0}
 AllHold p n pieces (f ∷ fs) = FactHolds p n pieces f × AllHold p n pieces fs
@@ -45,6 +46,7 @@ in_either v l = in_piece v l.below || in_piece v l.above
 pub record LearntHolds (p : List ℕ) (n : ℕ) (l : Learnt) : Type 0 where
   pub inside : (number : ℕ) → value p n l.term ≡ Some number → in_either number l ≡ true
 
+-- all that some tests have shown does
 abbrev pub AllLearnt : List ℕ → ℕ → List Learnt → Type 0
 AllLearnt p n [] = Unit {0}
 AllLearnt p n (l ∷ ls) = LearntHolds p n l × AllLearnt p n ls

@@ -51,6 +51,7 @@ value p n Length = Some n
 value p n (Field l) = loaded p l
 value p n (HeaderLength at more) = option_map (λ l. (l + more) % 2 ^ 32) (header_at p at)
 
+-- a term says something of a register that holds it
 abbrev pub is_known : Term → Bool
 is_known Anything = false
 is_known _ = true

@@ -45,6 +45,7 @@ sets_index LoadHeaderLength = true
 sets_index CopyToIndex = true
 sets_index _ = false
 
+-- the second holds if the first does
 abbrev pub implies : Bool → Bool → Bool
 implies true b = b
 implies false b = true

@@ -29,6 +29,7 @@ nothing_known = record {
 abbrev pub unreached : Known
 unreached = record nothing_known { held = held.Unreached }
 
+-- two numbers that may be missing are the same: masks, or headers
 abbrev pub same_mask : Option ℕ → Option ℕ → Bool
 same_mask None None = true
 same_mask (Some a) (Some b) = a == b
@@ -154,10 +155,12 @@ with_fact k f c = with_one k (record { field = f; claim = c })
 abbrev pub captures : Fact → ℕ → ℕ → Bool
 captures x code k = (x.field.code == code && x.field.k == k) && not (is_nothing x.claim)
 
+-- by one of some facts they are
 abbrev pub any_captures : List Fact → ℕ → ℕ → Bool
 any_captures [] code k = false
 any_captures (x ∷ xs) code k = captures x code k || any_captures xs code k
 
+-- A holds the field of a load, perhaps masked
 abbrev pub holds_field : Held → ℕ → ℕ → Bool
 holds_field (held.Field f) code k = f.code == code && f.k == k
 holds_field _ code k = false
