@@ -95,7 +95,7 @@ pub(crate) fn put_search<A: Allocator>(
     if let Some(node) = one_test(ranges) {
         return push_node(nodes, node);
     }
-    // No 0 is returned: there is a range, and `split_place` is between two.
+    // Neither 0 below is ever returned: there is a range, and `split_place` is between two.
     let (below, above) = match ranges {
         [] => return Ok(0),
         [only] => return Ok(only.exit),

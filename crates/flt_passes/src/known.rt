@@ -156,8 +156,8 @@ pub(crate) fn common_registers(one: Registers, other: Registers) -> Registers {
     }
 }
 
-/// The facts that hold where two ways meet: each on a term of which both have one, with the numbers
-/// of both.
+/// The facts that hold where two ways meet: each on a term of which both ways have one, with the
+/// numbers of either.
 pub(crate) fn common_facts<A: Allocator>(
     pieces: &mut Vec<Piece, A>,
     one: &Facts,

@@ -119,7 +119,7 @@ impl<A: Allocator + Clone> Threading<A> {
 }
 
 impl<A: Allocator + Clone> Threading<A> {
-    /// Whether a test can hold, and whether it can fail, by what is known. One of both is true.
+    /// Whether a test can hold, and whether it can fail, by what is known: one of both at least.
     fn outcomes(&self, known: &Known, node: Node) -> (bool, bool) {
         let term = known.registers.accumulator;
         match known.facts.decide(&self.pieces, node.test(), node.k, term) {
