@@ -14,11 +14,12 @@ is_division Divide = true
 is_division Remainder = true
 is_division _ = false
 
+-- a number is 0 as it is written
 abbrev pub is_zero : NumberTree → Bool
 is_zero (literal n) = n == 0
 is_zero _ = false
 
--- the divisor is the number 0 as it is written
+-- some divisor in a number's tree is the number 0 as it is written
 abbrev pub has_zero_divisor : NumberTree → Bool
 has_zero_divisor (literal n) = false
 has_zero_divisor len = false
@@ -28,6 +29,7 @@ has_zero_divisor (negated a) = has_zero_divisor a
 has_zero_divisor (applied o a b) =
     has_zero_divisor a || (has_zero_divisor b || is_division o && is_zero b)
 
+-- the same of a primitive: only comparisons have arithmetic
 abbrev pub divides_by_zero : TruthTree → Bool
 divides_by_zero (compared c a b) = has_zero_divisor a || has_zero_divisor b
 divides_by_zero _ = false
@@ -39,6 +41,7 @@ first_excess false true long = Some fault.TooManyWords
 first_excess false false true = Some fault.ProgramTooLong
 first_excess false false false = None
 
+-- the fault that `flt_lang::check` reports of a resolved tree, or none
 abbrev pub check_fault : Expression → Option ExprFault
 check_fault e =
     first_excess (some_primitive divides_by_zero e) (nat_lt 16 (words_of e))

@@ -1,5 +1,5 @@
 -- The counts of an expression: sums over its tree. Each test of a primitive's formula counts one,
--- and each node of arithmetic.
+-- and each node of arithmetic; `ether proto`, which is one test, counts two.
 use Rattle.std.specs.Prelude.{ℕ, ◌+◌, ◌*◌, max, Option, Some, None}
 use Rattle.flt_words.specs.declared.token.Protocol.{Protocol}
 use Rattle.flt_words.specs.declared.token.Protocol.TheVariants as protocol
@@ -64,6 +64,7 @@ abbrev pub port_tests : Option Protocol → Direction → ℕ → ℕ
 port_tests p d n =
     (1 + transport_tests p + 1 + side_tests d n) + (1 + transport_tests p + side_tests d n)
 
+-- an address or a network, by its kind
 abbrev pub address_tests : Option Protocol → Direction → Value → ℕ
 address_tests p d (value.Mac a) = ether_tests d
 address_tests p d (value.Ip6 a n) = ip6_test_count d
@@ -159,7 +160,7 @@ words_of (truth a) = truth_words a
 abbrev pub bound_of : Expression → ℕ
 bound_of e = 2 + 6 * (tests_of e + nodes_of e)
 
--- the same of a node
+-- what a node alone adds to the tests of its tree, and to the nodes of its arithmetic
 abbrev pub node_tests : Node → ℕ
 node_tests (node.Check p) = check_tests p
 node_tests (node.Cast p c) = cast_tests c

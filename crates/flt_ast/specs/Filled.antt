@@ -37,6 +37,7 @@ completed_qualifiers q =
       value_type = type_or_host q;
     }
 
+-- each value that has some qualifiers gets those that are left out
 abbrev pub complete : TruthTree → TruthTree
 complete (valued q v) = qualified (completed_qualifiers q) v
 complete (denied a) = denied (complete a)
@@ -47,14 +48,17 @@ complete a = a
 abbrev pub only_host : Qualifiers
 only_host = record { protocol = None; direction = None; value_type = Some Host }
 
+-- an expression whose bare values have inherited
 abbrev pub expr_inherited : Expression → Expression
 expr_inherited empty = empty
 expr_inherited (truth a) = truth (with_inherited only_host a)
 
+-- and one whose values have all qualifiers, as `flt_lang::resolve` returns it
 abbrev pub fill_expression : Expression → Expression
 fill_expression empty = empty
 fill_expression (truth a) = truth (complete (with_inherited only_host a))
 
+-- the same of a node
 abbrev pub completed_node : Node → Node
 completed_node (node.Valued q v) = node.Qualified (completed_qualifiers q) v
 completed_node n = n

@@ -47,6 +47,7 @@ abbrev pub has_mac_addresses : Option Protocol → Bool
 has_mac_addresses (Some protocol.Ether) = true
 has_mac_addresses _ = false
 
+-- all four parts of an IPv4 address are written
 abbrev pub is_whole : Dotted → Bool
 is_whole d = d.parts == 4
 
@@ -69,7 +70,7 @@ fit_if true true = fit.InRange
 fit_if true false = fit.OutOfRange
 fit_if false _ = fit.Misfit
 
--- the table
+-- the table of docs/FILTER.md ("What fits")
 abbrev pub fit_of : ValueType → Value → Option Protocol → Fit
 fit_of Host (value.Dotted d mask.Unwritten) p = fit_if (is_whole d && has_ip4_addresses p) true
 fit_of Host (value.Ip6 a None) p = fit_if (has_ip6_addresses p) true

@@ -3,7 +3,7 @@ use Rattle.std.specs.Prelude.{ℕ, ◌+◌, ◌-◌}
 use Rattle.flt_ast.specs.declared.node.Node.{Node}
 use Rattle.flt_ast.specs.declared.node.Node.TheVariants as node
 
--- how many numbers there are after a node
+-- how many numbers wait to be operands after a node, where h wait before it
 abbrev pub height_after : ℕ → Node → ℕ
 height_after h (node.Literal n) = h + 1
 height_after h node.Len = h + 1
@@ -12,7 +12,7 @@ height_after h (node.Apply o) = h - 1
 height_after h (node.Compare c) = h - 2
 height_after h _ = h
 
--- the most that there are at once; `less` and `greater` have two numbers of their own
+-- the most that wait at once for a node; `less` and `greater` have two numbers of their own
 abbrev pub peak_height : ℕ → Node → ℕ
 peak_height h (node.Sized s n) = h + 2
 peak_height h n = height_after h n

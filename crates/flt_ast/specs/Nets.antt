@@ -17,16 +17,18 @@ ip4_mask parts mask.Unwritten = first_bits 32 (8 * parts)
 ip4_mask parts (mask.Prefix n) = first_bits 32 n
 ip4_mask parts (mask.Mask d) = d.address
 
+-- without the length of a prefix all bits are meant
 abbrev pub ip6_mask : Option ℕ → ℕ
 ip6_mask None = first_bits 128 128
 ip6_mask (Some n) = first_bits 128 n
 
--- a number is the first byte
+-- the IPv4 network of a value, or none; a number is the first byte
 abbrev pub ip4_net : Value → Option Ip4Net
 ip4_net (value.Number n m) = Some (record { address = n % 256 * 2 ^ 24; mask = ip4_mask 1 m })
 ip4_net (value.Dotted d m) = Some (record { address = d.address; mask = ip4_mask d.parts m })
 ip4_net _ = None
 
+-- the IPv6 network of a value, or none
 abbrev pub ip6_net : Value → Option Ip6Net
 ip6_net (value.Ip6 a n) = Some (record { address = a; mask = ip6_mask n })
 ip6_net _ = None
@@ -43,5 +45,6 @@ abbrev pub ip6_past : Option Ip6Net → Bool
 ip6_past None = false
 ip6_past (Some n) = is_past n.address n.mask
 
+-- the same of the network that a value means, if it means one
 abbrev pub is_past_mask : Value → Bool
 is_past_mask v = ip4_past (ip4_net v) || ip6_past (ip6_net v)

@@ -9,8 +9,8 @@ use crate::expr::Expr;
 use std::alloc::Allocator;
 
 /// An expression with none of the faults that a tree may have: each value has all its qualifiers,
-/// they fit it, its numbers are in range, no divisor is the number 0, and a program for it is
-/// neither too wide nor too long.
+/// they fit it, its numbers are in range, no divisor is the number 0, its arithmetic needs no more
+/// than the machine's 16 words of memory, and a program for it has at most 32,768 instructions.
 #[derive(Drop)]
 pub struct Checked<A: Allocator> {
     pub expr: Expr<A>,

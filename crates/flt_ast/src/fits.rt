@@ -18,7 +18,8 @@ pub enum Fit {
     InRange,
 }
 
-/// A value that does not go with its type and protocol is a misfit, whatever its numbers are.
+/// The fit of a value that goes with its type and protocol if `fits`, and has its numbers in range
+/// if `in_range`. One that doesn't go with them is a misfit, whatever its numbers are.
 fn fit_if(fits: bool, in_range: bool) -> Fit
     ensures { result ≡ fit_if fits in_range }
 {
@@ -29,7 +30,8 @@ fn fit_if(fits: bool, in_range: bool) -> Fit
     }
 }
 
-/// Whether a value goes with a type and a protocol, and its numbers are in range: the table of all.
+/// Whether a value goes with a type and a protocol, and its numbers are in range: the table of all
+/// types, as docs/FILTER.md has it ("What fits").
 pub(crate) fn fit_of(value_type: ValueType, value: Value, protocol: Option<Protocol>) -> Fit
     ensures { result ≡ fit_of value_type value protocol }
 {
@@ -56,7 +58,7 @@ pub(crate) fn fit_of(value_type: ValueType, value: Value, protocol: Option<Proto
     }
 }
 
-/// The same for the type `host`: an IPv4, IPv6 or MAC address in full.
+/// The fit of a value of the type `host`: an IPv4, IPv6 or MAC address in full.
 fn host_fit(value: Value, protocol: Option<Protocol>) -> Fit
     ensures { result ≡ fit_of ValueType.Host value protocol }
 {
@@ -70,8 +72,8 @@ fn host_fit(value: Value, protocol: Option<Protocol>) -> Fit
     }
 }
 
-/// The same for the type `net`: an address or its first parts, with a mask or the length of a
-/// prefix.
+/// The fit of a value of the type `net`: an address or its first parts, alone, with a mask or with
+/// the length of a prefix.
 fn net_fit(value: Value, protocol: Option<Protocol>) -> Fit
     ensures { result ≡ fit_of ValueType.Net value protocol }
 {
@@ -89,8 +91,8 @@ fn net_fit(value: Value, protocol: Option<Protocol>) -> Fit
     }
 }
 
-/// The same for the type `proto`: an EtherType from 1536 (0x600) on, below which the field is a
-/// length, or a protocol number of one byte.
+/// The fit of a number of the type `proto`: after `ether` an EtherType, from 1536 (0x600) on, below
+/// which the field is a length; else a protocol number of one byte.
 fn proto_fit(number: u32, protocol: Option<Protocol>) -> Fit
     ensures { result ≡ fit_of ValueType.Proto (Value.Number number NetMask.Unwritten) protocol }
 {
@@ -138,7 +140,8 @@ fn has_mac_addresses(protocol: Option<Protocol>) -> bool
     matches!(protocol, Some(Protocol::Ether))
 }
 
-/// Whether a mask may stand after a network: a written one has all four parts.
+/// Whether a network may have this mask: one of `mask D` needs all four parts of an address; `/ N`
+/// and none written are always right.
 fn is_net_mask(mask: NetMask) -> bool
     ensures { result ≡ is_net_mask mask }
 {
@@ -148,7 +151,8 @@ fn is_net_mask(mask: NetMask) -> bool
     }
 }
 
-/// Whether the length of a prefix, if one is written, is at most the 32 bits of an IPv4 address.
+/// Whether the length of a prefix, if one is written, is at most the 32 bits of an IPv4 address. A
+/// written mask is in range too.
 fn is_ip4_prefix_len(mask: NetMask) -> bool
     ensures { result ≡ is_ip4_prefix_len mask }
 {
@@ -168,7 +172,9 @@ fn is_ip6_prefix_len(len: Option<u32>) -> bool
     }
 }
 
-/// Whether `broadcast` or `multicast` does not go with the protocol before it.
+/// Whether `broadcast` or `multicast` doesn't go with the protocol before it: `broadcast` after
+/// `ip` or `ip6`. It is asked only of protocols that the parser takes there: `ether`, `ip` and
+/// `ip6`.
 pub(crate) fn is_cast_misfit(protocol: Option<Protocol>, cast: Cast) -> bool
     ensures { result ≡ is_cast_misfit protocol cast }
 {

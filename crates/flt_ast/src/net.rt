@@ -21,8 +21,9 @@ pub(crate) struct Ip6Net {
 }
 
 impl Value {
-    /// The network of IPv4 that the value means. A number is the first byte; without a mask
-    /// the parts that are written are the network.
+    /// The network of IPv4 that the value means, or `None` for IPv6, MAC addresses and ranges. A
+    /// number is the first byte of the address, and without a mask the network is the parts that
+    /// are written. Of a number above 255, which is out of range (E8), its lowest byte is taken.
     pub fn ip4_net(self) -> Option<Ip4Net>
         ensures { result ≡ ip4_net self }
     {
@@ -39,7 +40,7 @@ impl Value {
         }
     }
 
-    /// The network of IPv6 that the value means.
+    /// The network of IPv6 that the value means, or `None` for all but IPv6 addresses.
     pub(crate) fn ip6_net(self) -> Option<Ip6Net>
         ensures { result ≡ ip6_net self }
     {
@@ -52,7 +53,8 @@ impl Value {
         }
     }
 
-    /// Whether the address has bits set that the mask leaves out (E9).
+    /// Whether the address has bits set that the mask leaves out (E9). A value that is no network
+    /// has none.
     pub(crate) fn is_past_mask(self) -> bool
         ensures { result ≡ is_past_mask self }
     {
@@ -64,7 +66,8 @@ impl Value {
     }
 }
 
-/// The mask of an IPv4 network of which `parts` bytes of the address are written.
+/// The mask of an IPv4 network: the one that is written, or else one as long as the `parts` bytes
+/// of the address that are written.
 fn ip4_mask(parts: u8, mask: NetMask) -> u32
     ensures { result ≡ ip4_mask parts mask }
 {
@@ -79,6 +82,7 @@ fn ip4_mask(parts: u8, mask: NetMask) -> u32
 fn ip4_prefix_mask(len: u32) -> u32
     ensures { result ≡ first_bits 32 len }
 {
+    // A shift by all bits isn't defined.
     match 32u32.saturating_sub(len) {
         32 => 0,
         rest => u32::MAX - ((1 << rest) - 1),
@@ -89,6 +93,7 @@ fn ip4_prefix_mask(len: u32) -> u32
 fn ip6_prefix_mask(len: u32) -> u128
     ensures { result ≡ first_bits 128 len }
 {
+    // A shift by all bits isn't defined.
     match 128u32.saturating_sub(len) {
         128 => 0,
         rest => u128::MAX - ((1 << rest) - 1),

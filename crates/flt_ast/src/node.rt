@@ -51,6 +51,8 @@ impl Node {
     ghost use Rattle.flt_ast.specs.Heights.{height_after, peak_height};
 
     /// Whether what is written before a value, or before `broadcast`, does not go with it (E7).
+    /// With `proto` no direction may be written, which `completed` makes `src or dst`. A bare value
+    /// has nothing before it that could be wrong.
     pub fn is_misfit(self) -> bool
         ensures { result ≡ is_misfit_node self }
     {
@@ -70,7 +72,8 @@ impl Node {
         }
     }
 
-    /// Whether a number of a value, or the size of an accessor, is out of range (E8).
+    /// Whether a number of a value, or the size of an accessor, is out of range (E8): a load of the
+    /// machine takes 1, 2 or 4 bytes.
     pub fn is_out_of_range(self) -> bool
         ensures { result ≡ is_out_of_range_node self }
     {
@@ -101,7 +104,8 @@ impl Node {
         }
     }
 
-    /// The node with what is left out before its value filled in.
+    /// The node with what is left out before its value filled in. Others, a bare value among them,
+    /// are unchanged.
     pub fn completed(self) -> Node
         ensures { result ≡ completed_node self }
     {
@@ -111,7 +115,8 @@ impl Node {
         }
     }
 
-    /// How many elementary tests its formula has: comparisons of one field of a packet.
+    /// How many elementary tests the node adds to the formula of its expression: comparisons of one
+    /// field of a packet. A value without all its qualifiers has no formula, and counts none.
     pub fn tests(self) -> u8
         ensures count { result ≡ node_tests self }
         ensures upper_bound { result ≤ 27 }
@@ -126,7 +131,7 @@ impl Node {
         }
     }
 
-    /// How many nodes of arithmetic it counts as: `less N` is `len <= N`, of two.
+    /// How many nodes of arithmetic the node counts as: `less N` is `len <= N`, of two.
     pub fn arithmetic_nodes(self) -> u8
         ensures count { result ≡ node_size self }
         ensures upper_bound { result ≤ 2 }
@@ -143,7 +148,8 @@ impl Node {
         }
     }
 
-    /// How many numbers wait to be operands after this node, where `height` wait in front of it.
+    /// How many numbers wait to be operands after this node, where `height` wait before it. In a
+    /// tree a node's operands wait before it, so the subtractions never stop at 0.
     pub fn height_after(self, height: usize) -> usize
         requires { height < 2 ^ 63 }
         ensures { result ≡ height_after height self }
@@ -156,7 +162,8 @@ impl Node {
         }
     }
 
-    /// The most numbers that wait at once while it is worked on; `less N` has two of its own.
+    /// The most numbers that wait at once while the node is worked on, where `height` wait before
+    /// it; `less N` has two of its own.
     pub fn peak_height(self, height: usize) -> usize
         requires { height < 2 ^ 63 }
         ensures { result ≡ peak_height height self }

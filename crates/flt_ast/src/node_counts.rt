@@ -1,5 +1,9 @@
-//! How many elementary tests a primitive counts as: those of the formula that it means. A number of
-//! tests fits a byte, since no primitive has more than 27.
+//! How many elementary tests a primitive counts as: at least those of the formula that it means.
+//! docs/inside/COMPILER.md has the table.
+//!
+//! A number of tests fits a byte: no primitive has more than the 15 of `portrange` without a
+//! protocol, for both sides. The bounds in the clauses, up to 27, are greater than any count, since
+//! each takes a direction for 8 tests, the most that `side_tests` returns.
 
 ghost use Rattle.std.specs.Prelude.{◌≡◌, ◌≤◌};
 ghost use Rattle.flt_ast.specs.Counts.{side_tests, proto_tests, check_tests, ether_tests};
@@ -11,7 +15,8 @@ use crate::qualifiers::{CompleteQualifiers, Direction};
 use crate::value::Value;
 use flt_words::{Cast, Protocol, Side, ValueType};
 
-/// `tests` for the source or the destination, and as many for the other one if both are meant.
+/// The tests of a direction: `tests` for the source or the destination, and as many for the other
+/// one if both are meant.
 fn side_tests(direction: Direction, tests: u8) -> u8
     requires { tests ≤ 4 }
     ensures count { result ≡ side_tests direction tests }
@@ -23,7 +28,8 @@ fn side_tests(direction: Direction, tests: u8) -> u8
     }
 }
 
-/// An IP protocol number: the EtherType and the number, for IPv4 and for IPv6 if none is named.
+/// The tests of a protocol number: the EtherType and the number, for IPv4 and for IPv6 if no
+/// protocol is named. `ether proto`, which has one test, counts as two.
 fn proto_tests(protocol: Option<Protocol>) -> u8
     ensures count { result ≡ proto_tests protocol }
     ensures upper_bound { result ≤ 4 }
@@ -34,7 +40,7 @@ fn proto_tests(protocol: Option<Protocol>) -> u8
     }
 }
 
-/// A protocol alone: one above IP is tested as its number is (`tcp` is `proto 6`).
+/// The tests of a protocol alone: one above IP is tested as its number is (`tcp` is `proto 6`).
 pub(crate) fn check_tests(protocol: Protocol) -> u8
     ensures count { result ≡ check_tests protocol }
     ensures upper_bound { result ≤ 4 }
@@ -47,7 +53,7 @@ pub(crate) fn check_tests(protocol: Protocol) -> u8
     }
 }
 
-/// A MAC address, each side of which is tested as four bytes and two.
+/// The tests of a MAC address: that the link is Ethernet, and each side as four bytes and two.
 fn ether_tests(direction: Direction) -> u8
     ensures count { result ≡ ether_tests direction }
     ensures upper_bound { result ≤ 9 }
@@ -55,7 +61,8 @@ fn ether_tests(direction: Direction) -> u8
     1 + side_tests(direction, 2)
 }
 
-/// `broadcast` is a destination; of `multicast` one bit or byte is tested.
+/// The tests of `broadcast`, the MAC address of a destination, and of `multicast`: the protocol,
+/// and one bit or byte.
 pub(crate) fn cast_tests(cast: Cast) -> u8
     ensures count { result ≡ cast_tests cast }
     ensures upper_bound { result ≤ 9 }
@@ -66,7 +73,8 @@ pub(crate) fn cast_tests(cast: Cast) -> u8
     }
 }
 
-/// An IPv4 address, which without a protocol may be one of IPv4, ARP or RARP.
+/// The tests of an IPv4 address or network, which without a protocol may be one of IPv4, ARP or
+/// RARP: the EtherType and each side, for each of the three.
 fn ip4_tests(protocol: Option<Protocol>, direction: Direction) -> u8
     ensures count { result ≡ ip4_tests protocol direction }
     ensures upper_bound { result ≤ 27 }
@@ -78,7 +86,7 @@ fn ip4_tests(protocol: Option<Protocol>, direction: Direction) -> u8
     }
 }
 
-/// Whether a packet is TCP, UDP, or either if no protocol is named.
+/// The tests whether a packet is TCP or UDP, or of both if no protocol is named.
 fn transport_tests(protocol: Option<Protocol>) -> u8
     ensures count { result ≡ transport_tests protocol }
     ensures upper_bound { result ≤ 2 }
@@ -89,7 +97,8 @@ fn transport_tests(protocol: Option<Protocol>) -> u8
     }
 }
 
-/// Ports, `tests` a side: over IPv4, where a later fragment has none, or over IPv6.
+/// The tests of ports, `tests` a side: 1 of a port, 2 of a range. Over IPv4 there is one more,
+/// since a later fragment has no ports; over IPv6 none.
 fn port_tests(protocol: Option<Protocol>, direction: Direction, tests: u8) -> u8
     requires { tests ≤ 2 }
     ensures count { result ≡ port_tests protocol direction tests }
@@ -100,7 +109,7 @@ fn port_tests(protocol: Option<Protocol>, direction: Direction, tests: u8) -> u8
     (1 + transport + 1 + sides) + (1 + transport + sides)
 }
 
-/// An address or a network, by its kind; an IPv6 address is tested as four words.
+/// The tests of an address or a network, by its kind; an IPv6 address is tested as four words.
 fn address_tests(protocol: Option<Protocol>, direction: Direction, value: Value) -> u8
     ensures count { result ≡ address_tests protocol direction value }
     ensures upper_bound { result ≤ 27 }
@@ -112,7 +121,7 @@ fn address_tests(protocol: Option<Protocol>, direction: Direction, value: Value)
     }
 }
 
-/// A value with all its qualifiers.
+/// The tests of a value with all its qualifiers.
 pub(crate) fn value_tests(qualifiers: CompleteQualifiers, value: Value) -> u8
     ensures count { result ≡ value_tests qualifiers value }
     ensures upper_bound { result ≤ 27 }
@@ -129,8 +138,8 @@ pub(crate) fn value_tests(qualifiers: CompleteQualifiers, value: Value) -> u8
     }
 }
 
-/// An accessor, as `tcp[13]`: its protocol, and above IPv4 its number and that there is no later
-/// fragment.
+/// The tests of an accessor, as `tcp[13]`: its protocol; of one above IPv4 the EtherType, its
+/// number and that the packet is no later fragment.
 pub(crate) fn accessor_tests(protocol: Protocol) -> u8
     ensures count { result ≡ accessor_test_count protocol }
     ensures upper_bound { result ≤ 3 }

@@ -5,6 +5,7 @@ use Rattle.flt_bpf.specs.declared.operation.Operation.{Operation}
 use Rattle.flt_bpf.specs.declared.operation.Operation.TheVariants.{JumpIf}
 use Rattle.flt_bpf.specs.Instructions.{operation_of}
 
+-- a conditional jump
 abbrev pub is_branch : Option Operation → Bool
 is_branch (Some (JumpIf test operand)) = true
 is_branch _ = false

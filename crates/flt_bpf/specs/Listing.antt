@@ -21,6 +21,7 @@ abbrev pub insn_line : Insn → List ℕ
 insn_line i =
     decimal i.code ++ BLANK ∷ (decimal i.jt ++ BLANK ∷ (decimal i.jf ++ BLANK ∷ decimal i.k))
 
+-- the lines of instructions, each with its line feed
 abbrev pub insn_lines : List Insn → List ℕ
 insn_lines [] = []
 insn_lines (i ∷ is) = insn_line i ++ LINE_FEED ∷ insn_lines is

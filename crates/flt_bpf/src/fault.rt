@@ -76,7 +76,7 @@ impl Error for CheckFault {}
 pub enum ListingFault {
     /// L1: the text is no listing; the line with this number, from 1, is the first wrong one.
     NotListing(usize),
-    /// No memory was to be had for the instructions.
+    /// An allocation for the instructions failed.
     Memory,
 }
 
@@ -91,7 +91,7 @@ impl ListingFault {
         }
     }
 
-    /// The number of the first wrong line, from 1.
+    /// The number of the first wrong line, from 1, if the fault has one.
     pub fn line(self) -> Option<usize>
         ensures { result ≡ wrong_line self }
     {

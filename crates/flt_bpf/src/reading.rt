@@ -32,7 +32,7 @@ struct Cut<'a> {
     rest: Option<&'a [u8]>,
 }
 
-/// A text, cut at the first byte that is `stop`.
+/// Cuts a text at the first byte that is `stop`; without one the piece is all of it.
 fn cut_at(text: &[u8], stop: u8) -> Cut<'_>
     ensures pieces { slice_split (λ b. b == stop) text.now
         ≡ result.piece.now ∷ pieces_after stop result.rest }
@@ -52,7 +52,8 @@ fn cut_at(text: &[u8], stop: u8) -> Cut<'_>
     }
 }
 
-/// The number that 1 to 10 decimal digits write.
+/// The number that 1 to 10 decimal digits write, as many as a number of 32 bits has; `None` for
+/// other texts.
 fn parse_number(digits: &[u8]) -> Option<u64>
     ensures { result ≡ numeral digits.now }
 {
@@ -62,14 +63,14 @@ fn parse_number(digits: &[u8]) -> Option<u64>
     decimal_value(digits)
 }
 
-/// A number, and what follows it and the blanks after it.
+/// A number of a line, and what follows the blanks after it.
 #[derive(Clone, Copy)]
 struct Numbered<'a> {
     number: u64,
     rest: &'a [u8],
 }
 
-/// What follows the blanks at the beginning of a text.
+/// What follows the blanks at the beginning of a text; all of a text that begins with none.
 fn after_blanks(text: &[u8]) -> &[u8]
     ensures { later_numbers (slice_split (λ b. b == BLANK) text.now) ≡ line_numbers result.now }
 {
@@ -81,7 +82,7 @@ fn after_blanks(text: &[u8]) -> &[u8]
     &text[text.len()..]
 }
 
-/// The number at the beginning of a line, where blanks follow it.
+/// The number at the beginning of a line, if it is one and a blank follows it.
 fn first_number(line: &[u8]) -> Option<Numbered<'_>>
     ensures first { IfSome result (λ first. line_numbers line.now
         ≡ after (Some first.number) (line_numbers first.rest.now)) }
@@ -93,7 +94,7 @@ fn first_number(line: &[u8]) -> Option<Numbered<'_>>
     Some(Numbered { number, rest })
 }
 
-/// The number of a line that has nothing but one.
+/// The number that a line is; `None` where it has a blank or isn't one.
 fn only_number(line: &[u8]) -> Option<u64>
     ensures { result ≡ only_of (line_numbers line.now) }
 {
@@ -120,7 +121,7 @@ fn insn_with_fields(code: u64, jt: u64, jf: u64, k: u64) -> Option<Insn>
     }
 }
 
-/// The instruction on a line of four numbers.
+/// The instruction on a line of four numbers, or `None` for another line.
 fn insn_on_line(line: &[u8]) -> Option<Insn>
     ensures { result ≡ insn_of (line_numbers line.now) }
 {
@@ -192,7 +193,8 @@ fn insns_on_lines<A: Allocator>(
     }
 }
 
-/// The instructions of a listing, or the number of the first wrong line, from 1.
+/// What `read_listing` returns. The clause cites `read`, which computes it; that of `read_listing`
+/// says what a listing is.
 fn insns_of_listing<A: Allocator>(alloc: A, text: &[u8]) -> Result<Vec<Insn, A>, ListingFault>
     ensures { MatchResult result (λ insns. read text.now ≡ Ok insns.items)
         (λ fault. IsFaultOf fault (read text.now)) }

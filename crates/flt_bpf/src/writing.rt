@@ -54,8 +54,8 @@ fn write_insns<O: Output>(insns: &[Insn], output: &mut O) -> Result<(), Stopped>
     Ok(())
 }
 
-/// Puts the line of an instruction, with its line feed, at the end of the bytes, and returns where
-/// it starts.
+/// Puts the line of an instruction, with its line feed, at the end of the bytes, and returns the
+/// index of its first one.
 fn put_insn_line(line: &mut [u8; MOST_LINE_BYTES], insn: &Insn) -> usize
     ensures inside { result ≤ 25 }
     ensures written { drop result line.new ≡ insn_line insn.now ++ LINE_FEED ∷ [] }
@@ -66,8 +66,8 @@ fn put_insn_line(line: &mut [u8; MOST_LINE_BYTES], insn: &Insn) -> usize
     put_number(line, jt, u64::from(insn.code), BLANK)
 }
 
-/// Puts a number and the byte `following` in front of what is at `end`, and returns where the
-/// number starts.
+/// Puts a number in decimal and the byte `following` in front of what begins at the index `end`,
+/// and returns the index of its first digit.
 fn put_number(line: &mut [u8; MOST_LINE_BYTES], end: usize, number: u64, following: u8) -> usize
     requires room { length (decimal number) + 1 ≤ end }
     requires inside { end ≤ 25 }

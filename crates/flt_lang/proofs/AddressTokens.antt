@@ -8,7 +8,7 @@ use Rattle.std.specs.Str.Parse.{IsNumeral, digits_value}
 use Rattle.flt_words.specs.declared.token.TokenKind.TheVariants as token
 use Rattle.flt_words.specs.Addresses.{IsMac, IsWholeIp6}
 use Rattle.flt_words.specs.Addresses.IsIp6.{whole}
-use Rattle.flt_words.specs.Words.Stands.{mac, ip6}
+use Rattle.flt_words.specs.Words.Spells.{mac, ip6}
 use Rattle.flt_lang.specs.Texts.{octet, hex_byte, bytes_text, mac_word, group_at, groups_text, ip6_word}
 use Rattle.flt_lang.proofs.WordPieces.{IsPart, part_of_digits, part_join}
 use Rattle.flt_lang.proofs.WordTokens.{IsWordFor}

@@ -10,7 +10,7 @@ use Rattle.flt_words.specs.Characters.{starts_word, within_word}
 use Rattle.flt_words.specs.Spellings.{keyword_of, keywords}
 use Rattle.flt_words.specs.Tokens.{IsToken, IsWordPiece}
 use Rattle.flt_words.specs.Tokens.PieceMeans.{word_meaning}
-use Rattle.flt_words.specs.Words.{Stands, fits}
+use Rattle.flt_words.specs.Words.{Spells, fits}
 use Rattle.flt_words.specs.Words.WordMeans.{known}
 use Rattle.flt_words.proofs.Pieces.{IsScanned, longest_word}
 use Rattle.flt_words.proofs.Tables.{both, found_passes}
@@ -103,7 +103,7 @@ part_of_keyword inside word kind found =
     }
 
 -- a word of which the text goes on with no more bytes
-module _ (inside : Bool) (place : ℕ) (word more : List ℕ) (kind : TokenKind) (part : IsPart inside word) (stands : Stands word kind) (fit : fits kind ≡ true)
+module _ (inside : Bool) (place : ℕ) (word more : List ℕ) (kind : TokenKind) (part : IsPart inside word) (stands : Spells word kind) (fit : fits kind ≡ true)
     (stops : 0 < length more → within_word inside (get_or more 0 0) ≡ false) where
   here : (i : ℕ) → i < length word → get_or (word ++ more) i 0 ≡ get_or word i 0
   here i below = get_or_append_left word more 0 i below

@@ -24,8 +24,8 @@ use Rattle.flt_words.specs.Numbers.{WritesDecimal}
 use Rattle.flt_words.specs.Numbers.IsNumber.{decimal as decimal_number}
 use Rattle.flt_words.specs.Numbers.IsRange.{joined as dashed}
 use Rattle.flt_words.specs.Spellings.{keyword_of, keywords}
-use Rattle.flt_words.specs.Words.{Stands, fits}
-use Rattle.flt_words.specs.Words.Stands.{keyword, number, dotted, range}
+use Rattle.flt_words.specs.Words.{Spells, fits}
+use Rattle.flt_words.specs.Words.Spells.{keyword, number, dotted, range}
 use Rattle.flt_words.proofs.Digits.{fits as word_sized}
 use Rattle.flt_words.proofs.Tables.{keyword_is_plain}
 use Rattle.flt_lang.specs.declared.spelling.Following.{Following}
@@ -36,7 +36,7 @@ use Rattle.flt_lang.proofs.WordPieces.{IsPart, part_of_digits, part_of_keyword, 
 
 pub record IsWordFor (inside : Bool) (word : List ℕ) (kind : TokenKind) : Type 0 where
   pub part : IsPart inside word
-  pub stands : Stands word kind
+  pub stands : Spells word kind
   pub fit : fits kind ≡ true
 
 -- keywords

@@ -19,8 +19,8 @@ use Rattle.flt_words.specs.Tokens.{PieceMeans, Tokens, TokensFrom, before}
 use Rattle.flt_words.specs.Tokens.PieceMeans.{symbol_meaning, word_meaning}
 use Rattle.flt_words.specs.Tokens.Tokens.{short, too_long}
 use Rattle.flt_words.specs.Tokens.TokensFrom.{at_end, blank, refused, token as one_more}
-use Rattle.flt_words.specs.Words.{Stands, WordMeans, fits}
-use Rattle.flt_words.specs.Words.Stands.{keyword, number, dotted, range, mac, ip6}
+use Rattle.flt_words.specs.Words.{Spells, WordMeans, fits}
+use Rattle.flt_words.specs.Words.Spells.{keyword, number, dotted, range, mac, ip6}
 use Rattle.flt_words.specs.Words.WordMeans.{known}
 use Rattle.flt_words.proofs.AddressValues.{ends_fit, number_between, number_zeros}
 use Rattle.flt_words.proofs.Groups.{small_hexadecimal}
@@ -120,7 +120,7 @@ ip6_small {word} {a} (whole w) =
 ip6_small (shortened ends) = ends_small ends
 
 -- what a word means
-stands_spellable : {word : List ℕ} {kind : TokenKind} → Stands word kind → fits kind ≡ true → IsSpellable kind
+stands_spellable : {word : List ℕ} {kind : TokenKind} → Spells word kind → fits kind ≡ true → IsSpellable kind
 stands_spellable {word} {kind} (keyword found) fit = from_table kind (found_passes (λ _ k. table_test k) keywords word kind all_keywords found)
 stands_spellable (number {n} w) fit = sized n fit
 stands_spellable (dotted w) fit = dotted_small w

@@ -26,6 +26,7 @@ mask_tokens mask.Unwritten rest = rest
 mask_tokens (mask.Prefix n) rest = token.Operator Divide ∷ token.Number n ∷ rest
 mask_tokens (mask.Mask d) rest = token.Mask ∷ token.Dotted d.address d.parts ∷ rest
 
+-- `/ N` of an IPv6 address
 abbrev pub prefix_tokens : Option ℕ → List TokenKind → List TokenKind
 prefix_tokens None rest = rest
 prefix_tokens (Some n) rest = token.Operator Divide ∷ token.Number n ∷ rest
@@ -55,6 +56,7 @@ abbrev pub written_type : Option ValueType → List TokenKind → List TokenKind
 written_type None rest = rest
 written_type (Some k) rest = token.ValueType k ∷ rest
 
+-- those qualifiers that a text had
 abbrev pub written_tokens : Qualifiers → List TokenKind → List TokenKind
 written_tokens q rest =
     protocol_tokens q.protocol (written_direction q.direction (written_type q.value_type rest))
@@ -64,6 +66,7 @@ abbrev pub typed_tokens : ValueType → Direction → List TokenKind → List To
 typed_tokens Proto d rest = token.ValueType Proto ∷ rest
 typed_tokens k d rest = direction_tokens d (token.ValueType k ∷ rest)
 
+-- all of them
 abbrev pub qualifier_tokens : CompleteQualifiers → List TokenKind → List TokenKind
 qualifier_tokens q rest = protocol_tokens q.protocol (typed_tokens q.value_type q.direction rest)
 
@@ -116,5 +119,6 @@ abbrev pub explained_tokens : Expression → List TokenKind
 explained_tokens empty = []
 explained_tokens (truth a) = truth_tokens false a []
 
+-- and its text, as `explain` returns it
 abbrev pub explained_text : Expression → List ℕ
 explained_text e = tokens_text Other (explained_tokens e)

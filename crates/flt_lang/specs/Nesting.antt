@@ -40,5 +40,6 @@ abbrev pub HasLongPrefix : List Token → Type 0
 HasLongPrefix ts =
     (i : ℕ) × (i + 101 ≤ length ts) × (list_all is_prefix (take 101 (drop i ts)) ≡ true)
 
+-- what is refused as nested too deep
 abbrev pub IsTooDeep : List Token → Type 0
 IsTooDeep ts = HasDeepFront ts ⊎ HasLongPrefix ts

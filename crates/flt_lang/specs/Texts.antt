@@ -163,11 +163,12 @@ spelling following (token.Range a b) = decimal a ++ (codes "-" ++ decimal b)
 spelling following (token.Mac a) = mac_word a
 spelling following (token.Ip6 a) = ip6_word a
 
--- what the next token follows
+-- what follows `[`: after `icmp` that of `icmp[`
 abbrev pub after_bracket : Following → Following
 after_bracket Icmp = IcmpBracket
 after_bracket _ = Other
 
+-- what the next token follows
 abbrev pub next_after : Following → TokenKind → Following
 next_after following (token.Protocol protocol.Icmp) = Icmp
 next_after following token.OpenBracket = after_bracket following
@@ -189,6 +190,7 @@ joins_previous token.Colon = true
 joins_previous (token.Operator operator.Divide) = true
 joins_previous _ = false
 
+-- the blank between a token and the next one, where neither joins the other
 abbrev pub gap : TokenKind → List TokenKind → List ℕ
 gap t [] = []
 gap t (u ∷ rest) = if joins_next t || joins_previous u then [] else codes " "

@@ -2,7 +2,8 @@
 //! until they are written, so nothing recurses and each token is written once.
 //!
 //! Everywhere `is_operand` is whether a node is an operand of another one: then it has parentheses
-//! around it.
+//! around it, unless it is one token or an accessor. Each `write_..` writes before what is written
+//! already, so the end of a text comes first.
 
 ghost use Rattle.std.specs.Prelude.{◌≡◌, [], ◌∷◌, IfNone, IfOk, IfSome, OnOk, true};
 ghost use Rattle.flt_ast.specs.declared.node.Node.TheVariants as node;
@@ -46,7 +47,7 @@ impl<A: Allocator> Model for Writer<A> {
 }
 
 impl<A: Allocator> Writer<A> {
-    /// Nothing is written yet.
+    /// A writer that has written nothing. An error is an allocator that cannot be cloned.
     pub(crate) fn new(alloc: A) -> Result<Self, AllocError>
     where
         A: Clone,
@@ -68,7 +69,7 @@ impl<A: Allocator> Writer<A> {
         Ok(())
     }
 
-    /// Lets this wait until the next operand is written.
+    /// Lets this wait until the operand that is written next is complete.
     fn push_pending(&mut self, pending: Pending) -> Result<(), AllocError>
         ensures pending { OnOk result (self.new.pending ≡ pending ∷ self.old.pending) }
         ensures tokens { OnOk result (self.new.tokens ≡ self.old.tokens) }
@@ -77,7 +78,7 @@ impl<A: Allocator> Writer<A> {
         Ok(())
     }
 
-    /// Takes off what waits since the shortest time.
+    /// Takes off what waits since the shortest time, or `None` where nothing waits.
     fn pop_pending(&mut self) -> Option<Pending>
         ensures some { IfSome result (λ p. self.old.pending ≡ p ∷ self.new.pending) }
         ensures none { IfNone result (self.old.pending ≡ []) }
@@ -87,8 +88,8 @@ impl<A: Allocator> Writer<A> {
         self.pending.pop()
     }
 
-    /// After an operand: writes what waits in front of it, up to what stands between it and another
-    /// one.
+    /// Once an operand is complete: writes what waits in front of it, up to and with what stands
+    /// between it and an operand on its left, which is written next.
     fn settle(&mut self) -> Result<(), AllocError>
         ensures { OnOk result (self.new ≡ settle self.old.pending self.old.tokens) }
     {
@@ -104,7 +105,8 @@ impl<A: Allocator> Writer<A> {
         Ok(())
     }
 
-    /// Writes the `)` after an operand; the end of it is written first.
+    /// Writes the `)` after a node that is an operand, before its own tokens, since the end is
+    /// written first. Writes nothing after another node.
     fn close_parentheses(&mut self, is_operand: bool) -> Result<(), AllocError>
         ensures tokens { OnOk result (self.new.tokens ≡ close_operand is_operand self.old.tokens) }
         ensures pending { OnOk result (self.new.pending ≡ self.old.pending) }
@@ -115,7 +117,8 @@ impl<A: Allocator> Writer<A> {
         Ok(())
     }
 
-    /// Writes the `(` before an operand.
+    /// Writes the `(` before a node that is an operand, after its own tokens. Writes nothing before
+    /// another node.
     fn open_parentheses(&mut self, is_operand: bool) -> Result<(), AllocError>
         ensures tokens { OnOk result (self.new.tokens ≡ open_operand is_operand self.old.tokens) }
         ensures pending { OnOk result (self.new.pending ≡ self.old.pending) }
@@ -126,9 +129,9 @@ impl<A: Allocator> Writer<A> {
         Ok(())
     }
 
-    /// Begins an operator whose operands are written next: closes its parentheses, and lets it wait
-    /// for them.
-    fn surround(&mut self, is_operand: bool, pending: Pending) -> Result<(), AllocError>
+    /// Begins a node whose operands are written next: what stands before or between them waits. Of
+    /// a node that is an operand itself the `)` is written and the `(` waits too.
+    fn begin_operator(&mut self, is_operand: bool, pending: Pending) -> Result<(), AllocError>
         ensures { OnOk result (self.new ≡ around is_operand pending self.old) }
     {
         if is_operand {
@@ -138,8 +141,8 @@ impl<A: Allocator> Writer<A> {
         self.push_pending(pending)
     }
 
-    /// Writes `/ N`, if there is a length of a prefix.
-    fn write_prefix(&mut self, len: Option<u32>) -> Result<(), AllocError>
+    /// Writes `/ N` after an IPv6 address, if it has a length of a prefix.
+    fn write_prefix_len(&mut self, len: Option<u32>) -> Result<(), AllocError>
         ensures tokens { OnOk result (self.new.tokens ≡ prefix_tokens len self.old.tokens) }
         ensures pending { OnOk result (self.new.pending ≡ self.old.pending) }
     {
@@ -150,7 +153,7 @@ impl<A: Allocator> Writer<A> {
         Ok(())
     }
 
-    /// Writes what follows a number or an IPv4 address of a network.
+    /// Writes what follows a number or an IPv4 address of a network: `/ N`, `mask D` or nothing.
     fn write_mask(&mut self, mask: NetMask) -> Result<(), AllocError>
         ensures tokens { OnOk result (self.new.tokens ≡ mask_tokens mask self.old.tokens) }
         ensures pending { OnOk result (self.new.pending ≡ self.old.pending) }
@@ -189,7 +192,7 @@ impl<A: Allocator> Writer<A> {
                 })
             }
             Value::Ip6(address, len) => {
-                self.write_prefix(len)?;
+                self.write_prefix_len(len)?;
                 self.push_token(TokenKind::Ip6(address))
             }
             Value::Mac(address) => self.push_token(TokenKind::Mac(address)),
@@ -197,7 +200,7 @@ impl<A: Allocator> Writer<A> {
         }
     }
 
-    /// Writes a protocol before a value, if it has one.
+    /// Writes the protocol before a value, if there is one.
     fn write_protocol(&mut self, protocol: Option<Protocol>) -> Result<(), AllocError>
         ensures tokens { OnOk result (self.new.tokens ≡ protocol_tokens protocol self.old.tokens) }
         ensures pending { OnOk result (self.new.pending ≡ self.old.pending) }
@@ -208,7 +211,7 @@ impl<A: Allocator> Writer<A> {
         }
     }
 
-    /// Writes a direction before a value.
+    /// Writes the direction before a value; one of both sides as `src or dst`, source first.
     fn write_direction(&mut self, direction: Direction) -> Result<(), AllocError>
         ensures tokens { OnOk result (self.new.tokens
             ≡ direction_tokens direction self.old.tokens) }
@@ -224,7 +227,7 @@ impl<A: Allocator> Writer<A> {
         }
     }
 
-    /// Writes those qualifiers that the text had.
+    /// Writes the qualifiers before a value of a tree that isn't resolved: those that its text had.
     fn write_written_qualifiers(&mut self, qualifiers: Qualifiers) -> Result<(), AllocError>
         ensures tokens { OnOk result (self.new.tokens
             ≡ written_tokens qualifiers self.old.tokens) }
@@ -239,7 +242,7 @@ impl<A: Allocator> Writer<A> {
         self.write_protocol(qualifiers.protocol)
     }
 
-    /// Writes all qualifiers; a protocol number has no direction.
+    /// Writes all qualifiers before a value. Before `proto` no direction may be written.
     fn write_qualifiers(&mut self, qualifiers: CompleteQualifiers) -> Result<(), AllocError>
         ensures tokens { OnOk result (self.new.tokens
             ≡ qualifier_tokens qualifiers self.old.tokens) }
@@ -255,7 +258,7 @@ impl<A: Allocator> Writer<A> {
 }
 
 impl<A: Allocator> Writer<A> {
-    /// Writes an operand of one token, which needs no parentheses.
+    /// Writes a node of one token, which needs no parentheses, and then what waited for it.
     fn write_word(&mut self, token: TokenKind) -> Result<(), AllocError>
         ensures { OnOk result (self.new ≡ settle self.old.pending (token ∷ self.old.tokens)) }
     {
@@ -263,7 +266,7 @@ impl<A: Allocator> Writer<A> {
         self.settle()
     }
 
-    /// Writes an operand of two tokens.
+    /// Writes a node of two tokens, and then what waited for it.
     fn write_pair(
         &mut self,
         is_operand: bool,
@@ -280,7 +283,8 @@ impl<A: Allocator> Writer<A> {
         self.settle()
     }
 
-    /// Writes `broadcast` or `multicast`, with its protocol.
+    /// Writes `broadcast` or `multicast`, with its protocol if it has one, and then what waited for
+    /// it.
     fn write_cast(
         &mut self,
         is_operand: bool,
@@ -300,7 +304,7 @@ impl<A: Allocator> Writer<A> {
         }
     }
 
-    /// Writes a value that has no qualifiers yet.
+    /// Writes a value that has no qualifiers yet, and then what waited for it.
     fn write_bare(&mut self, is_operand: bool, value: Value) -> Result<(), AllocError>
         ensures { OnOk result (self.new ≡ write_node is_operand (node.Bare value) self.old) }
     {
@@ -310,7 +314,7 @@ impl<A: Allocator> Writer<A> {
         self.settle()
     }
 
-    /// Writes a value with the qualifiers that the text had.
+    /// Writes a value with the qualifiers that its text had, and then what waited for it.
     fn write_valued(
         &mut self,
         is_operand: bool,
@@ -327,7 +331,7 @@ impl<A: Allocator> Writer<A> {
         self.settle()
     }
 
-    /// Writes a value with all its qualifiers.
+    /// Writes a value with all its qualifiers, and then what waited for it.
     fn write_qualified(
         &mut self,
         is_operand: bool,
@@ -356,7 +360,8 @@ impl<A: Allocator> Writer<A> {
         self.push_pending(Pending::Front(TokenKind::OpenBracket))
     }
 
-    /// Writes a node before those that are written.
+    /// Writes a node before those that are written. Its operands are the nodes that are written
+    /// next: up to them only its end is written, and the rest waits.
     pub(crate) fn write_node(&mut self, is_operand: bool, node: Node) -> Result<(), AllocError>
         ensures { OnOk result (self.new ≡ write_node is_operand node self.old) }
     {
@@ -372,25 +377,28 @@ impl<A: Allocator> Writer<A> {
                 self.write_qualified(is_operand, qualifiers, value)
             }
             Node::Compare(comparison) => {
-                self.surround(
+                self.begin_operator(
                     is_operand,
                     Pending::Between(TokenKind::Comparison(comparison)),
                 )
             }
-            Node::Not => self.surround(is_operand, Pending::Front(TokenKind::Not)),
-            Node::Join(join) => self.surround(is_operand, Pending::Between(TokenKind::Join(join))),
+            Node::Not => self.begin_operator(is_operand, Pending::Front(TokenKind::Not)),
+            Node::Join(join) => {
+                self.begin_operator(is_operand, Pending::Between(TokenKind::Join(join)))
+            }
             Node::Literal(number) => self.write_word(TokenKind::Number(number)),
             Node::Len => self.write_word(TokenKind::Len),
             Node::Named(number) => self.write_word(TokenKind::Name(number)),
             Node::Load(protocol, size) => self.write_load(protocol, size),
+            // A number is always an operand.
             Node::Negate => {
-                self.surround(
+                self.begin_operator(
                     true,
                     Pending::Front(TokenKind::Operator(Operator::Subtract)),
                 )
             }
             Node::Apply(operator) => {
-                self.surround(true, Pending::Between(TokenKind::Operator(operator)))
+                self.begin_operator(true, Pending::Between(TokenKind::Operator(operator)))
             }
         }
     }

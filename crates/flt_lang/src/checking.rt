@@ -26,6 +26,7 @@ pub fn check<A: Allocator>(expr: Expr<A>) -> Result<Checked<A>, ExprFault>
     if sums::words_in(&expr) > 16 {
         return Err(ExprFault::TooManyWords);
     }
+    // The bound, as in `counts`, but of numbers that may not fit 32 bits yet.
     if 2 + 6 * (sums::tests_in(&expr) + sums::nodes_in(&expr)) > 32768 {
         return Err(ExprFault::ProgramTooLong);
     }

@@ -7,7 +7,8 @@ use crate::sums;
 use flt_ast::Checked;
 use std::alloc::Allocator;
 
-/// How many elementary tests the formulas of its primitives have. `check` saw that it fits 32 bits.
+/// How many elementary tests the formulas of its primitives have. It fits 32 bits, since `check`
+/// saw that the bound is at most 32,768.
 pub fn tests<A: Allocator>(checked: &Checked<A>) -> u32
     ensures { result ≡ tests_of checked.now.expr }
 {
@@ -29,7 +30,8 @@ pub fn words<A: Allocator>(checked: &Checked<A>) -> u32
     sums::words_in(&checked.expr) as u32
 }
 
-/// How many instructions a program for it has at most: 2, and 6 for each test and node.
+/// How many instructions a program for the expression has at most: 2, the returns, and 6 for each
+/// test and node.
 pub fn bound<A: Allocator>(checked: &Checked<A>) -> u32
     ensures { result ≡ bound_of checked.now.expr }
 {

@@ -10,7 +10,8 @@ use flt_ast::Expr;
 use flt_words::TokenKind;
 use std::alloc::{AllocError, Allocator};
 
-/// The tokens of what an expression means.
+/// The tokens of what an expression means, written from its last node to its first. An error is a
+/// failed allocation.
 fn explained_tokens<A: Allocator + Clone>(
     alloc: A,
     expr: &Expr<A>,
@@ -21,6 +22,7 @@ fn explained_tokens<A: Allocator + Clone>(
     let mut writer = Writer::new(alloc)?;
     let mut at = nodes.len();
     while at > 0 {
+        // The last node is the whole expression, and each other one an operand.
         let is_operand = at < nodes.len();
         at -= 1;
         writer.write_node(is_operand, nodes[at])?;

@@ -67,7 +67,7 @@ impl Operand {
 }
 
 impl Frame {
-    /// How loosely it binds its operand, by the table above: 0 is the tightest.
+    /// How loosely the frame binds its operand, by the table above: 0 is the tightest.
     pub fn precedence(self) -> u8
         ensures { result ≡ precedence self }
     {
@@ -81,7 +81,7 @@ impl Frame {
         }
     }
 
-    /// The sort of its operands.
+    /// The sort of the frame's operands. It isn't asked of `(`, whose operand may be of either.
     pub fn sort(self) -> Sort
         ensures { result ≡ sort_of self }
     {
@@ -91,8 +91,8 @@ impl Frame {
         }
     }
 
-    /// Its node, and what that makes of its operands. A parenthesis and an accessor have none here:
-    /// a token closes them.
+    /// The frame's node, and what that makes of its operands. A parenthesis and an accessor have
+    /// none here: a token closes them.
     pub fn node(self) -> Option<(Node, Operand)>
         ensures { result ≡ node_of self }
     {
@@ -119,7 +119,8 @@ pub fn level(operator: Operator) -> u8
     }
 }
 
-/// How loosely a token binds the operand before it.
+/// How loosely a token binds the operand before it, by the table above. Tokens that aren't in it
+/// follow no operand, and are refused whatever this is.
 pub fn token_precedence(token: TokenKind) -> u8
     ensures { result ≡ token_precedence token }
 {
@@ -132,7 +133,8 @@ pub fn token_precedence(token: TokenKind) -> u8
     }
 }
 
-/// The loosest operand that the latest frame takes.
+/// The precedence of the loosest operand that the latest frame takes, by the table above; that of a
+/// whole expression where no frame waits.
 pub fn operand_precedence(frames: &[Frame]) -> u8
     ensures { result ≡ operand_precedence (reverse frames.now) }
 {

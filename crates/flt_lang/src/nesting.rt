@@ -1,4 +1,5 @@
-//! How deep tokens nest (E6). It is tested before anything is read.
+//! How deep tokens nest (E6): 100 levels are allowed, and 100 tokens `not` and `-` in a row, as
+//! docs/FILTER.md has it. It is tested before anything is read.
 
 ghost use Rattle.std.specs.Prelude.{◌≡◌, ◌↔◌, IsTrue};
 ghost use Rattle.flt_lang.specs.Nesting.{is_opening, is_closing, is_prefix, HasDeepFront};
@@ -22,7 +23,7 @@ fn is_opening(token: &Token) -> bool
     matches!(token.kind, TokenKind::Open | TokenKind::OpenBracket)
 }
 
-/// Whether a token closes one.
+/// Whether a token closes a parenthesis or a bracket.
 #[tactic(auto, unfolding(crate::specs::Nesting::is_closing))]
 fn is_closing(token: &Token) -> bool
     ensures { result ≡ is_closing token.now }
@@ -30,7 +31,8 @@ fn is_closing(token: &Token) -> bool
     matches!(token.kind, TokenKind::Close | TokenKind::CloseBracket)
 }
 
-/// Whether a token may stand many times before one operand: `not` and the sign `-`.
+/// Whether a token may stand many times before one operand: `not` and the sign `-`. A `-` between
+/// two operands is the same token and counts too.
 #[tactic(auto, unfolding(crate::specs::Nesting::is_prefix))]
 fn is_prefix(token: &Token) -> bool
     ensures { result ≡ is_prefix token.now }
@@ -41,7 +43,7 @@ fn is_prefix(token: &Token) -> bool
     )
 }
 
-/// Whether over 100 more are opened than closed at some place.
+/// Whether some prefix of the tokens has over 100 more `(` and `[` than `)` and `]`.
 fn has_deep_front(tokens: &[Token]) -> bool
     ensures { IsTrue result ↔ HasDeepFront tokens.now }
 {

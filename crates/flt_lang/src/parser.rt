@@ -31,7 +31,7 @@ pub fn parse<A: Allocator + Clone>(alloc: A, tokens: &[Token]) -> Result<Expr<A>
     read_tree(alloc, tokens)
 }
 
-/// The tree of tokens that do not nest too deep.
+/// The tree of tokens, however deep they nest; `NotAnExpression` where they have none.
 #[tactic(auto, using(crate::proofs::Parsing::no_tree))]
 fn read_tree<A: Allocator + Clone>(alloc: A, tokens: &[Token]) -> Result<Expr<A>, ExprFault>
     ensures ok { IfOk result (λ tree. IsReadAs (kinds_of tokens.now) tree) }

@@ -1,5 +1,5 @@
-//! Values and what stands before them. Each reader takes as many tokens as it can, and says how
-//! many.
+//! Values and what stands before them. Each reader begins at the first of its tokens, takes as many
+//! as it can, and returns what it read and how many tokens that is.
 
 ghost use Rattle.std.specs.Prelude.{◌≡◌, ◌∷◌, List, IsTrue, IfSome, IfNone};
 ghost use Rattle.std.specs.Prelude.{Some, None, length, slice_get, drop, ◌<◌, ◌≤◌};
@@ -131,9 +131,9 @@ fn read_prefix_len(tokens: &[Token]) -> (Option<u32>, usize)
     }
 }
 
-/// The value that begins with the token `first`, with the mask after it, and how many of `rest` it
-/// takes.
-fn value_at(first: TokenKind, rest: &[Token]) -> Option<(Value, usize)>
+/// The value that begins with the token `first`, with the mask after it, and how many of the tokens
+/// `rest` after `first` it takes. `None` where no value begins with it.
+fn value_from(first: TokenKind, rest: &[Token]) -> Option<(Value, usize)>
     ensures some { IfSome result (λ r.
         value_of (first ∷ kinds_of rest.now) ≡ Some (r.0, kinds_of (drop r.1 rest.now))) }
     ensures within { IfSome result (λ r. r.1 ≤ length rest.now) }
@@ -158,7 +158,8 @@ fn value_at(first: TokenKind, rest: &[Token]) -> Option<(Value, usize)>
     }
 }
 
-/// A value, with the mask after it, and how many tokens it takes.
+/// The value with which tokens begin, with the mask after it, and how many tokens it takes: 3 at
+/// most. `None` where they begin with none.
 #[tactic(auto, using(crate::proofs::Fronts::value_found, crate::proofs::Fronts::no_value_found))]
 pub fn read_value(tokens: &[Token]) -> Option<(Value, usize)>
     ensures some { IfSome result (λ r.
@@ -170,11 +171,12 @@ pub fn read_value(tokens: &[Token]) -> Option<(Value, usize)>
     let [first, rest @ ..] = tokens else {
         return None;
     };
-    let (value, more) = value_at(first.kind, rest)?;
+    let (value, more) = value_from(first.kind, rest)?;
     Some((value, 1 + more))
 }
 
-/// A value with what stands before it, and how many tokens more than one they are.
+/// A value with what stands before it, and how many tokens more than one they are, as a step of
+/// `Reader` counts them. `None` where no value follows the qualifiers.
 pub fn read_valued(tokens: &[Token]) -> Option<(Qualifiers, Value, usize)>
     ensures value { result ≡ valued_of (kinds_of tokens.now) }
     ensures within { IfSome result (λ r. r.2 < length tokens.now) }

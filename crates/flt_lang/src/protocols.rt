@@ -15,7 +15,7 @@ pub enum Opening {
     Other,
 }
 
-/// What the second of the tokens makes of the first one, a protocol. No token is used up.
+/// What the second of the tokens makes of the first one, a protocol. It only looks, and takes none.
 pub fn read_opening(tokens: &[Token]) -> Opening
     ensures value { result ≡ opening_of (kinds_of tokens.now) }
     ensures within { (result ≡ Opening.Other) ⊎ (1 < length tokens.now) }

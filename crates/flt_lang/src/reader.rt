@@ -62,7 +62,7 @@ impl<A: Allocator> Model for Reader<A> {
 //     not  =                                   2
 //     not  =                        2          the end
 impl<A: Allocator> Reader<A> {
-    /// Nothing is read yet.
+    /// A reader that has read nothing. An error is an allocator that cannot be cloned.
     pub fn new(alloc: A) -> Result<Self, AllocError>
     where
         A: Clone,
@@ -95,7 +95,7 @@ impl<A: Allocator> Reader<A> {
         Ok(())
     }
 
-    /// The loosest operand that the latest frame takes.
+    /// The precedence of the loosest operand that the latest frame takes, by the table in `frame`.
     fn operand_precedence(&self) -> u8
         ensures { result ≡ operand_precedence self.now.frames }
     {
@@ -111,7 +111,8 @@ impl<A: Allocator> Reader<A> {
         self.frames.pop()
     }
 
-    /// Takes the latest frame off if it binds at least as tightly as `limit`.
+    /// Takes the latest frame off if it binds at least as tightly as `limit`. `None` where it binds
+    /// more loosely, or none waits.
     fn pop_tight_frame(&mut self, limit: u8) -> Option<Frame>
         ensures some { IfSome result (λ f. self.old.frames ≡ f ∷ self.new.frames) }
         ensures tight { IfSome result (λ f. precedence f ≤ limit) }
@@ -125,7 +126,7 @@ impl<A: Allocator> Reader<A> {
         }
     }
 
-    /// The expression of the nodes.
+    /// The expression of the nodes, which have to be those of a tree, as `read` leaves them.
     pub fn into_expr(self) -> Expr<A>
         requires { IsTree (reverse self.nodes) }
         ensures { result ≡ tree_of (reverse self.nodes) }
@@ -136,8 +137,8 @@ impl<A: Allocator> Reader<A> {
 
     // ---- where an operand begins
 
-    /// Reads the tokens where an operand begins, `first` among them: how many more than one are
-    /// used up, and the operand, if that is all of it.
+    /// Reads the tokens where an operand begins, of which `first` is the first: how many more than
+    /// one are used up, and the operand, if that is all of it. `NotAnExpression` where none begins.
     fn begin_operand(
         &mut self,
         first: TokenKind,
@@ -164,6 +165,8 @@ impl<A: Allocator> Reader<A> {
             | TokenKind::Range { .. } => self.put_truth(read_bare(tokens)),
             TokenKind::Len => self.put_number(Node::Len),
             TokenKind::Name(number) => self.put_number(Node::Named(number)),
+            // Refused where the latest frame takes numbers: in arithmetic, a comparison or
+            // brackets.
             TokenKind::Not if self.operand_precedence() >= 6 => self.shift_prefix(Frame::Not),
             TokenKind::Operator(Operator::Subtract) => self.shift_prefix(Frame::Negate),
             TokenKind::Open => self.shift_prefix(Frame::Open),
@@ -171,7 +174,7 @@ impl<A: Allocator> Reader<A> {
         }
     }
 
-    /// A frame that stands before its operand waits for it.
+    /// Lets a frame wait for the operand after it: `not`, a sign or `(`. No operand is complete.
     fn shift_prefix(&mut self, frame: Frame) -> Result<(usize, Option<Operand>), ExprFault>
         ensures ok { IfOk result (λ r. r ≡ (0, None)) }
         ensures frames { IfOk result (λ _. self.new.frames ≡ frame ∷ self.old.frames) }
@@ -182,7 +185,7 @@ impl<A: Allocator> Reader<A> {
         Ok((0, None))
     }
 
-    /// A number is one node.
+    /// Writes a number that is one token and one node.
     fn put_number(&mut self, node: Node) -> Result<(usize, Option<Operand>), ExprFault>
         ensures ok { IfOk result (λ r. r ≡ (0, Some Operand.Number)) }
         ensures frames { IfOk result (λ _. self.new.frames ≡ self.old.frames) }
@@ -193,7 +196,8 @@ impl<A: Allocator> Reader<A> {
         Ok((0, Some(Operand::Number)))
     }
 
-    /// A truth is one node, if there is one.
+    /// Writes the one node of a truth that was read, whose tokens are counted with it.
+    /// `NotAnExpression` where none was read.
     fn put_truth(
         &mut self,
         read: Option<(Node, usize)>,
@@ -214,6 +218,7 @@ impl<A: Allocator> Reader<A> {
 
     /// Reads an operand that begins with a protocol: an accessor as `tcp[` up to its bracket, a
     /// cast as `ether broadcast`, or another primitive. `tokens` has the protocol first.
+    /// `NotAnExpression` where this protocol may not stand before a bracket or a cast.
     fn begin_with_protocol(
         &mut self,
         protocol: Protocol,
@@ -242,7 +247,8 @@ impl<A: Allocator> Reader<A> {
         }
     }
 
-    /// Reads a number, or a network's number with its mask.
+    /// Reads a number, which may become either sort, or a network's number with `mask D`, which is
+    /// a truth. `NotAnExpression` where tokens don't begin with a number.
     fn begin_number(&mut self, tokens: &[Token]) -> Result<(usize, Option<Operand>), ExprFault>
         ensures ok { IfOk result (λ r.
             with_frames self.old.frames (number_primitive (kinds_of tokens.now) self.old.nodes)
@@ -322,7 +328,7 @@ impl<A: Allocator> Reader<A> {
     }
 
     /// Writes the node of a frame after its operand, of the sort that it takes. Returns what the
-    /// two are.
+    /// two are. `NotAnExpression` for `(` and accessors, which only their closing token completes.
     fn fill(&mut self, frame: Frame, operand: Operand) -> Result<Operand, ExprFault>
         ensures ok { IfOk result (λ x.
             fill frame operand self.old.nodes ≡ Some (x, self.new.nodes)) }
@@ -339,8 +345,8 @@ impl<A: Allocator> Reader<A> {
         Ok(whole)
     }
 
-    /// Fills the frames that bind at least as tightly as `limit`, the latest first. Returns what
-    /// they make of the operand.
+    /// Writes the nodes of the frames that bind at least as tightly as `limit`, the latest first,
+    /// and takes these frames off. Returns what they make of the operand.
     #[tactic(auto, using(crate::proofs::Reducing::reducing))]
     fn reduce(&mut self, operand: Operand, limit: u8) -> Result<Operand, ExprFault>
         ensures ok { IfOk result (λ x. reduce limit self.old.frames operand self.old.nodes
@@ -356,7 +362,9 @@ impl<A: Allocator> Reader<A> {
         Ok(operand)
     }
 
-    /// A frame whose left operand was read waits for its right one.
+    /// Lets a frame whose left operand was read wait for its right one. `NotAnExpression` where the
+    /// left one is of the other sort, or the latest frame takes nothing that binds as loosely:
+    /// `tcp[len = 1]`.
     fn shift_operator(
         &mut self,
         frame: Frame,
@@ -377,7 +385,8 @@ impl<A: Allocator> Reader<A> {
         Ok((0, None))
     }
 
-    /// A parenthesis closes: the latest frame has to be one.
+    /// Closes a parenthesis: the latest frame has to be one. A plain number in it, also one
+    /// with `/ N`, may still become either sort.
     fn close_parenthesis(&mut self, operand: Operand) -> Result<(usize, Option<Operand>), ExprFault>
         ensures ok { IfOk result (λ r. after_close self.old.frames operand self.old.nodes
             ≡ Some (r.0, (self.new.frames, r.1, self.new.nodes))) }
@@ -392,8 +401,9 @@ impl<A: Allocator> Reader<A> {
         }
     }
 
-    /// A bracket closes: the accessor that waits takes its index, and reads `size` bytes there.
-    /// `more` tokens more than one are used up.
+    /// Closes a bracket: the accessor that waits takes its index, and reads `size` bytes there.
+    /// `more` tokens more than one are used up. `NotAnExpression` where no accessor waits,
+    /// or the index is a truth.
     fn end_load(
         &mut self,
         operand: Operand,
@@ -417,8 +427,9 @@ impl<A: Allocator> Reader<A> {
         }
     }
 
-    /// Places a token after an operand that no tighter frame takes: how many more than this one are
-    /// used up, and the operand, if one is whole.
+    /// Reads the token `first` after an operand that no tighter frame takes, with the size of an
+    /// accessor where it is its colon: how many more than this one are used up, and the operand, if
+    /// one is complete.
     fn place_token(
         &mut self,
         operand: Operand,
@@ -441,7 +452,9 @@ impl<A: Allocator> Reader<A> {
             }
             TokenKind::Join(join) => self.shift_operator(Frame::Join(join), operand),
             TokenKind::Close => self.close_parenthesis(operand),
+            // An accessor without a size reads one byte.
             TokenKind::CloseBracket => self.end_load(operand, 0, 1),
+            // The size and the bracket are two tokens.
             TokenKind::Colon => match read_size(rest) {
                 Some(size) => self.end_load(operand, 2, size),
                 None => Err(ExprFault::NotAnExpression),
@@ -450,8 +463,8 @@ impl<A: Allocator> Reader<A> {
         }
     }
 
-    /// Reads the tokens after an operand, or the rest of a value: how many more than one are used
-    /// up.
+    /// Reads the tokens after an operand, or `/ N` after a number, of which `first` is the first:
+    /// how many more than this one are used up, and the operand, if one is complete.
     fn read_after_operand(
         &mut self,
         operand: Operand,
@@ -467,6 +480,8 @@ impl<A: Allocator> Reader<A> {
             ≡ None }
         ensures err { IfErr result IsReadFault }
     {
+        // Where the latest frame doesn't take a quotient, as in `6 * 10/8`, the `/` is an operator
+        // after what that frame makes of the number.
         match number_with_prefix(operand, first, rest) {
             Some((number, len)) if self.operand_precedence() >= 1 => {
                 Ok((1, Some(Operand::Either(number, Some(len)))))
@@ -478,7 +493,8 @@ impl<A: Allocator> Reader<A> {
         }
     }
 
-    /// Goes on by at least one token: how many, and the operand that was read last, if it is whole.
+    /// Reads at least one token: how many, and the operand that was read last, if it is complete.
+    /// `operand` is what the step before returned of it.
     fn step(
         &mut self,
         operand: Option<Operand>,
@@ -494,6 +510,7 @@ impl<A: Allocator> Reader<A> {
             → run (kinds_of tokens.now) 0 self.old.frames operand self.old.nodes ≡ None }
         ensures err { IfErr result IsReadFault }
     {
+        // There is a first token, as the clause requires.
         let [first, rest @ ..] = tokens else {
             return Err(ExprFault::NotAnExpression);
         };
@@ -509,7 +526,8 @@ impl<A: Allocator> Reader<A> {
         }
     }
 
-    /// After the last token: what is left has to be one truth, with nothing that waits.
+    /// After the last token, which is as a closing one (precedence 8): what is left has to be one
+    /// truth, with nothing that waits.
     fn finish(&mut self, operand: Option<Operand>) -> Result<(), ExprFault>
         ensures ok { OnOk result (finish operand self.old.frames self.old.nodes
             ≡ Some self.new.nodes) }
@@ -527,7 +545,7 @@ impl<A: Allocator> Reader<A> {
         }
     }
 
-    /// Reads the tokens of a whole expression, where nothing is read yet.
+    /// Reads the tokens of a whole expression, where nothing is read yet. No tokens have no nodes.
     pub fn read(&mut self, tokens: &[Token]) -> Result<(), ExprFault>
         requires frames { self.old.frames ≡ [] }
         requires nodes { self.old.nodes ≡ [] }
@@ -550,7 +568,8 @@ impl<A: Allocator> Reader<A> {
     }
 }
 
-/// `less N` or `greater N`, and how many tokens more than one it takes.
+/// The node of `less N` or `greater N` with which tokens begin, and how many tokens more than one
+/// it takes; `None` where they don't.
 fn read_sized(tokens: &[Token]) -> Option<(Node, usize)>
     ensures value { (nodes : List Node) →
         one_node nodes result ≡ sized_of (kinds_of tokens.now) nodes }
@@ -564,7 +583,8 @@ fn read_sized(tokens: &[Token]) -> Option<(Node, usize)>
     }
 }
 
-/// A value with what stands before it, or else a protocol alone; and how many tokens more than one.
+/// The node of a value with what stands before it, or else of a protocol alone, with which tokens
+/// begin, and how many tokens more than one it takes; `None` where they begin with neither.
 fn read_primitive(tokens: &[Token]) -> Option<(Node, usize)>
     ensures value { (nodes : List Node) →
         one_node nodes result ≡ primitive (kinds_of tokens.now) nodes }
@@ -581,7 +601,8 @@ fn read_primitive(tokens: &[Token]) -> Option<(Node, usize)>
     }
 }
 
-/// A value with nothing before it, and how many tokens more than one it takes.
+/// The node of a value with nothing before it, with which tokens begin, and how many tokens more
+/// than one it takes; `None` where they begin with none.
 fn read_bare(tokens: &[Token]) -> Option<(Node, usize)>
     ensures value { (nodes : List Node) →
         one_node nodes result ≡ bare_of (kinds_of tokens.now) nodes }
@@ -591,7 +612,7 @@ fn read_bare(tokens: &[Token]) -> Option<(Node, usize)>
     Some((Node::Bare(value), used - 1))
 }
 
-/// What a number with this length of a prefix after it, or none, is a network by.
+/// The mask of a network's number by the length of a prefix after it, or where none is written.
 fn prefix_mask(len: Option<u32>) -> NetMask
     ensures { result ≡ prefix_mask len }
 {
@@ -601,8 +622,8 @@ fn prefix_mask(len: Option<u32>) -> NetMask
     }
 }
 
-/// A plain number and the length of a prefix, where `/ N` stands after it: a network, or a
-/// division.
+/// A plain number and the `N` of `/ N`, where that stands after it: a network with the length of
+/// its prefix, or a division. `None` for other operands or tokens.
 fn number_with_prefix(operand: Operand, first: TokenKind, rest: &[Token]) -> Option<(u32, u32)>
     ensures value { result ≡ number_with_prefix operand (first ∷ kinds_of rest.now) }
     ensures within { IfSome result (λ _. 0 < length rest.now) }
@@ -617,7 +638,8 @@ fn number_with_prefix(operand: Operand, first: TokenKind, rest: &[Token]) -> Opt
     }
 }
 
-/// The size in bytes of an accessor, after its colon and before its bracket.
+/// The size in bytes of an accessor, after its colon and before its bracket, in any range; `None`
+/// where no number and bracket are there.
 fn read_size(tokens: &[Token]) -> Option<u32>
     ensures value { result ≡ accessor_size (kinds_of tokens.now) }
     ensures within { IfSome result (λ _. 1 < length tokens.now) }

@@ -35,7 +35,8 @@ pub fn resolve<A: Allocator>(expr: Expr<A>) -> Result<Expr<A>, ExprFault>
     Ok(Expr { nodes })
 }
 
-/// Gives each bare value the qualifiers that were written last, or `host` where none were.
+/// Gives each bare value the qualifiers of the nearest value to its left that has some written, or
+/// `host` where there is none: the nodes are in the order of the text, as far as values go.
 fn inherit_qualifiers<A: Allocator>(nodes: &mut Vec<Node, A>)
     ensures { nodes.new.items ≡ inherited_nodes only_host nodes.old.items }
 {
@@ -53,7 +54,7 @@ fn inherit_qualifiers<A: Allocator>(nodes: &mut Vec<Node, A>)
     }
 }
 
-/// The first fault by its number, E7 to E9, and not by its place.
+/// The fault of nodes with the smallest number, E7 to E9, wherever they have it, or `None`.
 fn nodes_fault(nodes: &[Node]) -> Option<ExprFault>
     ensures { result ≡ nodes_fault nodes.now }
 {

@@ -13,7 +13,8 @@ use flt_words::{Cast, Comparison, Join, Operator, Protocol, Side, Size, TokenKin
 use std::alloc::{AllocError, Allocator};
 use std::fmt::Write;
 
-/// What a token follows. The number 1 has two names, of which one is the code of ICMP.
+/// What a token follows, as far as its spelling goes by it: the number 1 has two names, and in
+/// `icmp[..]` it is `icmpcode`.
 #[derive(Clone, Copy)]
 pub enum Following {
     /// `icmp`.
@@ -74,7 +75,7 @@ fn type_word(value_type: ValueType) -> &'static str
     }
 }
 
-/// The keyword of a test of the length.
+/// The keyword of a test of a packet's length.
 fn size_word(size: Size) -> &'static str
     ensures { result.now ≡ size_word size }
 {
@@ -84,7 +85,7 @@ fn size_word(size: Size) -> &'static str
     }
 }
 
-/// The keyword of a cast.
+/// The keyword of a test for broadcasts or multicasts.
 fn cast_word(cast: Cast) -> &'static str
     ensures { result.now ≡ cast_word cast }
 {
@@ -136,7 +137,8 @@ fn name_of_number_one(following: Following) -> &'static str
     }
 }
 
-/// Appends the name of a number, or the number where it has none.
+/// Appends the name of a number, as the table in `flt_words/src/spelling.rt` has it, or the number
+/// in decimal where it has none.
 fn push_name<A: Allocator>(
     text: &mut String<A>,
     following: Following,
@@ -158,7 +160,7 @@ fn push_name<A: Allocator>(
     }
 }
 
-/// Appends an IPv4 address, or the first two or three parts of it.
+/// Appends the first two or three parts of an IPv4 address, or with other `parts` all four.
 #[tactic(auto, unfolding(crate::specs::Texts::dotted_word))]
 fn push_dotted<A: Allocator>(
     text: &mut String<A>,
@@ -179,7 +181,8 @@ fn push_dotted<A: Allocator>(
     }
 }
 
-/// The byte of half a MAC address whose place has this weight: a power of 256.
+/// The byte of half a MAC address that stands where a byte counts `weight`: a power of 256, and 1
+/// for the last one.
 fn byte_of(half: u64, weight: u64) -> u8
     requires { 0 < weight }
     ensures { result ≡ octet weight half }
@@ -217,12 +220,13 @@ fn push_mac<A: Allocator>(text: &mut String<A>, address: u64) -> Result<(), Allo
     push_three_bytes(text, address % 0x100_0000)
 }
 
-/// The group of half an IPv6 address whose place has this weight: a power of 65,536.
-fn group_of(address: u128, weight: u128) -> u16
+/// The group of half an IPv6 address that stands where a group counts `weight`: a power of 65,536,
+/// and 1 for the last one.
+fn group_of(half: u128, weight: u128) -> u16
     requires { 0 < weight }
-    ensures { result ≡ group_at weight address }
+    ensures { result ≡ group_at weight half }
 {
-    (address / weight % 65536) as u16
+    (half / weight % 65536) as u16
 }
 
 /// Appends the four groups of half an IPv6 address, joined by colons, without leading zeros.
@@ -247,7 +251,7 @@ fn push_ip6<A: Allocator>(text: &mut String<A>, address: u128) -> Result<(), All
     push_four_groups(text, address % 0x1_0000_0000_0000_0000)
 }
 
-/// Appends the spelling of a token.
+/// Appends the spelling of a token. What it follows makes a difference only for a name.
 fn push_token<A: Allocator>(
     text: &mut String<A>,
     following: Following,
@@ -322,7 +326,8 @@ fn joins_previous(token: TokenKind) -> bool
     )
 }
 
-/// What stands between a token and those after it: a blank or nothing.
+/// What stands between a token and the one after it: a blank, or nothing where one of both joins
+/// the other or no token is left.
 fn gap(token: TokenKind, rest: &[TokenKind]) -> &'static str
     ensures { result.now ≡ gap token rest.now }
 {
@@ -332,7 +337,8 @@ fn gap(token: TokenKind, rest: &[TokenKind]) -> &'static str
     }
 }
 
-/// Appends the text of tokens, with blanks between most of them.
+/// Appends the text of tokens, with blanks between most of them. An error is a failed allocation,
+/// with some of the text appended.
 pub(crate) fn push_tokens<A: Allocator>(
     text: &mut String<A>,
     tokens: &[TokenKind],

@@ -1,4 +1,7 @@
 //! The counts of an expression before it is checked, each in one pass over its nodes.
+//!
+//! Of each there are two functions: a loop over the nodes, whose contract is a sum over this list,
+//! and one whose contract states the count of the tree.
 
 ghost use Rattle.std.specs.Prelude.{◌≡◌, ◌≤◌, ◌*◌, ◌^◌, sum_by, fold, false};
 ghost use Rattle.flt_ast.specs.Counts.{tests_of, nodes_of, words_of, bound_of};
@@ -7,13 +10,13 @@ ghost use Rattle.flt_ast.specs.inside.Heights.{climb};
 ghost use Rattle.flt_ast.specs.Resolved.{some_primitive};
 ghost use Rattle.flt_ast.specs.Checks.{divides_by_zero};
 ghost use Rattle.flt_ast.specs.inside.Checks.{is_division_node, is_zero_node};
-ghost use Rattle.flt_ast.specs.inside.Checks.{zero_divided};
+ghost use Rattle.flt_ast.specs.inside.Checks.{some_zero_divisor};
 
 use flt_ast::{Expr, Node};
 use flt_words::Operator;
 use std::alloc::Allocator;
 
-/// How many elementary tests nodes count as together.
+/// How many elementary tests nodes count as together: at most 27 each, of fewer than 2^64 nodes.
 fn sum_of_tests(nodes: &[Node]) -> u128
     ensures sum { result ≡ sum_by node_tests nodes.now }
     ensures upper_bound { result ≤ 27 * 2 ^ 64 }
@@ -26,7 +29,7 @@ fn sum_of_tests(nodes: &[Node]) -> u128
     sum
 }
 
-/// How many nodes of arithmetic nodes count as together.
+/// How many nodes of arithmetic nodes count as together: at most 2 each.
 fn sum_of_arithmetic_nodes(nodes: &[Node]) -> u128
     ensures sum { result ≡ sum_by node_size nodes.now }
     ensures upper_bound { result ≤ 2 * 2 ^ 64 }
@@ -39,7 +42,7 @@ fn sum_of_arithmetic_nodes(nodes: &[Node]) -> u128
     sum
 }
 
-/// The most numbers that wait at once to be operands, at least 1.
+/// The most numbers that wait at once to be operands; 1 where none does, for `words_in`.
 fn most_waiting(nodes: &[Node]) -> usize
     ensures { result ≡ (fold climb (0, 1) nodes.now).1 }
 {
@@ -66,9 +69,10 @@ fn is_division(node: Node) -> bool
     matches!(node, Node::Apply(Operator::Divide | Operator::Remainder))
 }
 
-/// Whether a division follows the number 0 directly: that number is its divisor.
-fn has_divided_zero(nodes: &[Node]) -> bool
-    ensures { result ≡ zero_divided false nodes.now }
+/// Whether some node divides by the number 0: a division that follows this number directly, since
+/// its divisor is written right before it.
+fn has_zero_divisor(nodes: &[Node]) -> bool
+    ensures { result ≡ some_zero_divisor false nodes.now }
 {
     let mut zero = false;
     for &next in nodes {
@@ -80,7 +84,7 @@ fn has_divided_zero(nodes: &[Node]) -> bool
     false
 }
 
-/// How many tests the formulas of the primitives have.
+/// How many elementary tests the formulas of an expression's primitives have.
 #[tactic(auto, using(crate::proofs::Counting::tests_whole))]
 pub(crate) fn tests_in<A: Allocator>(expr: &Expr<A>) -> u128
     ensures count { result ≡ tests_of expr.now }
@@ -89,7 +93,7 @@ pub(crate) fn tests_in<A: Allocator>(expr: &Expr<A>) -> u128
     sum_of_tests(&expr.nodes)
 }
 
-/// How many nodes the arithmetic has.
+/// How many nodes the arithmetic of an expression has.
 #[tactic(auto, using(crate::proofs::Counting::arithmetic_nodes_whole))]
 pub(crate) fn nodes_in<A: Allocator>(expr: &Expr<A>) -> u128
     ensures count { result ≡ nodes_of expr.now }
@@ -98,7 +102,7 @@ pub(crate) fn nodes_in<A: Allocator>(expr: &Expr<A>) -> u128
     sum_of_arithmetic_nodes(&expr.nodes)
 }
 
-/// How many words of memory hold what waits while right sides are computed.
+/// How many of the machine's words of memory hold left sides while right sides are computed.
 pub(crate) fn words_in<A: Allocator>(expr: &Expr<A>) -> usize
     ensures { result ≡ words_of expr.now }
 {
@@ -106,10 +110,10 @@ pub(crate) fn words_in<A: Allocator>(expr: &Expr<A>) -> usize
     most_waiting(&expr.nodes) - 1
 }
 
-/// Whether some divisor is the number 0, as it is written.
+/// Whether some divisor of an expression is the number 0, as it is written.
 #[tactic(auto, using(crate::proofs::Dividing::zero_whole))]
 pub(crate) fn divides_by_zero<A: Allocator>(expr: &Expr<A>) -> bool
     ensures { result ≡ some_primitive divides_by_zero expr.now }
 {
-    has_divided_zero(&expr.nodes)
+    has_zero_divisor(&expr.nodes)
 }

@@ -68,7 +68,7 @@ impl<A: Allocator> Model for Layout<A> {
     } };
 }
 
-/// The instruction of a wide one, with the offsets `jt` and `jf` in place of its own.
+/// The instruction of a wide one, with the offsets `jt` and `jf` instead of its own.
 fn with_offsets(insn: Wide, jt: u8, jf: u8) -> Insn
     ensures { result ≡ with_offsets insn jt jf }
 {
@@ -91,7 +91,7 @@ impl<A: Allocator> Layout<A> {
         }
     }
 
-    /// The place of the instruction that stands first.
+    /// The place of the instruction that stands first: how many there are.
     fn top(&self) -> usize
         ensures { result ≡ length self.now.code }
     {
@@ -111,14 +111,15 @@ impl<A: Allocator> Layout<A> {
         }
     }
 
-    /// The offset to a place from an instruction that is put in front: how many it skips.
+    /// The offset to a place from an instruction that is put in front: how many it skips. No place
+    /// is above the first one's, so the difference isn't cut off at 0.
     fn distance(&self, place: usize) -> usize
         ensures { result ≡ length self.now.code - place }
     {
         self.top().saturating_sub(place)
     }
 
-    /// The same from one that is put in front of one more.
+    /// The offset to a place from a test between which and the code a jump is still to be put.
     fn distance_past(&self, place: usize) -> usize
         requires { length self.now.code < 2 ^ 32 }
         ensures { result ≡ length self.now.code + 1 - place }
@@ -134,7 +135,7 @@ impl<A: Allocator> Layout<A> {
         Ok(())
     }
 
-    /// Puts a jump to a place in front.
+    /// Puts a jump (`ja`) to a place in front.
     fn emit_jump(&mut self, to: usize) -> Result<(), AllocError>
         requires { length self.old.code < 2 ^ 32 }
         ensures { OnOk result (self.new ≡ record self.old { code = with_jump to self.old.code }) }
@@ -148,7 +149,8 @@ impl<A: Allocator> Layout<A> {
         })
     }
 
-    /// Which targets are too far for a test that is put in front, as few as can be.
+    /// Which targets a test that is put in front reaches by a jump, as few as can be. A jump for
+    /// one makes the other one farther by an instruction.
     fn test_reach(&self, to: Targets) -> Reach
         requires { length self.now.code < 2 ^ 32 }
         ensures { result ≡ test_reach to.yes to.no self.now.code }
@@ -166,7 +168,7 @@ impl<A: Allocator> Layout<A> {
     }
 
     /// Puts a test in front that goes on at one of two places, with the jumps that it needs after
-    /// it.
+    /// it: three instructions at most, which the clause leaves room for in 32 bits.
     #[tactic(auto, unfolding(crate::specs::inside::Layout::with_test))]
     fn emit_test(&mut self, insn: Wide, to: Targets) -> Result<(), AllocError>
         requires { length self.old.code + 3 < 2 ^ 32 }
@@ -192,8 +194,8 @@ impl<A: Allocator> Layout<A> {
         self.emit(with_offsets(insn, jt as u8, jf as u8))
     }
 
-    /// The wide instruction that is laid out stands where the code begins now.
-    fn place_first(&mut self) -> Result<(), AllocError>
+    /// Adds the place of the wide instruction that was laid out last: where the code begins now.
+    fn push_place(&mut self) -> Result<(), AllocError>
         ensures { OnOk result (self.new ≡ with_entry self.old.code self.old) }
     {
         let top = self.top();
@@ -201,7 +203,8 @@ impl<A: Allocator> Layout<A> {
         Ok(())
     }
 
-    /// Puts one more wide instruction in front, laid out.
+    /// Lays one more wide instruction out in front: a test or a jump with new offsets to the places
+    /// of its targets, another one as it is.
     fn put(&mut self, insn: Wide) -> Result<(), AllocError>
         requires { length self.old.code + 3 < 2 ^ 32 }
         ensures { OnOk result (self.new ≡ put insn self.old) }
@@ -217,7 +220,7 @@ impl<A: Allocator> Layout<A> {
             }
             _ => self.emit(with_offsets(insn, 0, 0))?,
         }
-        self.place_first()
+        self.push_place()
     }
 
     /// The instructions, from the first to the last.
@@ -234,7 +237,8 @@ impl<A: Allocator> Layout<A> {
 }
 
 impl<A: Allocator + Clone> Layout<A> {
-    /// All of some wide code, laid out from its last instruction to its first.
+    /// All of some wide code, laid out from its last instruction to its first. Each becomes three
+    /// at most, so of fewer than 2^30 the places fit 32 bits.
     fn of_wide(alloc: A, wide: &[Wide]) -> Result<Self, AllocError>
         requires { length wide.now < 2 ^ 30 }
         ensures { IfOk result (λ layout. layout ≡ placed_code wide.now) }

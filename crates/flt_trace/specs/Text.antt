@@ -23,6 +23,8 @@ signed_number k = if nat_lt k (2 ^ 31) then decimal k else 45 ∷ decimal (2 ^ 3
 abbrev pub hex : ℕ → List ℕ
 hex k = digits 16 false k
 
+-- the names of operations: of a load of this many bytes into A, of arithmetic, of a conditional
+-- jump
 abbrev pub load_name : Width → List ℕ
 load_name Word = codes "ld"
 load_name HalfWord = codes "ldh"
@@ -46,7 +48,7 @@ test_name Greater = codes "jgt"
 test_name AtLeast = codes "jge"
 test_name AnyBit = codes "jset"
 
--- what an operation is called
+-- and of any operation
 abbrev pub operation_name : Operation → List ℕ
 operation_name (LoadAbsolute width) = load_name width
 operation_name (LoadIndirect width) = load_name width
@@ -71,7 +73,7 @@ constant_text And k = codes "#0x" ++ hex k
 constant_text ExclusiveOr k = codes "#0x" ++ hex k
 constant_text _ k = codes "#" ++ signed_number k
 
--- what it works on, where it is at a place in a program
+-- what an operation works on, where it is at a place in a program
 abbrev pub operand_text : Operation → ℕ → ℕ → List ℕ
 operand_text (LoadAbsolute width) k place = codes "[" ++ (signed_number k ++ codes "]")
 operand_text (LoadIndirect width) k place = codes "[x + " ++ (signed_number k ++ codes "]")

@@ -1,11 +1,17 @@
 //! A buffer for one line of text, in place, so that no memory is taken.
+
+ghost use Rattle.std.specs.Prelude.{◌≡◌, ◌≤◌, ◌<◌, drop};
+ghost use Rattle.std.specs.Fmt.{digit_glyph};
+ghost use Rattle.std.specs.Prelude.{false};
+ghost use Rattle.flt_trace.specs.Text.{hex};
+
 use itoa::Buffer;
 use std::marker::Model;
 
-/// How many bytes a line may have.
+/// How many bytes a line may have. One of `insn_text` has 66 at most.
 const ROOM: usize = 80;
 
-/// At most 80 bytes, in place. Contracts see it as its bytes.
+/// A text of at most 80 bytes, in place. Contracts see it as its bytes.
 #[derive(Drop)]
 pub struct Line {
     bytes: [u8; ROOM],
@@ -27,7 +33,7 @@ impl Line {
     ghost use Rattle.std.specs.Prelude.{decimal, replicate};
     ghost use Rattle.flt_trace.specs.Text.{hex, signed_number};
 
-    /// A line without bytes.
+    /// An empty line.
     pub(crate) fn new() -> Self
         ensures { result ≡ [] }
     {
@@ -37,7 +43,7 @@ impl Line {
         }
     }
 
-    /// The bytes.
+    /// The bytes of the line.
     pub fn as_slice(&self) -> &[u8]
         ensures bytes { result.now ≡ self.now }
         ensures room { length result.now ≤ 80 }
@@ -45,7 +51,7 @@ impl Line {
         &self.bytes[..self.len]
     }
 
-    /// How many bytes there are.
+    /// How many bytes the line has.
     pub(crate) fn len(&self) -> usize
         ensures value { result ≡ length self.now }
         ensures room { result ≤ 80 }
@@ -53,7 +59,7 @@ impl Line {
         self.len
     }
 
-    /// Appends a byte.
+    /// Appends a byte, for which there has to be room.
     pub(crate) fn push(&mut self, byte: u8)
         requires { length self.old < 80 }
         ensures { self.new ≡ self.old ++ byte ∷ [] }
@@ -62,7 +68,7 @@ impl Line {
         self.len += 1;
     }
 
-    /// Appends bytes.
+    /// Appends bytes, for which there has to be room.
     pub(crate) fn push_all(&mut self, more: &[u8])
         requires { length self.old + length more.now ≤ 80 }
         ensures { self.new ≡ self.old ++ more.now }
@@ -93,7 +99,7 @@ impl Line {
         self.push_all(buffer.format(number).as_bytes());
     }
 
-    /// Appends a number as a signed one of 32 bits: from 2^31 on it is negative.
+    /// Appends a number in decimal as C's `%d` does: from 2^31 on it is negative.
     #[tactic(auto, unfolding(crate::specs::Text::signed_number))]
     pub(crate) fn push_signed(&mut self, number: u32)
         requires { length self.old + 11 ≤ 80 }
@@ -108,7 +114,7 @@ impl Line {
         }
     }
 
-    /// Appends a number in hexadecimal: small letters, no leading zeros.
+    /// Appends a number in hexadecimal as C's `%x` does: small letters, no leading zeros.
     pub(crate) fn push_hex(&mut self, number: u32)
         requires { length self.old + 8 ≤ 80 }
         ensures value { self.new ≡ self.old ++ hex number }
@@ -120,12 +126,7 @@ impl Line {
     }
 }
 
-ghost use Rattle.std.specs.Prelude.{◌≡◌, ◌≤◌, ◌<◌, drop};
-ghost use Rattle.std.specs.Fmt.{digit_glyph};
-ghost use Rattle.std.specs.Prelude.{false};
-ghost use Rattle.flt_trace.specs.Text.{hex};
-
-/// The byte of a hexadecimal digit, from 0 to 15: a small letter from 10 on.
+/// The ASCII byte of a hexadecimal digit, from 0 to 15: a small letter from 10 on.
 fn hex_digit(digit: u32) -> u8
     requires { digit < 16 }
     ensures { result ≡ digit_glyph false digit }
@@ -137,7 +138,7 @@ fn hex_digit(digit: u32) -> u8
     }
 }
 
-/// Puts a number in hexadecimal at the end of the bytes, and returns where it starts.
+/// Puts a number in hexadecimal at the end of the bytes, and returns the index of its first digit.
 fn put_hex(digits: &mut [u8; 8], number: u32) -> usize
     ensures value { drop result digits.new ≡ hex number }
     ensures inside { result ≤ 8 }

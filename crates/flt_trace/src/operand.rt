@@ -1,4 +1,6 @@
-//! What an instruction is called, and what it works on, in the words of libpcap's `bpf_image`.
+//! The name of an instruction, and what it works on, as libpcap's `bpf_image` writes them. The room
+//! that the clauses ask for is the length of the longest such text.
+
 ghost use Rattle.std.specs.Prelude.{◌≡◌, ◌+◌, ◌≤◌, ◌++◌, length};
 ghost use Rattle.flt_trace.specs.Text.{arithmetic_name, constant_text, load_name, operation_name};
 ghost use Rattle.std.specs.Prelude.{codes};
@@ -7,7 +9,7 @@ ghost use Rattle.flt_trace.specs.Text.{hex, operand_text, signed_number, test_na
 use crate::line::Line;
 use flt_bpf::operation::{AluOperation, Operand, Operation, Register, Source, Test, Width};
 
-/// What a load of this many bytes into A is called.
+/// The name of a load of this many bytes of the packet into A.
 fn load_name(width: Width) -> &'static str
     ensures name { result.now ≡ load_name width }
     ensures short { length result.now ≤ 3 }
@@ -19,7 +21,7 @@ fn load_name(width: Width) -> &'static str
     }
 }
 
-/// What arithmetic is called.
+/// The name of an operation of arithmetic.
 fn arithmetic_name(operator: AluOperation) -> &'static str
     ensures name { result.now ≡ arithmetic_name operator }
     ensures short { length result.now ≤ 3 }
@@ -38,7 +40,7 @@ fn arithmetic_name(operator: AluOperation) -> &'static str
     }
 }
 
-/// What a conditional jump is called.
+/// The name of a conditional jump.
 pub(crate) fn test_name(test: Test) -> &'static str
     ensures name { result.now ≡ test_name test }
     ensures short { length result.now ≤ 4 }
@@ -51,7 +53,7 @@ pub(crate) fn test_name(test: Test) -> &'static str
     }
 }
 
-/// What an operation is called.
+/// The name of an operation.
 pub(crate) fn operation_name(operation: Operation) -> &'static str
     ensures name { result.now ≡ operation_name operation }
     ensures short { length result.now ≤ 4 }
@@ -73,7 +75,7 @@ pub(crate) fn operation_name(operation: Operation) -> &'static str
     }
 }
 
-/// Appends a number between two texts.
+/// Appends a number, in decimal and signed as `%d` has it, between two texts.
 fn push_between(line: &mut Line, before: &[u8], number: u32, following: &[u8])
     requires { length line.old + length before.now + 11 + length following.now ≤ 80 }
     ensures value { line.new ≡ line.old ++ (before.now ++ (signed_number number ++ following.now)) }
@@ -85,7 +87,7 @@ fn push_between(line: &mut Line, before: &[u8], number: u32, following: &[u8])
     line.push_all(following);
 }
 
-/// Appends a number that is compared or masked with, in hexadecimal: `#0x800`.
+/// Appends a number that is loaded, compared or masked with, in hexadecimal: `#0x800`.
 fn push_mask(line: &mut Line, number: u32)
     requires { length line.old + 11 ≤ 80 }
     ensures value { line.new ≡ line.old ++ (codes "#0x" ++ hex number) }
@@ -95,7 +97,7 @@ fn push_mask(line: &mut Line, number: u32)
     line.push_hex(number);
 }
 
-/// Appends a number that is counted with, in decimal: `#14`.
+/// Appends a number that is returned or calculated with, in decimal and signed: `#14`.
 fn push_count(line: &mut Line, number: u32)
     requires { length line.old + 12 ≤ 80 }
     ensures value { line.new ≡ line.old ++ (codes "#" ++ signed_number number) }
@@ -117,8 +119,8 @@ fn push_constant(line: &mut Line, operator: AluOperation, k: u32)
     }
 }
 
-/// Appends what an operation works on; `place` is its own in the program, from 0, from which a jump
-/// counts.
+/// Appends what an operation works on, where that is named: `[12]`, `#14`, `x`, or of a jump the
+/// place of its target, for which `place` is that of the instruction in the program, from 0.
 pub(crate) fn push_operand(line: &mut Line, operation: Operation, k: u32, place: u32)
     requires { length line.old + 21 ≤ 80 }
     ensures value { line.new ≡ line.old ++ operand_text operation k place }

@@ -1,17 +1,21 @@
-//! Runs, instruction by instruction: what the registers and the memory have before each. It has a
-//! machine of its own, since that of `flt_bpf` keeps no state that could be shown.
+//! Runs, instruction by instruction: what the registers and the memory have before each.
+//!
+//! The machine is written here again, plainly: that of `flt_bpf` is written for speed, and its runs
+//! show nothing between their instructions. The clauses cite the same definitions
+//! (`flt_bpf/specs/Machine.antt`), and `compute` is the same function.
+
 ghost use Rattle.std.specs.Prelude.{◌≡◌, ℕ, ◌<◌, None, slice_set};
 ghost use Rattle.flt_bpf.specs.Check.{fault_of};
 ghost use Rattle.flt_bpf.specs.Machine.{field, held, into, into_word, operand_value, step};
 ghost use Rattle.flt_bpf.specs.Machine.{test_holds};
 ghost use Rattle.flt_bpf.specs.Valid.{IsValid};
 ghost use Rattle.flt_trace.specs.Trace.{Traces, step_state};
-ghost use Rattle.flt_trace.specs.inside.Trace.{course_next};
+ghost use Rattle.flt_trace.specs.inside.Trace.{flow_next};
 
 use flt_bpf::operation::{Operand, Operation, Register, Source, Test, Width, decode};
 use flt_bpf::{Insn, compute};
 
-/// How many words of memory there are.
+/// How many words of memory the machine has.
 const WORDS: usize = 16;
 
 /// Where a run is before one instruction, and what it works on.
@@ -28,9 +32,9 @@ pub struct Step {
     pub memory: [u32; WORDS],
 }
 
-/// Where an instruction leads.
+/// Where an instruction leads, as in the machine of `flt_bpf`.
 #[derive(Clone, Copy)]
-pub(crate) enum Course {
+pub(crate) enum Flow {
     /// How many instructions past the next one.
     Further(u32),
     /// To the end of the run, which returns this.
@@ -38,25 +42,26 @@ pub(crate) enum Course {
 }
 
 impl Step {
-    /// Puts a number into a register and goes on; where there is none, the run ends with 0.
-    fn set(&mut self, register: Register, number: Option<u32>) -> Course
-        ensures leads { course_next result self.new ≡ into register number (step_state self.old) }
+    /// Puts a number into a register and goes on; where there is none, the run ends with 0. The
+    /// place isn't moved, here and in `store`: `trace` does it.
+    fn set_or_end(&mut self, register: Register, number: Option<u32>) -> Flow
+        ensures leads { flow_next result self.new ≡ into register number (step_state self.old) }
         ensures place { self.new.place ≡ self.old.place }
     {
         let Some(number) = number else {
-            return Course::End(0);
+            return Flow::End(0);
         };
         match register {
             Register::Accumulator => self.accumulator = number,
             Register::Index => self.index = number,
         }
-        Course::Further(0)
+        Flow::Further(0)
     }
 
-    /// Puts a register into the word M[k].
-    fn store(&mut self, register: Register, k: u32) -> Course
+    /// Puts what a register has into the word M[k].
+    fn store(&mut self, register: Register, k: u32) -> Flow
         requires { k < 16 }
-        ensures leads { course_next result self.new
+        ensures leads { flow_next result self.new
             ≡ into_word k (held register (step_state self.old)) (step_state self.old) }
         ensures place { self.new.place ≡ self.old.place }
     {
@@ -64,7 +69,7 @@ impl Step {
             Register::Accumulator => self.accumulator,
             Register::Index => self.index,
         };
-        Course::Further(0)
+        Flow::Further(0)
     }
 
     /// The second number of arithmetic or of a test: k or X.
@@ -78,7 +83,7 @@ impl Step {
     }
 }
 
-/// The big-endian number in the packet at a place, or none where it isn't all captured.
+/// The big-endian number in the packet at a place, from 0, or `None` where it isn't all captured.
 fn field(packet: &[u8], at: u32, width: Width) -> Option<u32>
     ensures { result ≡ field packet.now at width }
 {
@@ -91,7 +96,7 @@ fn field(packet: &[u8], at: u32, width: Width) -> Option<u32>
     }
 }
 
-/// Whether a test holds of A and another number.
+/// Whether a test holds of A and another number, `b`.
 fn test_holds(test: Test, a: u32, b: u32) -> bool
     ensures { result ≡ test_holds test a b }
 {
@@ -104,49 +109,56 @@ fn test_holds(test: Test, a: u32, b: u32) -> bool
 }
 
 /// What one instruction of a valid program does to the registers and the memory, on a packet of
-/// original length `len`, and where it leads. The place is left to the caller.
+/// original length `len`, and where it leads. The step's place isn't moved.
 #[tactic(auto, unfolding(flt_bpf::specs::Machine::step, flt_bpf::specs::Check::fault_of))]
-fn execute(insn: &Insn, packet: &[u8], len: u32, state: &mut Step) -> Course
+fn execute(insn: &Insn, packet: &[u8], len: u32, state: &mut Step) -> Flow
     requires { (following : ℕ) × (fault_of insn.now following ≡ None) }
     ensures leads { step insn.now packet.now len (step_state state.old)
-        ≡ course_next result state.new }
+        ≡ flow_next result state.new }
     ensures place { state.new.place ≡ state.old.place }
 {
     use Operation::*;
     use Register::{Accumulator, Index};
     let (a, x, k) = (state.accumulator, state.index, insn.k);
     let Some(operation) = decode(insn.code) else {
+        // An instruction of a valid program has an operation.
         unreachable!();
     };
     match operation {
-        LoadAbsolute(width) => state.set(Accumulator, field(packet, k, width)),
-        LoadIndirect(width) => state.set(Accumulator, field(packet, x.wrapping_add(k), width)),
-        Load(register, Source::Immediate) => state.set(register, Some(k)),
-        Load(register, Source::Memory) => state.set(register, Some(state.memory[k as usize])),
-        Load(register, Source::Length) => state.set(register, Some(len)),
+        LoadAbsolute(width) => state.set_or_end(Accumulator, field(packet, k, width)),
+        LoadIndirect(width) => state.set_or_end(
+            Accumulator,
+            field(packet, x.wrapping_add(k), width),
+        ),
+        Load(register, Source::Immediate) => state.set_or_end(register, Some(k)),
+        Load(register, Source::Memory) => state.set_or_end(
+            register,
+            Some(state.memory[k as usize]),
+        ),
+        Load(register, Source::Length) => state.set_or_end(register, Some(len)),
         LoadHeaderLength => {
             let byte = field(packet, k, Width::Byte);
-            state.set(Index, byte.map(|byte| 4 * (byte & 15)))
+            state.set_or_end(Index, byte.map(|byte| 4 * (byte & 15)))
         }
         Store(register) => state.store(register, k),
         Compute(operator, operand) => {
             let number = state.operand(operand, k);
-            state.set(Accumulator, compute(operator, a, number))
+            state.set_or_end(Accumulator, compute(operator, a, number))
         }
-        Negate => state.set(Accumulator, Some(a.wrapping_neg())),
-        Jump => Course::Further(k),
+        Negate => state.set_or_end(Accumulator, Some(a.wrapping_neg())),
+        Jump => Flow::Further(k),
         JumpIf(test, operand) => {
             let is_true = test_holds(test, a, state.operand(operand, k));
-            Course::Further(u32::from(if is_true { insn.jt } else { insn.jf }))
+            Flow::Further(u32::from(if is_true { insn.jt } else { insn.jf }))
         }
-        ReturnConstant => Course::End(k),
-        ReturnAccumulator => Course::End(a),
-        CopyToIndex => state.set(Index, Some(a)),
-        CopyToAccumulator => state.set(Accumulator, Some(x)),
+        ReturnConstant => Flow::End(k),
+        ReturnAccumulator => Flow::End(a),
+        CopyToIndex => state.set_or_end(Index, Some(a)),
+        CopyToAccumulator => state.set_or_end(Accumulator, Some(x)),
     }
 }
 
-/// Puts a step at an index of the list, if the list has it.
+/// Writes a step at an index of the caller's array. Past its end nothing is written.
 fn put_step(steps: &mut [Step], at: usize, step: &Step)
     ensures { steps.new ≡ slice_set steps.old at step.now }
 {
@@ -156,8 +168,9 @@ fn put_step(steps: &mut [Step], at: usize, step: &Step)
 }
 
 /// Runs a valid program on a packet of original length `len`, and writes what the run is before
-/// each instruction that it meets, from the first one on, as far as there is room. Gives what the
-/// program returns, and how many instructions the run met.
+/// each instruction that it meets, from the first one on, as far as there is room. Returns what the
+/// program returns, and how many instructions the run met, which may be more than there is room
+/// for.
 pub fn trace(insns: &[Insn], packet: &[u8], len: u32, steps: &mut [Step]) -> (u32, usize)
     requires { IsValid insns.now }
     ensures { Traces insns.now packet.now len steps.old steps.new result.0 result.1 }
@@ -174,8 +187,8 @@ pub fn trace(insns: &[Insn], packet: &[u8], len: u32, steps: &mut [Step]) -> (u3
         put_step(steps, count, &step);
         count += 1;
         match execute(&insns[step.place as usize], packet, len, &mut step) {
-            Course::End(answer) => return (answer, count),
-            Course::Further(further) => step.place += 1 + further,
+            Flow::End(answer) => return (answer, count),
+            Flow::Further(further) => step.place += 1 + further,
         }
     }
 }

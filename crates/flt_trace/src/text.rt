@@ -1,5 +1,7 @@
 //! Instructions, as `tcpdump -d` prints them: `(000) ldh      [12]`, or for a test
-//! `(001) jeq      #0x800           jt 2\tjf 5`.
+//! `(001) jeq      #0x800           jt 2\tjf 5`. libpcap's `bpf_image` fills the name up to 8 bytes
+//! and the operand of a test up to 16.
+
 ghost use Rattle.std.specs.Prelude.{◌≡◌, ◌+◌, ◌-◌, ◌≤◌, ◌++◌, [], codes, length, replicate};
 ghost use Rattle.flt_trace.specs.Text.{branch_text, front_text, hex, insn_text, operand_text};
 ghost use Rattle.flt_trace.specs.Text.{filled_text, three_digits};
@@ -10,7 +12,7 @@ use flt_bpf::Insn;
 use flt_bpf::operation::{Operation, decode};
 use itoa::Buffer;
 
-/// Appends blanks until what begins at `start` has `width` bytes; it may have more already.
+/// Appends blanks until what begins at `start` has `width` bytes; none if it has as many already.
 fn pad_to_width(line: &mut Line, start: usize, width: usize)
     requires inside { start ≤ length line.old }
     requires room { start + width ≤ 80 }
@@ -20,7 +22,7 @@ fn pad_to_width(line: &mut Line, start: usize, width: usize)
     line.push_times(b' ', width.saturating_sub(len));
 }
 
-/// Appends a number in decimal, of three digits at least.
+/// Appends a number in decimal, of three digits at least: with zeros before it.
 fn push_three_digits(line: &mut Line, number: u32)
     requires { length line.old + 10 ≤ 80 }
     ensures value { line.new ≡ line.old ++ three_digits number }
@@ -60,7 +62,7 @@ fn line_front(place: u32, name: &str) -> Line
 }
 
 /// Appends the operand of a conditional jump, in a column of 16 bytes, and the places of its two
-/// targets.
+/// targets in the program, where the jump itself is at `place`.
 fn push_branch(line: &mut Line, operation: Operation, insn: &Insn, place: u32)
     requires { length line.old ≤ 22 }
     ensures { line.new ≡ line.old ++ branch_text (operand_text operation insn.now.k place)
@@ -76,8 +78,8 @@ fn push_branch(line: &mut Line, operation: Operation, insn: &Insn, place: u32)
     line.push_decimal(next + u64::from(insn.jf));
 }
 
-/// An instruction as `tcpdump -d` prints it, without a line feed, where it is at a place in a
-/// program, from 0: libpcap's `bpf_image`.
+/// An instruction as `tcpdump -d` prints it, without a line feed; `place` is its index in the
+/// program, from 0. It is what libpcap's `bpf_image` writes.
 ///
 /// It differs in four things. A load of the original length into X (code 0x81), which libpcap
 /// doesn't know, is `ldx #pktlen`. A load from 0xfffff000 on has no name here, since it is a load

@@ -4,7 +4,7 @@ use Rattle.flt_words.specs.declared.number.WordFault.{WordFault}
 use Rattle.flt_words.specs.declared.number.WordFault.TheVariants as fault
 use Rattle.flt_words.specs.declared.token.TokenKind.{TokenKind}
 use Rattle.flt_words.specs.inside.Numbers.{Answers, both_known}
-use Rattle.flt_words.specs.Words.{Stands, fits}
+use Rattle.flt_words.specs.Words.{Spells, fits}
 
 pub answers_along : {A : Type 0} (V W : A → Type 0) (test : A → Bool) → ((a : A) → V a → W a) → ((a : A) → W a → V a) → (r : Result A WordFault) → Answers V test r → Answers W test r
 answers_along V W test to from (Ok a) h = (to a h.0, h.1)
@@ -28,10 +28,10 @@ answers_both V W p q (Err fault.TooLarge) (Err fault.TooLarge) h k = ((h.0, k.0)
 answers_both V W p q (Err fault.TooLarge) (Err fault.Unknown) h k = λ ab w. k ab.1 w.1
 
 -- an answer for one kind of word, mapped to a token, where the word can be of no other kind
-pub answers_mapped : {A : Type 0} (V : A → Type 0) (test : A → Bool) (f : A → TokenKind) (word : List ℕ) → ((a : A) → V a → Stands word (f a)) → ((a : A) → fits (f a) ≡ test a)
-    → (((a : A) → V a → ⊥) → (kind : TokenKind) → Stands word kind → ⊥)
+pub answers_mapped : {A : Type 0} (V : A → Type 0) (test : A → Bool) (f : A → TokenKind) (word : List ℕ) → ((a : A) → V a → Spells word (f a)) → ((a : A) → fits (f a) ≡ test a)
+    → (((a : A) → V a → ⊥) → (kind : TokenKind) → Spells word kind → ⊥)
     → (Post : A → TokenKind → Type 0) → ((a : A) (kind : TokenKind) → Post a kind → kind ≡ f a)
-    → (r : Result A WordFault) (s : Result TokenKind WordFault) → Answers V test r → MatchResult r (λ a. IsOkAnd s (Post a)) (λ e. s ≡ Err e) → Answers (Stands word) fits s
+    → (r : Result A WordFault) (s : Result TokenKind WordFault) → Answers V test r → MatchResult r (λ a. IsOkAnd s (Post a)) (λ e. s ≡ Err e) → Answers (Spells word) fits s
 answers_mapped V test f word to same none Post is (Ok a) (Ok kind) h m = rw (is a kind m) (to a h.0, same a ∙ h.1)
 answers_mapped V test f word to same none Post is (Ok a) (Err e) h m = absurd m
 answers_mapped V test f word to same none Post is (Err fault.TooLarge) s h m = rw m (f h.0, to h.0 h.1, same h.0 ∙ h.2)

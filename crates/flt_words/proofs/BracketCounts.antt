@@ -10,8 +10,8 @@ use Rattle.flt_words.specs.Characters.{within_word}
 use Rattle.flt_words.specs.Spellings.{keywords, look_up, symbols}
 use Rattle.flt_words.specs.Tokens.{IsToken, IsWordPiece, PieceMeans}
 use Rattle.flt_words.specs.Tokens.PieceMeans.{symbol_meaning, word_meaning}
-use Rattle.flt_words.specs.Words.{Stands, WordMeans}
-use Rattle.flt_words.specs.Words.Stands.{keyword, number, dotted, range, mac, ip6}
+use Rattle.flt_words.specs.Words.{Spells, WordMeans}
+use Rattle.flt_words.specs.Words.Spells.{keyword, number, dotted, range, mac, ip6}
 use Rattle.flt_words.specs.Words.WordMeans.{known}
 use Rattle.flt_words.proofs.Tables.{both, found_passes}
 
@@ -60,7 +60,7 @@ all_keywords : list_all (λ entry. keyword_test entry.0 entry.1) keywords ≡ tr
 unfolding keyword_test keywords
 all_keywords = refl
 
-stands_for_none : (word : List ℕ) (kind : TokenKind) → Stands word kind → (openings kind ≡ 0) × (closings kind ≡ 0)
+stands_for_none : (word : List ℕ) (kind : TokenKind) → Spells word kind → (openings kind ≡ 0) × (closings kind ≡ 0)
 unfolding keyword_test
 stands_for_none word kind (keyword w) =
     let passes = both (openings kind == 0) (closings kind == 0) (found_passes keyword_test keywords word kind all_keywords w) in

@@ -13,13 +13,13 @@ use Rattle.flt_words.specs.Tokens.IsRefused.{bad_piece, no_piece}
 use Rattle.flt_words.specs.Tokens.PieceMeans.{symbol_meaning, word_meaning}
 use Rattle.flt_words.specs.Tokens.TokensFrom.{at_end, blank, refused, token}
 use Rattle.flt_words.specs.Tokens.Tokens.{short, too_long}
-use Rattle.flt_words.specs.Words.{Stands, WordMeans, fits}
+use Rattle.flt_words.specs.Words.{Spells, WordMeans, fits}
 use Rattle.flt_words.specs.Words.WordMeans.{known, too_large, unknown}
 use Rattle.flt_words.proofs.OneKind.{same_kind}
 use Rattle.flt_words.proofs.Pieces.{longest_some, taken, word_some}
 use Rattle.flt_words.proofs.Symbols.{symbol_piece}
 
-fits_apart : {word : List ℕ} {a b : TokenKind} → Stands word a → Stands word b → fits a ≡ true → fits b ≡ false → ⊥
+fits_apart : {word : List ℕ} {a b : TokenKind} → Spells word a → Spells word b → fits a ≡ true → fits b ≡ false → ⊥
 fits_apart v w fit no_fit = false≢true (sym no_fit ∙ ap fits (same_kind w v) ∙ fit)
 
 same_word : {place : ℕ} {word : List ℕ} {a b : Result TokenKind ExprFault} → WordMeans place word a → WordMeans place word b → a ≡ b

@@ -13,8 +13,8 @@ use Rattle.flt_words.specs.Numbers.{IsNumber, IsRange, WritesNumber}
 use Rattle.flt_words.specs.Numbers.IsRange.{joined}
 use Rattle.flt_words.specs.Numbers.IsNumber.{decimal, octal, hexadecimal, capital_hexadecimal}
 use Rattle.flt_words.specs.Spellings.{keyword_of}
-use Rattle.flt_words.specs.Words.{Stands}
-use Rattle.flt_words.specs.Words.Stands.{keyword, number, dotted, range, mac, ip6}
+use Rattle.flt_words.specs.Words.{Spells}
+use Rattle.flt_words.specs.Words.Spells.{keyword, number, dotted, range, mac, ip6}
 use Rattle.flt_words.proofs.AddressValues.{same_groups}
 use Rattle.flt_words.proofs.DoubleColons.{double_between, ends_from_ip6, no_double_colon, none_before_first}
 use Rattle.flt_words.proofs.OneNumber.{same_number, same_range}
@@ -81,7 +81,7 @@ no_keyword_is_number {word} {kind} v w = letter_is_no_digit (get_or word 0 0) (k
 no_keyword_is_range : {word : List ℕ} {kind : TokenKind} {first last : ℕ} → keyword_of word ≡ Some kind → IsRange word first last → ⊥
 no_keyword_is_range {word} {kind} v w = letter_is_no_digit (get_or word 0 0) (keyword_is_plain word kind v).letter (range_first w)
 
-pub same_kind : {word : List ℕ} {a b : TokenKind} → Stands word a → Stands word b → a ≡ b
+pub same_kind : {word : List ℕ} {a b : TokenKind} → Spells word a → Spells word b → a ≡ b
 unfolding kind_sign
 same_kind (keyword v) (keyword w) = cc
 same_kind (keyword v) (number w) = absurd (no_keyword_is_number v w)

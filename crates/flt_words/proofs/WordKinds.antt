@@ -12,8 +12,8 @@ use Rattle.flt_words.specs.Numbers.{IsNumber, IsRange}
 use Rattle.flt_words.specs.Numbers.IsNumber.{decimal, octal, hexadecimal, capital_hexadecimal}
 use Rattle.flt_words.specs.Numbers.IsRange.{joined}
 use Rattle.flt_words.specs.Spellings.{keyword_of}
-use Rattle.flt_words.specs.Words.{Stands}
-use Rattle.flt_words.specs.Words.Stands.{keyword, number, dotted, range, mac, ip6}
+use Rattle.flt_words.specs.Words.{Spells}
+use Rattle.flt_words.specs.Words.Spells.{keyword, number, dotted, range, mac, ip6}
 use Rattle.flt_words.proofs.Cuts.{digits_lack, has-append, same}
 use Rattle.flt_words.proofs.Ranges.{decimal_lacks}
 use Rattle.flt_words.proofs.Tables.{keyword_is_plain}
@@ -100,7 +100,7 @@ dash_sign word colon point dash = rw (colon, point, dash) refl
 pub no_sign : (word : List ℕ) → has 58 word ≡ false → has 46 word ≡ false → has 45 word ≡ false → sign_of word ≡ 0
 no_sign word colon point dash = rw (colon, point, dash) refl
 
-unfoldable pub kind_sign : {word : List ℕ} {kind : TokenKind} → Stands word kind → ℕ
+unfoldable pub kind_sign : {word : List ℕ} {kind : TokenKind} → Spells word kind → ℕ
 kind_sign (keyword {word} w) = cond (has 45 word) 1 0
 kind_sign (number w) = 0
 kind_sign (range w) = 1
@@ -109,7 +109,7 @@ kind_sign (mac w) = 3
 kind_sign (ip6 w) = 3
 
 -- which is that of its kind
-pub sign_is : {word : List ℕ} {kind : TokenKind} (s : Stands word kind) → sign_of word ≡ kind_sign s
+pub sign_is : {word : List ℕ} {kind : TokenKind} (s : Spells word kind) → sign_of word ≡ kind_sign s
 unfolding kind_sign
 sign_is {word} {kind} (keyword w) = let plain = keyword_is_plain word kind w in rw (plain.no_colon, plain.no_point) refl
 sign_is {word} {kind} (number w) = no_sign word (number_lacks 58 colon w) (number_lacks 46 point w) (number_lacks 45 dash w)
@@ -128,26 +128,26 @@ unfolding kind_sign
 keyword_low word kind w = omega (arith, sign_is (keyword w), at_most_one (has 45 word))
 
 -- what a word with a sign may stand for
-pub only_addresses : {word : List ℕ} → sign_of word ≡ 3 → ((a : ℕ) → IsMac word a → ⊥) → ((a : ℕ) → IsIp6 word a → ⊥) → (kind : TokenKind) → Stands word kind → ⊥
+pub only_addresses : {word : List ℕ} → sign_of word ≡ 3 → ((a : ℕ) → IsMac word a → ⊥) → ((a : ℕ) → IsIp6 word a → ⊥) → (kind : TokenKind) → Spells word kind → ⊥
 unfolding kind_sign
 only_addresses {word} e no_mac no_ip6 kind (keyword w) = absurd (omega (arith, keyword_low word kind w))
 only_addresses e no_mac no_ip6 kind (mac w) = no_mac _ w
 only_addresses e no_mac no_ip6 kind (ip6 w) = no_ip6 _ w
 only_addresses e no_mac no_ip6 kind s = absurd (omega (arith, sign_is s))
 
-pub only_dotted : {word : List ℕ} → sign_of word ≡ 2 → ((a parts : ℕ) → IsDotted word a parts → ⊥) → (kind : TokenKind) → Stands word kind → ⊥
+pub only_dotted : {word : List ℕ} → sign_of word ≡ 2 → ((a parts : ℕ) → IsDotted word a parts → ⊥) → (kind : TokenKind) → Spells word kind → ⊥
 unfolding kind_sign
 only_dotted {word} e none kind (keyword w) = absurd (omega (arith, keyword_low word kind w))
 only_dotted e none kind (dotted w) = none _ _ w
 only_dotted e none kind s = absurd (omega (arith, sign_is s))
 
-pub only_range : {word : List ℕ} → sign_of word ≡ 1 → keyword_of word ≡ None → ((numbers : ℕ × ℕ) → IsRange word numbers.0 numbers.1 → ⊥) → (kind : TokenKind) → Stands word kind → ⊥
+pub only_range : {word : List ℕ} → sign_of word ≡ 1 → keyword_of word ≡ None → ((numbers : ℕ × ℕ) → IsRange word numbers.0 numbers.1 → ⊥) → (kind : TokenKind) → Spells word kind → ⊥
 unfolding kind_sign
 only_range e no_name none kind (keyword w) = cc
 only_range e no_name none kind (range {word} {first} {last} w) = none (first, last) w
 only_range e no_name none kind s = absurd (omega (arith, sign_is s))
 
-pub only_plain : {word : List ℕ} → sign_of word ≡ 0 → keyword_of word ≡ None → ((n : ℕ) → IsNumber word n → ⊥) → (kind : TokenKind) → Stands word kind → ⊥
+pub only_plain : {word : List ℕ} → sign_of word ≡ 0 → keyword_of word ≡ None → ((n : ℕ) → IsNumber word n → ⊥) → (kind : TokenKind) → Spells word kind → ⊥
 unfolding kind_sign
 only_plain e no_keyword none kind (keyword w) = cc
 only_plain e no_keyword none kind (number w) = none _ w

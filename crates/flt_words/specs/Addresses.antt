@@ -19,11 +19,13 @@ IsGroup group.Octet digits = (n : ℕ) × WritesDecimal digits n × (n ≤ 255)
 IsGroup group.Byte digits = IsNumeral 16 digits × (length digits ≤ 2)
 IsGroup group.Quad digits = IsNumeral 16 digits × (length digits ≤ 4)
 
+-- the number that the digits of a group write
 abbrev pub group_value : Group → List ℕ → ℕ
 group_value group.Octet digits = digits_value 10 digits
 group_value group.Byte digits = digits_value 16 digits
 group_value group.Quad digits = digits_value 16 digits
 
+-- those of groups in turn
 abbrev pub group_values : Group → List (List ℕ) → List ℕ
 group_values form groups = map (group_value form) groups
 

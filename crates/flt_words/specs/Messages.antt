@@ -27,6 +27,7 @@ place_of (fault.UnknownWord place) = Some place
 place_of (fault.NumberTooLarge place) = Some place
 place_of _ = None
 
+-- a text with its place, where it has one
 abbrev pub with_place : List ℕ → Option ℕ → List ℕ
 with_place text None = text
 with_place text (Some place) = text ++ (codes " at " ++ decimal place)

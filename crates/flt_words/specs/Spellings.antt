@@ -12,14 +12,16 @@ use Rattle.flt_words.specs.declared.token.TokenKind.{TokenKind}
 use Rattle.flt_words.specs.declared.token.TokenKind.TheVariants as token
 use Rattle.flt_words.specs.declared.token.ValueType.TheVariants as value
 
--- a table of spellings, and what it has for one
+-- a table of spellings with their tokens
 abbrev pub Spellings : Type 0
 Spellings = List (List ℕ × TokenKind)
 
+-- what a table has for a spelling, letter for letter, or none
 abbrev pub look_up : Spellings → List ℕ → Option TokenKind
 look_up [] piece = None
 look_up (entry ∷ table) piece = if bytes_eq entry.0 piece then Some entry.1 else look_up table piece
 
+-- keywords, and from `tcpflags` on the names of header fields and TCP flags with their numbers
 unfoldable pub keywords : Spellings
 keywords =
     (codes "and", token.Join join.And)
@@ -87,10 +89,11 @@ symbols =
     ∷ (codes "^", token.Operator operator.ExclusiveOr)
     ∷ []
 
+-- the keyword or name that a word is
 abbrev pub keyword_of : List ℕ → Option TokenKind
 keyword_of word = look_up keywords word
 
--- the colon is a token of its own inside brackets alone
+-- the symbol that these bytes are; the colon is a token of its own inside brackets alone
 abbrev pub symbol_of : Bool → List ℕ → Option TokenKind
 symbol_of inside piece =
     if inside && bytes_eq piece (codes ":") then Some token.Colon else look_up symbols piece

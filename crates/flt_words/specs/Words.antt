@@ -8,16 +8,16 @@ use Rattle.flt_words.specs.Addresses.{IsDotted, IsIp6, IsMac}
 use Rattle.flt_words.specs.Numbers.{IsNumber, IsRange, is_word_sized}
 use Rattle.flt_words.specs.Spellings.{keyword_of}
 
--- the word means this, however large its numbers are
-pub data Stands : List ℕ → TokenKind → Type 0 where
-  keyword : {word : List ℕ} {kind : TokenKind} → keyword_of word ≡ Some kind → Stands word kind
-  number : {word : List ℕ} {n : ℕ} → IsNumber word n → Stands word (token.Number n)
+-- the word is one for a token of this kind, however large its numbers are
+pub data Spells : List ℕ → TokenKind → Type 0 where
+  keyword : {word : List ℕ} {kind : TokenKind} → keyword_of word ≡ Some kind → Spells word kind
+  number : {word : List ℕ} {n : ℕ} → IsNumber word n → Spells word (token.Number n)
   dotted : {word : List ℕ} {address parts : ℕ} → IsDotted word address parts
-      → Stands word (token.Dotted address parts)
+      → Spells word (token.Dotted address parts)
   range : {word : List ℕ} {first last : ℕ} → IsRange word first last
-      → Stands word (token.Range first last)
-  mac : {word : List ℕ} {address : ℕ} → IsMac word address → Stands word (token.Mac address)
-  ip6 : {word : List ℕ} {address : ℕ} → IsIp6 word address → Stands word (token.Ip6 address)
+      → Spells word (token.Range first last)
+  mac : {word : List ℕ} {address : ℕ} → IsMac word address → Spells word (token.Mac address)
+  ip6 : {word : List ℕ} {address : ℕ} → IsIp6 word address → Spells word (token.Ip6 address)
 
 -- a number that a token has is below 2 ^ 32, and so are both of a range
 abbrev pub fits : TokenKind → Bool
@@ -27,8 +27,8 @@ fits _ = true
 
 -- the answer for a word at a place
 pub data WordMeans (place : ℕ) (word : List ℕ) : Result TokenKind ExprFault → Type 0 where
-  known : {kind : TokenKind} → Stands word kind → fits kind ≡ true → WordMeans place word (Ok kind)
-  too_large : {kind : TokenKind} → Stands word kind → fits kind ≡ false
+  known : {kind : TokenKind} → Spells word kind → fits kind ≡ true → WordMeans place word (Ok kind)
+  too_large : {kind : TokenKind} → Spells word kind → fits kind ≡ false
       → WordMeans place word (Err (fault.NumberTooLarge place))
-  unknown : ((kind : TokenKind) → Stands word kind → ⊥)
+  unknown : ((kind : TokenKind) → Spells word kind → ⊥)
       → WordMeans place word (Err (fault.UnknownWord place))

@@ -23,7 +23,8 @@ pub(crate) enum Group {
     Quad,
 }
 
-/// Groups that were read, as one number in their base, the first the highest digit; and how many.
+/// Groups that were read: their values as the digits of one number in their base, the first the
+/// highest, and how many groups there are.
 #[derive(Clone, Copy)]
 pub(crate) struct Joined {
     value: u128,
@@ -41,7 +42,7 @@ impl Group {
         }
     }
 
-    /// How many numbers a group of this form may be, from 0 on.
+    /// The base in which groups of this form are digits: a group's value is below it.
     fn base(self) -> u32
         ensures { result ≡ base_of self }
     {
@@ -51,7 +52,7 @@ impl Group {
         }
     }
 
-    /// The number of a group of this form, if these are its digits.
+    /// The value of a group with these digits, or `None` where they are no group of this form.
     fn value(self, digits: &[u8]) -> Option<u32>
         ensures { MatchOption result (IsGroup self digits.now → ⊥)
             (λ n. IsGroup self digits.now × (n ≡ group_value self digits.now)) }
@@ -64,7 +65,7 @@ impl Group {
     }
 }
 
-/// The number up to 255 that decimal digits without leading zeros write.
+/// The number up to 255 that decimal digits without leading zeros write, or `None`.
 fn parse_octet(digits: &[u8]) -> Option<u32>
     ensures { MatchOption result (IsGroup Octet digits.now → ⊥)
         (λ n. IsGroup Octet digits.now × (n ≡ digits_value 10 digits.now)) }
@@ -75,7 +76,8 @@ fn parse_octet(digits: &[u8]) -> Option<u32>
     }
 }
 
-/// The number that `most` hexadecimal digits at most write.
+/// The number that 1 to `most` hexadecimal digits write, or `None` for other texts. With `most` up
+/// to 4 it always fits.
 fn parse_hexadecimal(most: usize, digits: &[u8]) -> Option<u32>
     requires { most ≤ 4 }
     ensures { MatchOption result (IsNumeral 16 digits.now × (length digits.now ≤ most) → ⊥)
@@ -88,7 +90,9 @@ fn parse_hexadecimal(most: usize, digits: &[u8]) -> Option<u32>
     parse_digits(16, digits).ok()
 }
 
-/// The groups of a form that a text is, eight at most. An empty text has none.
+/// Reads a text as groups of a form with its separator between them, eight at most: as many as an
+/// IPv6 address has. An empty text has none of them. `None` where a piece is no group of the form,
+/// or there are more.
 fn parse_groups(form: Group, text: &[u8]) -> Option<Joined>
     ensures { ReadsGroups form text.now result }
 {
@@ -109,13 +113,14 @@ fn parse_groups(form: Group, text: &[u8]) -> Option<Joined>
     Some(Joined { value, count })
 }
 
-/// The number that groups write in their base with `zeros` more groups of 0 after them.
+/// The number of groups that were read with `zeros` more groups of 0 after them, eight in all at
+/// most.
 fn value_with_zeros(form: Group, joined: Joined, zeros: u32) -> u128
     requires small { joined.value < base_of form ^ joined.count }
     requires upper_bound { joined.count + zeros ≤ 8 }
     ensures { result ≡ joined.value * base_of form ^ zeros }
 {
-    // A product for a shift, as the definition has it.
+    // Products instead of a shift, as the definition has it.
     let mut value = joined.value;
     for _done in 0..zeros {
         value *= u128::from(form.base());
@@ -123,7 +128,8 @@ fn value_with_zeros(form: Group, joined: Joined, zeros: u32) -> u128
     value
 }
 
-/// An IPv4 address of two to four parts, the missing ones 0, and how many parts there are.
+/// Reads a word as two to four parts of an IPv4 address: the address, missing parts 0, and how many
+/// parts are written. `None` for other words, and for one part, which is a number.
 pub(crate) fn parse_dotted(word: &[u8]) -> Option<(u32, u8)>
     ensures { MatchOption result ((address parts : ℕ) → IsDotted word.now address parts → ⊥)
         (λ dotted. IsDotted word.now dotted.0 dotted.1) }
@@ -136,7 +142,7 @@ pub(crate) fn parse_dotted(word: &[u8]) -> Option<(u32, u8)>
     Some((address as u32, joined.count as u8))
 }
 
-/// A MAC address: six bytes, joined by colons.
+/// Reads a word as a MAC address, six bytes joined by colons: 48 bits, the first byte the highest.
 pub(crate) fn parse_mac(word: &[u8]) -> Option<u64>
     ensures { FindsAddress (IsMac word.now) result }
 {
@@ -147,7 +153,8 @@ pub(crate) fn parse_mac(word: &[u8]) -> Option<u64>
     Some(joined.value as u64)
 }
 
-/// An IPv6 address: eight groups, or fewer with one `::` for the rest (RFC 4291, 2.2).
+/// Reads a word as an IPv6 address: eight groups, or fewer with one `::` for the rest (RFC 4291,
+/// 2.2). A second `::` is left in the text after the first one, where it is no group.
 pub(crate) fn parse_ip6(word: &[u8]) -> Option<u128>
     ensures { FindsAddress (IsIp6 word.now) result }
 {
@@ -168,8 +175,8 @@ fn parse_whole_ip6(word: &[u8]) -> Option<u128>
     Some(joined.value)
 }
 
-/// An IPv6 address by what stands before and after its `::`, seven groups at most; those left out
-/// are 0.
+/// An IPv6 address by what stands before and after its `::`: seven groups at most, since `::` is
+/// one or more groups of 0.
 fn parse_shortened_ip6(front: &[u8], back: &[u8]) -> Option<u128>
     ensures { FindsAddress (AreIp6Ends front.now back.now) result }
 {

@@ -6,11 +6,11 @@ ghost use Rattle.flt_words.specs.declared.fault.ExprFault.{ExprFault};
 ghost use Rattle.flt_words.specs.declared.token.Token.{Token};
 ghost use Rattle.flt_words.specs.declared.token.TokenKind.{TokenKind};
 ghost use Rattle.flt_words.specs.Tokens.{Tokens};
-ghost use Rattle.flt_words.specs.Words.{Stands};
+ghost use Rattle.flt_words.specs.Words.{Spells};
 
 /// A word is of one kind at most, and means one value of it.
 pub fn one_kind()
-    ensures { (word : List ℕ) (a b : TokenKind) → Stands word a → Stands word b → a ≡ b }
+    ensures { (word : List ℕ) (a b : TokenKind) → Spells word a → Spells word b → a ≡ b }
 {}
 
 /// A text has one list of tokens with places or one refusal, and never two answers.

@@ -18,7 +18,8 @@ use std::alloc::Allocator;
 /// The longest text, in bytes (E1).
 const LONGEST: usize = 65536;
 
-/// How many bytes the word has with which a text begins. `inside` is whether it is in brackets.
+/// How many bytes the word has with which a text begins. `inside` is whether it is in brackets. It
+/// ends with the last byte that may end one: of `10.0.0.1-` the dash is no part of it.
 fn first_word_len(inside: bool, rest: &[u8]) -> usize
     requires { starts_word inside (slice_index rest.now 0) ≡ true }
     ensures { IsLongest inside rest.now result }
@@ -35,7 +36,7 @@ fn first_word_len(inside: bool, rest: &[u8]) -> usize
     len
 }
 
-/// The symbol of `len` bytes with which a text begins.
+/// The symbol of `len` bytes with which a text begins, if there is one.
 fn first_symbol_of_len(inside: bool, len: usize, rest: &[u8]) -> Option<TokenKind>
     ensures { MatchOption result
         (len ≤ length rest.now → symbol_of inside (take len rest.now) ≡ None)
@@ -47,7 +48,8 @@ fn first_symbol_of_len(inside: bool, len: usize, rest: &[u8]) -> Option<TokenKin
     symbol_of(inside, &rest[..len])
 }
 
-/// The longest symbol with which a text begins, and its length in bytes.
+/// The longest symbol with which a text begins that begins with no word, and its length in bytes:
+/// no symbol has more than 2.
 fn first_symbol(inside: bool, rest: &[u8]) -> Option<(TokenKind, usize)>
     requires { starts_word inside (slice_index rest.now 0) ≡ false }
     ensures { MatchOption result

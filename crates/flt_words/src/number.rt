@@ -17,7 +17,8 @@ pub(crate) enum WordFault {
     TooLarge,
 }
 
-/// The number that digits of a radix write. Leading zeros are taken.
+/// The number that digits of a radix write; leading zeros are allowed. `Unknown` where there is no
+/// digit or another byte.
 pub(crate) fn parse_digits(radix: u32, digits: &[u8]) -> Result<u32, WordFault>
     requires low { 2 ≤ radix }
     requires high { radix ≤ 16 }
@@ -27,13 +28,14 @@ pub(crate) fn parse_digits(radix: u32, digits: &[u8]) -> Result<u32, WordFault>
         return Err(WordFault::Unknown);
     }
     match digits_number(radix, digits) {
+        // Above 64 bits.
         None => Err(WordFault::TooLarge),
         Some(number) if number > 0xffff_ffff => Err(WordFault::TooLarge),
         Some(number) => Ok(number as u32),
     }
 }
 
-/// The number that decimal digits without leading zeros write.
+/// The number that decimal digits write. With leading zeros they are `Unknown`.
 pub(crate) fn parse_decimal(digits: &[u8]) -> Result<u32, WordFault>
     ensures { Answers (WritesDecimal digits.now) is_word_sized result }
 {
@@ -78,7 +80,8 @@ fn both_numbers(
     }
 }
 
-/// The two decimal numbers that a dash joins, in the order in which they stand.
+/// The two decimal numbers that a dash joins, in the order in which they stand. A word without a
+/// dash is `Unknown`.
 pub(crate) fn parse_range(word: &[u8]) -> Result<(u32, u32), WordFault>
     ensures { Answers (λ range. IsRange word.now range.0 range.1)
         (λ range. is_word_sized range.0 && is_word_sized range.1) result }

@@ -71,7 +71,7 @@ const SYMBOLS: [(&str, TokenKind); 24] = [
     ("^", TokenKind::Operator(Operator::ExclusiveOr)),
 ];
 
-/// What a table has for a spelling, letter for letter: capitals differ.
+/// The token that a table has for a spelling, or `None`. Capitals differ from small letters.
 fn look_up(table: &[(&str, TokenKind)], piece: &[u8]) -> Option<TokenKind>
     ensures { result ≡ look_up (map (λ entry. (entry.0.now, entry.1)) table.now) piece.now }
 {
@@ -83,7 +83,7 @@ fn look_up(table: &[(&str, TokenKind)], piece: &[u8]) -> Option<TokenKind>
     None
 }
 
-/// The keyword or name that is spelled so, if there is one.
+/// The keyword or name that this word is, if it is one.
 #[tactic(auto, unfolding(crate::specs::Spellings::keywords))]
 pub(crate) fn keyword_of(word: &[u8]) -> Option<TokenKind>
     ensures { result ≡ keyword_of word.now }
@@ -91,7 +91,7 @@ pub(crate) fn keyword_of(word: &[u8]) -> Option<TokenKind>
     look_up(&KEYWORDS, word)
 }
 
-/// The symbol that is spelled so, if there is one. `inside` is whether it is in brackets.
+/// The symbol that these bytes are, if they are one. `inside` is whether they are in brackets.
 #[tactic(auto, unfolding(crate::specs::Spellings::symbols))]
 pub(crate) fn symbol_of(inside: bool, piece: &[u8]) -> Option<TokenKind>
     ensures { result ≡ symbol_of inside piece.now }

@@ -1,10 +1,15 @@
-//! What a word means. Which of its kinds it may be shows by its signs: colons, points and dashes.
+//! What a word means. Its colons, points and dashes show which kinds it may be of, in this order:
+//! a word with a colon is an address of MAC or IPv6 or nothing, whatever else it has.
+//!
+//! Each `kind_..` here returns the kind of the word's token, with its value; `Unknown` where the
+//! word means nothing, `TooLarge` where a number in it is above 2^32 - 1. In the clauses 58 is a
+//! colon, 46 a point and 45 a dash.
 
 ghost use Rattle.std.specs.Prelude.{◌≡◌, None, false, true};
 ghost use Rattle.flt_words.specs.inside.Characters.{has};
 ghost use Rattle.flt_words.specs.inside.Numbers.{Answers};
 ghost use Rattle.flt_words.specs.Spellings.{keyword_of};
-ghost use Rattle.flt_words.specs.Words.{Stands, WordMeans, fits};
+ghost use Rattle.flt_words.specs.Words.{Spells, WordMeans, fits};
 
 use crate::address::{parse_dotted, parse_ip6, parse_mac};
 use crate::fault::ExprFault;
@@ -15,7 +20,7 @@ use crate::token::TokenKind;
 /// What a word with a colon means: a MAC address or an IPv6 address.
 fn kind_with_colon(word: &[u8]) -> Result<TokenKind, WordFault>
     requires { has 58 word.now ≡ true }
-    ensures { Answers (Stands word.now) fits result }
+    ensures { Answers (Spells word.now) fits result }
 {
     if let Some(address) = parse_mac(word) {
         return Ok(TokenKind::Mac(address));
@@ -30,7 +35,7 @@ fn kind_with_colon(word: &[u8]) -> Result<TokenKind, WordFault>
 fn kind_with_point(word: &[u8]) -> Result<TokenKind, WordFault>
     requires point { has 46 word.now ≡ true }
     requires no_colon { has 58 word.now ≡ false }
-    ensures { Answers (Stands word.now) fits result }
+    ensures { Answers (Spells word.now) fits result }
 {
     match parse_dotted(word) {
         Some((address, parts)) => Ok(TokenKind::Dotted { address, parts }),
@@ -38,13 +43,13 @@ fn kind_with_point(word: &[u8]) -> Result<TokenKind, WordFault>
     }
 }
 
-/// What a word with a dash means that is no name, as `tcp-syn` is one: a range of two numbers.
+/// What a word with a dash means that isn't a name such as `tcp-syn`: a range of two numbers.
 fn kind_of_range(word: &[u8]) -> Result<TokenKind, WordFault>
     requires no_name { keyword_of word.now ≡ None }
     requires dash { has 45 word.now ≡ true }
     requires no_point { has 46 word.now ≡ false }
     requires no_colon { has 58 word.now ≡ false }
-    ensures { Answers (Stands word.now) fits result }
+    ensures { Answers (Spells word.now) fits result }
 {
     parse_range(word).map(|(first, last)| TokenKind::Range { first, last })
 }
@@ -54,7 +59,7 @@ fn kind_with_dash(word: &[u8]) -> Result<TokenKind, WordFault>
     requires dash { has 45 word.now ≡ true }
     requires no_point { has 46 word.now ≡ false }
     requires no_colon { has 58 word.now ≡ false }
-    ensures { Answers (Stands word.now) fits result }
+    ensures { Answers (Spells word.now) fits result }
 {
     match keyword_of(word) {
         Some(kind) => Ok(kind),
@@ -67,7 +72,7 @@ fn kind_of_plain_word(word: &[u8]) -> Result<TokenKind, WordFault>
     requires no_dash { has 45 word.now ≡ false }
     requires no_point { has 46 word.now ≡ false }
     requires no_colon { has 58 word.now ≡ false }
-    ensures { Answers (Stands word.now) fits result }
+    ensures { Answers (Spells word.now) fits result }
 {
     match keyword_of(word) {
         Some(kind) => Ok(kind),
@@ -75,9 +80,9 @@ fn kind_of_plain_word(word: &[u8]) -> Result<TokenKind, WordFault>
     }
 }
 
-/// What a word means: the kind of its token, with its value.
+/// What any word means.
 fn kind_of(word: &[u8]) -> Result<TokenKind, WordFault>
-    ensures { Answers (Stands word.now) fits result }
+    ensures { Answers (Spells word.now) fits result }
 {
     if word.contains(&b':') {
         kind_with_colon(word)

@@ -4,7 +4,7 @@ use Rattle.flt_ast.specs.declared.qualifiers.Qualifiers.{Qualifiers}
 use Rattle.flt_ast.specs.declared.node.Node.{Node}
 use Rattle.flt_ast.specs.declared.node.Node.TheVariants as node
 
--- the same over the nodes
+-- the qualifiers that are the latest written after a node, where q were before it
 abbrev pub next_latest : Qualifiers → Node → Qualifiers
 next_latest q (node.Valued p v) = p
 next_latest q _ = q
@@ -13,6 +13,7 @@ abbrev pub inherited_node : Qualifiers → Node → Node
 inherited_node q (node.Bare v) = node.Valued q v
 inherited_node q n = n
 
+-- nodes whose bare values have the latest qualifiers before them, or q
 abbrev pub inherited_nodes : Qualifiers → List Node → List Node
 inherited_nodes q [] = []
 inherited_nodes q (n ∷ rest) = inherited_node q n ∷ inherited_nodes (next_latest q n) rest

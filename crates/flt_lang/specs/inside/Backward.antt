@@ -36,6 +36,7 @@ around operand p s =
 abbrev pub with_primitive : Bool → TruthTree → WriterState → WriterState
 with_primitive operand a s = settle s.pending (truth_tokens operand a s.tokens)
 
+-- a node before those that are written
 abbrev pub write_node : Bool → Node → WriterState → WriterState
 write_node operand (node.Check p) s = with_primitive operand (check p) s
 write_node operand (node.Cast p c) s = with_primitive operand (cast p c) s

@@ -212,9 +212,11 @@ abbrev pub valued_or : Option (Qualifiers × Value × ℕ) → List TokenKind �
 valued_or (Some r) ts d = Some (r.2, Some operand.Truth, node.Valued r.0 r.1 ∷ d)
 valued_or None ts d = check_of ts d
 
+-- a value with its qualifiers, or else a protocol alone
 abbrev pub primitive : List TokenKind → List Node → Option Primitive
 primitive ts d = valued_or (valued_of ts) ts d
 
+-- a value with nothing before it
 abbrev pub bare_of : List TokenKind → List Node → Option Primitive
 bare_of ts d =
     value_of ts >>= λ r. Some (length ts - length r.1 - 1, Some operand.Truth, node.Bare r.0 ∷ d)
@@ -224,6 +226,7 @@ abbrev pub one_node : List Node → Option (Node × ℕ) → Option Primitive
 one_node d None = None
 one_node d (Some r) = Some (r.1, Some operand.Truth, r.0 ∷ d)
 
+-- a primitive that was read, where these frames wait
 abbrev pub with_frames : List Frame → Option Primitive → Option Begun
 with_frames fs o = o >>= λ r. Some (r.0, (fs, r.1, r.2))
 
@@ -292,6 +295,7 @@ with_prefix (Some p) ts fs x d =
     else next_of ts fs x d
 with_prefix None ts fs x d = next_of ts fs x d
 
+-- the tokens after an operand, where a plain number may still get the length of a prefix
 abbrev pub after_operand : List TokenKind → List Frame → Operand → List Node → Option Begun
 after_operand ts fs x d = with_prefix (number_with_prefix x ts) ts fs x d
 
@@ -299,6 +303,7 @@ abbrev pub whole : List Frame → Operand → List Node → Option (List Node)
 whole [] x d = as_truth x d
 whole (f ∷ fs) x d = None
 
+-- the nodes of the whole after the last token
 abbrev pub finish : Option Operand → List Frame → List Node → Option (List Node)
 finish None fs d = None
 finish (Some x) fs d = reduce 8 fs x d >>= λ r. whole r.0 r.1 r.2

@@ -16,7 +16,8 @@ use Rattle.flt_ast.specs.declared.value.NetMask.TheVariants as mask
 use Rattle.flt_ast.specs.declared.value.Value.{Value}
 use Rattle.flt_ast.specs.declared.value.Value.TheVariants as value
 
--- the same, read from the left as far as it goes
+-- the protocol with which tokens begin, if they do, and the tokens after it; so of the direction and
+-- the others below
 abbrev pub protocol_of : List TokenKind → Option Protocol × List TokenKind
 protocol_of (token.Protocol p ∷ ts) = (Some p, ts)
 protocol_of ts = (None, ts)
@@ -26,7 +27,7 @@ is_opposite Source Destination = true
 is_opposite Destination Source = true
 is_opposite _ _ = false
 
--- the join of both sides
+-- the join of `src or dst`, in either order of the sides
 abbrev pub both_of : List TokenKind → Option Join
 both_of (token.Side s ∷ token.Join j ∷ token.Side t ∷ ts) = if is_opposite s t then Some j else None
 both_of _ = None

@@ -53,9 +53,11 @@ with_insn _ i l = with_offsets i 0 0 ∷ l.code
 abbrev pub with_entry : List Insn → PlacedCode → PlacedCode
 with_entry c l = record { code = c; places = length c ∷ l.places }
 
+-- one more wide instruction in front
 abbrev pub put : Insn → PlacedCode → PlacedCode
 put i l = with_entry (with_insn (operation_of i.code) i l) l
 
+-- all of some wide code
 abbrev pub placed_code : List Insn → PlacedCode
 placed_code [] = record { code = []; places = [] }
 placed_code (i ∷ is) = put i (placed_code is)

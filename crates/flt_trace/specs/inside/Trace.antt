@@ -1,11 +1,11 @@
--- How a run's course goes on.
+-- Where an instruction leads, as the code returns it and as the machine's definition has it.
 use Rattle.flt_bpf.specs.Machine.{Next, Goes, Ends}
 use Rattle.flt_trace.specs.declared.steps.Step.{Step}
-use Rattle.flt_trace.specs.declared.steps.Course.{Course}
-use Rattle.flt_trace.specs.declared.steps.Course.TheVariants.{Further, End}
+use Rattle.flt_trace.specs.declared.steps.Flow.{Flow}
+use Rattle.flt_trace.specs.declared.steps.Flow.TheVariants.{Further, End}
 use Rattle.flt_trace.specs.Trace.{step_state}
 
 -- what an instruction leads to, in the machine's words
-abbrev pub course_next : Course → Step → Next
-course_next (Further further) s = Goes further (step_state s)
-course_next (End answer) s = Ends answer
+abbrev pub flow_next : Flow → Step → Next
+flow_next (Further further) s = Goes further (step_state s)
+flow_next (End answer) s = Ends answer

@@ -1,14 +1,14 @@
--- How digits are read one by one.
+-- What the readers of numbers and of words return.
 use Rattle.std.specs.Prelude.{◌≡◌, Bool, true, false, Result, Ok, Err}
 use Rattle.flt_words.specs.declared.number.WordFault.{WordFault}
 use Rattle.flt_words.specs.declared.number.WordFault.TheVariants as fault
 
--- the answer for a word of which `Stands` says what it means, where only what passes the test may
--- be answered
+-- what is returned for a word, of which `Spells` is what it means: `Ok` is a meaning that passes
+-- the test, `TooLarge` that it has one which doesn't pass, `Unknown` that it has none
 abbrev pub Answers : {A : Type 0} → (A → Type 0) → (A → Bool) → Result A WordFault → Type 0
-Answers {A} Stands test (Ok a) = Stands a × (test a ≡ true)
-Answers {A} Stands test (Err fault.TooLarge) = (a : A) × Stands a × (test a ≡ false)
-Answers {A} Stands test (Err fault.Unknown) = (a : A) → Stands a → ⊥
+Answers {A} Spells test (Ok a) = Spells a × (test a ≡ true)
+Answers {A} Spells test (Err fault.TooLarge) = (a : A) × Spells a × (test a ≡ false)
+Answers {A} Spells test (Err fault.Unknown) = (a : A) → Spells a → ⊥
 
 -- both answers: unknown where either is, and else too large where either is
 abbrev pub both_known : {A B : Type 0} → Result A WordFault → Result B WordFault

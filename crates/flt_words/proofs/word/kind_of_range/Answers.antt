@@ -1,7 +1,7 @@
 -- A word with a dash that is no name, and no colon or point.
 use Rattle.std.proofs.Common.{refl, rules}
 use Rattle.flt_words.specs.declared.token.TokenKind.TheVariants as token
-use Rattle.flt_words.specs.Words.Stands.{range}
+use Rattle.flt_words.specs.Words.Spells.{range}
 use Rattle.flt_words.proofs.Answering.{answers_mapped}
 use Rattle.flt_words.proofs.WordKinds.{dash_sign, only_range}
 use Rattle.flt_words.proofs.word.kind_of_range.Goals as goal

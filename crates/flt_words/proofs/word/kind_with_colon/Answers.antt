@@ -1,6 +1,6 @@
 -- A word with a colon.
 use Rattle.std.proofs.Common.{refl}
-use Rattle.flt_words.specs.Words.Stands.{ip6, mac}
+use Rattle.flt_words.specs.Words.Spells.{ip6, mac}
 use Rattle.flt_words.proofs.WordKinds.{colon_sign, only_addresses}
 use Rattle.flt_words.proofs.word.kind_with_colon.Goals as goal
 

@@ -1,6 +1,6 @@
 -- A word with a dash may be a name.
 use Rattle.std.proofs.Common.{sym, ◌∙◌}
-use Rattle.flt_words.specs.Words.Stands.{keyword}
+use Rattle.flt_words.specs.Words.Spells.{keyword}
 use Rattle.flt_words.proofs.Tables.{keyword_is_plain}
 use Rattle.flt_words.proofs.word.kind_with_dash.Goals as goal
 

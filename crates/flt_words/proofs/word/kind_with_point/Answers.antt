@@ -1,6 +1,6 @@
 -- A word with a point and no colon.
 use Rattle.std.proofs.Common.{refl}
-use Rattle.flt_words.specs.Words.Stands.{dotted}
+use Rattle.flt_words.specs.Words.Spells.{dotted}
 use Rattle.flt_words.proofs.WordKinds.{only_dotted, point_sign}
 use Rattle.flt_words.proofs.word.kind_with_point.Goals as goal
 
