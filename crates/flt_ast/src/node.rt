@@ -149,7 +149,8 @@ impl Node {
     }
 
     /// How many numbers wait to be operands after this node, where `height` wait before it. In a
-    /// tree a node's operands wait before it, so the subtractions never stop at 0.
+    /// tree a node's operands wait before it, so the subtractions never stop at 0. A height is at
+    /// most the number of nodes in a list, and so below 2^63.
     pub fn height_after(self, height: usize) -> usize
         requires { height < 2 ^ 63 }
         ensures { result ≡ height_after height self }

@@ -55,7 +55,7 @@ fn write_insns<O: Output>(insns: &[Insn], output: &mut O) -> Result<(), Stopped>
 }
 
 /// Puts the line of an instruction, with its line feed, at the end of the bytes, and returns the
-/// index of its first one.
+/// index of its first digit.
 fn put_insn_line(line: &mut [u8; MOST_LINE_BYTES], insn: &Insn) -> usize
     ensures inside { result ≤ 25 }
     ensures written { drop result line.new ≡ insn_line insn.now ++ LINE_FEED ∷ [] }

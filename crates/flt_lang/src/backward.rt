@@ -129,8 +129,8 @@ impl<A: Allocator> Writer<A> {
         Ok(())
     }
 
-    /// Begins a node whose operands are written next: what stands before or between them waits. Of
-    /// a node that is an operand itself the `)` is written and the `(` waits too.
+    /// Begins a node with operands, which are written next: what stands before or between them
+    /// waits. Of a node that is an operand itself the `)` is written, and the `(` waits too.
     fn begin_operator(&mut self, is_operand: bool, pending: Pending) -> Result<(), AllocError>
         ensures { OnOk result (self.new ≡ around is_operand pending self.old) }
     {

@@ -56,6 +56,7 @@ fn has_deep_front(tokens: &[Token]) -> bool
         if is_closing(token) {
             closed += 1;
         }
+        // The sum never saturates: fewer tokens fit the memory.
         if opened > closed.saturating_add(100) {
             return true;
         }

@@ -155,18 +155,20 @@ impl<A: Allocator> Reader<A> {
     {
         match first {
             TokenKind::Protocol(protocol) => self.begin_with_protocol(protocol, tokens),
-            TokenKind::Side(_) | TokenKind::ValueType(_) => self.put_truth(read_primitive(tokens)),
-            TokenKind::Cast(cast) => self.put_truth(Some((Node::Cast(None, cast), 0))),
-            TokenKind::Size(_) => self.put_truth(read_sized(tokens)),
+            TokenKind::Side(_) | TokenKind::ValueType(_) => {
+                self.write_primitive(read_primitive(tokens))
+            }
+            TokenKind::Cast(cast) => self.write_primitive(Some((Node::Cast(None, cast), 0))),
+            TokenKind::Size(_) => self.write_primitive(read_sized(tokens)),
             TokenKind::Number(_) => self.begin_number(tokens),
             TokenKind::Dotted { .. }
             | TokenKind::Ip6(_)
             | TokenKind::Mac(_)
-            | TokenKind::Range { .. } => self.put_truth(read_bare(tokens)),
-            TokenKind::Len => self.put_number(Node::Len),
-            TokenKind::Name(number) => self.put_number(Node::Named(number)),
-            // Refused where the latest frame takes numbers: in arithmetic, a comparison or
-            // brackets.
+            | TokenKind::Range { .. } => self.write_primitive(read_bare(tokens)),
+            TokenKind::Len => self.write_number_word(Node::Len),
+            TokenKind::Name(number) => self.write_number_word(Node::Named(number)),
+            // 6 is its precedence. It is refused where the latest frame takes numbers: in
+            // arithmetic, a comparison or brackets.
             TokenKind::Not if self.operand_precedence() >= 6 => self.shift_prefix(Frame::Not),
             TokenKind::Operator(Operator::Subtract) => self.shift_prefix(Frame::Negate),
             TokenKind::Open => self.shift_prefix(Frame::Open),
@@ -185,8 +187,8 @@ impl<A: Allocator> Reader<A> {
         Ok((0, None))
     }
 
-    /// Writes a number that is one token and one node.
-    fn put_number(&mut self, node: Node) -> Result<(usize, Option<Operand>), ExprFault>
+    /// Writes a number that is one token and one node, `len` or a name.
+    fn write_number_word(&mut self, node: Node) -> Result<(usize, Option<Operand>), ExprFault>
         ensures ok { IfOk result (λ r. r ≡ (0, Some Operand.Number)) }
         ensures frames { IfOk result (λ _. self.new.frames ≡ self.old.frames) }
         ensures nodes { IfOk result (λ _. self.new.nodes ≡ node ∷ self.old.nodes) }
@@ -196,9 +198,9 @@ impl<A: Allocator> Reader<A> {
         Ok((0, Some(Operand::Number)))
     }
 
-    /// Writes the one node of a truth that was read, whose tokens are counted with it.
-    /// `NotAnExpression` where none was read.
-    fn put_truth(
+    /// Writes the one node of a primitive, if one was read; the number with it is that of its
+    /// tokens after the first one. `NotAnExpression` for `None`.
+    fn write_primitive(
         &mut self,
         read: Option<(Node, usize)>,
     ) -> Result<(usize, Option<Operand>), ExprFault>
@@ -240,9 +242,9 @@ impl<A: Allocator> Reader<A> {
                 Ok((1, None))
             }
             Opening::Cast(cast) if has_casts(protocol) => {
-                self.put_truth(Some((Node::Cast(Some(protocol), cast), 1)))
+                self.write_primitive(Some((Node::Cast(Some(protocol), cast), 1)))
             }
-            Opening::Other => self.put_truth(read_primitive(tokens)),
+            Opening::Other => self.write_primitive(read_primitive(tokens)),
             _ => Err(ExprFault::NotAnExpression),
         }
     }
@@ -261,7 +263,7 @@ impl<A: Allocator> Reader<A> {
     {
         match (kind_at(tokens, 0), kind_at(tokens, 1), kind_at(tokens, 2)) {
             (Some(TokenKind::Number(_)), Some(TokenKind::Mask), Some(TokenKind::Dotted { .. })) =>
-                self.put_truth(read_bare(tokens)),
+                self.write_primitive(read_bare(tokens)),
             (Some(TokenKind::Number(number)), _, _) => Ok((0, Some(Operand::Plain(number)))),
             _ => Err(ExprFault::NotAnExpression),
         }
@@ -385,8 +387,8 @@ impl<A: Allocator> Reader<A> {
         Ok((0, None))
     }
 
-    /// Closes a parenthesis: the latest frame has to be one. A plain number in it, also one
-    /// with `/ N`, may still become either sort.
+    /// Closes a parenthesis: the latest frame has to be one. A plain number in it, also one with
+    /// `/ N`, may still become either sort.
     fn close_parenthesis(&mut self, operand: Operand) -> Result<(usize, Option<Operand>), ExprFault>
         ensures ok { IfOk result (λ r. after_close self.old.frames operand self.old.nodes
             ≡ Some (r.0, (self.new.frames, r.1, self.new.nodes))) }
@@ -402,8 +404,8 @@ impl<A: Allocator> Reader<A> {
     }
 
     /// Closes a bracket: the accessor that waits takes its index, and reads `size` bytes there.
-    /// `more` tokens more than one are used up. `NotAnExpression` where no accessor waits,
-    /// or the index is a truth.
+    /// `more` tokens more than one are used up. `NotAnExpression` where no accessor waits, or the
+    /// index is a truth.
     fn end_load(
         &mut self,
         operand: Operand,
@@ -480,8 +482,8 @@ impl<A: Allocator> Reader<A> {
             ≡ None }
         ensures err { IfErr result IsReadFault }
     {
-        // Where the latest frame doesn't take a quotient, as in `6 * 10/8`, the `/` is an operator
-        // after what that frame makes of the number.
+        // Where the latest frame doesn't take a quotient (precedence 1), as in `6 * 10/8`, the `/`
+        // is an operator after what that frame makes of the number.
         match number_with_prefix(operand, first, rest) {
             Some((number, len)) if self.operand_precedence() >= 1 => {
                 Ok((1, Some(Operand::Either(number, Some(len)))))

@@ -9,7 +9,8 @@ ghost use Rattle.flt_bpf.specs.Instructions.{operation_of};
 ghost use Rattle.flt_bpf.specs.Layout.{is_branch, HasNoJump, JumpsAreNeeded, IsShort};
 ghost use Rattle.flt_bpf.specs.Machine.{start};
 ghost use Rattle.flt_bpf.specs.Valid.{MOST_INSTRUCTIONS, IsValid};
-ghost use Rattle.flt_lay.specs.inside.Layout.{place_at, with_offsets, with_jump, test_reach, with_test};
+ghost use Rattle.flt_lay.specs.inside.Layout.{place_at, with_offsets, with_jump, test_reach};
+ghost use Rattle.flt_lay.specs.inside.Layout.{with_test};
 ghost use Rattle.flt_lay.specs.inside.Layout.{with_entry, put, placed_code};
 
 use flt_bpf::insn::Insn;
@@ -81,7 +82,7 @@ fn with_offsets(insn: Wide, jt: u8, jf: u8) -> Insn
 }
 
 impl<A: Allocator> Layout<A> {
-    /// Nothing is laid out yet.
+    /// A layout of nothing yet. Its code and its places have an allocator each.
     fn new(code_alloc: A, place_alloc: A) -> Self
         ensures { result ≡ placed_code [] }
     {
@@ -119,7 +120,7 @@ impl<A: Allocator> Layout<A> {
         self.top().saturating_sub(place)
     }
 
-    /// The offset to a place from a test between which and the code a jump is still to be put.
+    /// The offset to a place from a test, where a jump is still to be put between it and the code.
     fn distance_past(&self, place: usize) -> usize
         requires { length self.now.code < 2 ^ 32 }
         ensures { result ≡ length self.now.code + 1 - place }
@@ -135,7 +136,7 @@ impl<A: Allocator> Layout<A> {
         Ok(())
     }
 
-    /// Puts a jump (`ja`) to a place in front.
+    /// Puts in front a jump (`ja`) to a place.
     fn emit_jump(&mut self, to: usize) -> Result<(), AllocError>
         requires { length self.old.code < 2 ^ 32 }
         ensures { OnOk result (self.new ≡ record self.old { code = with_jump to self.old.code }) }

@@ -88,7 +88,7 @@ fn push_between(line: &mut Line, before: &[u8], number: u32, following: &[u8])
 }
 
 /// Appends a number that is loaded, compared or masked with, in hexadecimal: `#0x800`.
-fn push_mask(line: &mut Line, number: u32)
+fn push_in_hex(line: &mut Line, number: u32)
     requires { length line.old + 11 ≤ 80 }
     ensures value { line.new ≡ line.old ++ (codes "#0x" ++ hex number) }
     ensures bound { length line.new ≤ length line.old + 11 }
@@ -98,7 +98,7 @@ fn push_mask(line: &mut Line, number: u32)
 }
 
 /// Appends a number that is returned or calculated with, in decimal and signed: `#14`.
-fn push_count(line: &mut Line, number: u32)
+fn push_in_decimal(line: &mut Line, number: u32)
     requires { length line.old + 12 ≤ 80 }
     ensures value { line.new ≡ line.old ++ (codes "#" ++ signed_number number) }
     ensures bound { length line.new ≤ length line.old + 12 }
@@ -107,15 +107,16 @@ fn push_count(line: &mut Line, number: u32)
     line.push_signed(number);
 }
 
-/// Appends the constant of arithmetic: a mask of `or`, `and` and `xor`, else a count.
+/// Appends the constant of arithmetic: of `or`, `and` and `xor`, which work on bits, in
+/// hexadecimal, else in decimal.
 fn push_constant(line: &mut Line, operator: AluOperation, k: u32)
     requires { length line.old + 12 ≤ 80 }
     ensures value { line.new ≡ line.old ++ constant_text operator k }
     ensures bound { length line.new ≤ length line.old + 12 }
 {
     match operator {
-        AluOperation::Or | AluOperation::And | AluOperation::ExclusiveOr => push_mask(line, k),
-        _ => push_count(line, k),
+        AluOperation::Or | AluOperation::And | AluOperation::ExclusiveOr => push_in_hex(line, k),
+        _ => push_in_decimal(line, k),
     }
 }
 
@@ -130,14 +131,14 @@ pub(crate) fn push_operand(line: &mut Line, operation: Operation, k: u32, place:
     match operation {
         LoadAbsolute(_) => push_between(line, b"[", k, b"]"),
         LoadIndirect(_) => push_between(line, b"[x + ", k, b"]"),
-        Load(_, Source::Immediate) | JumpIf(_, Operand::Constant) => push_mask(line, k),
+        Load(_, Source::Immediate) | JumpIf(_, Operand::Constant) => push_in_hex(line, k),
         Load(_, Source::Memory) | Store(_) => push_between(line, b"M[", k, b"]"),
         Load(_, Source::Length) => line.push_all(b"#pktlen"),
         LoadHeaderLength => push_between(line, b"4*([", k, b"]&0xf)"),
         Compute(operator, Operand::Constant) => push_constant(line, operator, k),
         Compute(_, Operand::IndexRegister) | JumpIf(_, Operand::IndexRegister) => line.push(b'x'),
         Jump => line.push_decimal(u64::from(place) + 1 + u64::from(k)),
-        ReturnConstant => push_count(line, k),
+        ReturnConstant => push_in_decimal(line, k),
         Negate | ReturnAccumulator | CopyToIndex | CopyToAccumulator => {}
     }
 }

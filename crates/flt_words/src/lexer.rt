@@ -48,8 +48,8 @@ fn first_symbol_of_len(inside: bool, len: usize, rest: &[u8]) -> Option<TokenKin
     symbol_of(inside, &rest[..len])
 }
 
-/// The longest symbol with which a text begins that begins with no word, and its length in bytes:
-/// no symbol has more than 2.
+/// The longest symbol with which a text begins, where no word begins, and its length in bytes: no
+/// symbol has more than 2.
 fn first_symbol(inside: bool, rest: &[u8]) -> Option<(TokenKind, usize)>
     requires { starts_word inside (slice_index rest.now 0) ≡ false }
     ensures { MatchOption result
@@ -65,7 +65,7 @@ fn first_symbol(inside: bool, rest: &[u8]) -> Option<(TokenKind, usize)>
 }
 
 /// The token with which a text begins, and its length in bytes. `place` is where that text begins,
-/// from 1.
+/// from 1, and `inside` whether that is in brackets. An error is E2, E3 or E4 at this place.
 fn first_token(inside: bool, place: u32, rest: &[u8]) -> Result<(TokenKind, usize), ExprFault>
     requires { 0 < length rest.now }
     ensures { MatchResult result (λ token. IsToken inside place rest.now token.0 token.1)
@@ -105,6 +105,7 @@ pub fn lex<A: Allocator>(alloc: A, text: &str) -> Result<Vec<Token, A>, ExprFaul
             at += 1;
         } else {
             let place = at as u32 + 1;
+            // In brackets where more of them are opened than closed before.
             let (kind, len) = first_token(closed < opened, place, &bytes[at..])?;
             tokens.push(Token { kind, place })?;
             match kind {
