@@ -133,7 +133,7 @@ fn has_protocol_numbers(protocol: Option<Protocol>) -> bool
     matches!(protocol, None | Some(Protocol::Ip | Protocol::Ip6))
 }
 
-/// Whether MAC addresses go with a protocol, which has to be written.
+/// Whether MAC addresses go with a protocol, which has to be written: `ether`.
 fn has_mac_addresses(protocol: Option<Protocol>) -> bool
     ensures { result ≡ has_mac_addresses protocol }
 {

@@ -30,8 +30,8 @@ pub enum CheckFault {
 }
 
 impl CheckFault {
-    /// What messages call it. Where `has_index`, the word `at` and the index of the instruction,
-    /// from 0, follow.
+    /// What messages call the fault. Where `has_index`, the word `at` and the index of the
+    /// instruction, from 0, follow.
     pub fn text(self) -> &'static str
         ensures { result.now ≡ check_text self }
     {
@@ -58,6 +58,7 @@ impl CheckFault {
     }
 }
 
+/// The text without an index, which the fault doesn't have.
 impl fmt::Display for CheckFault {
     ghost use Rattle.std.specs.Prelude.{Some};
     ghost use Rattle.flt_bpf.specs.Message.{check_text};
@@ -81,7 +82,8 @@ pub enum ListingFault {
 }
 
 impl ListingFault {
-    /// What messages call it. Where there is a `line`, the words `at line` and its number follow.
+    /// What messages call the fault. Where there is a `line`, the words `at line` and its number
+    /// follow.
     pub fn text(self) -> &'static str
         ensures { result.now ≡ listing_text self }
     {
@@ -102,6 +104,7 @@ impl ListingFault {
     }
 }
 
+/// The text, and ` at line ` with the number of the line where there is one.
 impl fmt::Display for ListingFault {
     ghost use Rattle.std.specs.Prelude.{Some};
     ghost use Rattle.flt_bpf.specs.Message.{listing_message};
@@ -119,6 +122,7 @@ impl fmt::Display for ListingFault {
 
 impl Error for ListingFault {}
 
+/// For `?`: an allocation that fails is `Memory`.
 impl<T: Drop> From<AllocFailed<T>> for ListingFault {
     ghost use Rattle.std.specs.Prelude.{◌≡◌};
     ghost use Rattle.flt_bpf.specs.declared.fault.ListingFault.TheVariants.{Memory};

@@ -105,7 +105,7 @@ fn only_number(line: &[u8]) -> Option<u64>
     }
 }
 
-/// The instruction with these fields, where each is in the range of its type.
+/// The instruction with these fields, or `None` where one is out of the range of its type.
 fn insn_with_fields(code: u64, jt: u64, jf: u64, k: u64) -> Option<Insn>
     ensures { result ≡ insn_from code jt jf k }
 {

@@ -7,15 +7,16 @@ use crate::sums;
 use flt_ast::Checked;
 use std::alloc::Allocator;
 
-/// How many elementary tests the formulas of its primitives have. It fits 32 bits, since `check`
-/// saw that the bound is at most 32,768.
+/// How many elementary tests the formulas of the expression's primitives have. It fits 32 bits,
+/// since `check` saw that the bound is at most 32,768.
 pub fn tests<A: Allocator>(checked: &Checked<A>) -> u32
     ensures { result ≡ tests_of checked.now.expr }
 {
     sums::tests_in(&checked.expr) as u32
 }
 
-/// How many nodes its arithmetic has: numbers, `len`, accessors and operators.
+/// How many nodes the expression's arithmetic has: numbers, `len`, accessors and operators. It fits
+/// 32 bits as the tests do.
 pub fn nodes<A: Allocator>(checked: &Checked<A>) -> u32
     ensures { result ≡ nodes_of checked.now.expr }
 {

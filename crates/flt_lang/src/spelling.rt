@@ -210,7 +210,7 @@ fn push_three_bytes<A: Allocator>(text: &mut String<A>, half: u64) -> Result<(),
     push_byte(text, byte_of(half, 1))
 }
 
-/// Appends the six bytes of a MAC address, in halves of 24 bits.
+/// Appends the six bytes of a MAC address, joined by colons, from its halves of 24 bits.
 #[tactic(auto, unfolding(crate::specs::Texts::mac_word))]
 fn push_mac<A: Allocator>(text: &mut String<A>, address: u64) -> Result<(), AllocError>
     ensures { OnOk result (string_bytes text.new ≡ string_bytes text.old ++ mac_word address) }
@@ -241,7 +241,8 @@ fn push_four_groups<A: Allocator>(text: &mut String<A>, half: u128) -> Result<()
     write!(text, "{first:x}:{second:x}:{third:x}:{last:x}")
 }
 
-/// Appends the eight groups of an IPv6 address, in halves of 64 bits.
+/// Appends the eight groups of an IPv6 address, joined by colons, from its halves of 64 bits. No
+/// groups are left out for a `::`.
 #[tactic(auto, unfolding(crate::specs::Texts::ip6_word))]
 fn push_ip6<A: Allocator>(text: &mut String<A>, address: u128) -> Result<(), AllocError>
     ensures { OnOk result (string_bytes text.new ≡ string_bytes text.old ++ ip6_word address) }
@@ -287,7 +288,8 @@ fn push_token<A: Allocator>(
 }
 
 impl Following {
-    /// What the token after `token` follows, where `token` itself follows this.
+    /// What the token after `token` follows, where `token` itself follows this: after `icmp`, after
+    /// the `[` of `icmp[`, or another token.
     fn next(self, token: TokenKind) -> Following
         ensures { result ≡ next_after self token }
     {

@@ -100,7 +100,7 @@ impl<A: Allocator> Layout<A> {
     }
 
     /// The place of the wide instruction that is `further` ones past the next; past the last it is
-    /// the end.
+    /// the end, 0.
     fn target_place(&self, further: u32) -> usize
         ensures { result ≡ place_at self.now further }
     {

@@ -36,6 +36,7 @@ pub enum ExprFault {
     Memory,
 }
 
+/// For `?`: an allocation, or a clone of an allocator, that fails is `Memory`.
 impl From<AllocError> for ExprFault {
     ghost use Rattle.std.specs.Prelude.{◌≡◌};
     ghost use Rattle.flt_words.specs.declared.fault.ExprFault.TheVariants.{Memory};
@@ -47,6 +48,7 @@ impl From<AllocError> for ExprFault {
     }
 }
 
+/// For `?`: where an allocation fails, what was to be kept is dropped, and the error is `Memory`.
 impl<T: Drop> From<AllocFailed<T>> for ExprFault {
     ghost use Rattle.std.specs.Prelude.{◌≡◌};
     ghost use Rattle.flt_words.specs.declared.fault.ExprFault.TheVariants.{Memory};
