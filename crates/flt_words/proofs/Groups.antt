@@ -13,7 +13,7 @@ use Rattle.flt_words.specs.declared.number.WordFault.TheVariants as fault
 use Rattle.flt_words.specs.Addresses.{AreGroups, IsGroup, group_value, separator_of}
 use Rattle.flt_words.specs.inside.Addresses.{base_of}
 use Rattle.flt_words.specs.Numbers.{WritesNumber, is_word_sized}
-use Rattle.flt_words.specs.inside.Numbers.{Answers}
+use Rattle.flt_words.specs.inside.Numbers.{FindsMeaning}
 use Rattle.flt_words.specs.inside.Characters.{has}
 use Rattle.flt_words.proofs.Cuts.{digits_lack, neither, same}
 
@@ -68,7 +68,7 @@ pub groups_are_parts : {form : Group} {text : List ℕ} {groups : List (List ℕ
 groups_are_parts {form} {text} {groups} are some = parts_of form text groups are.joined are.each some
 
 -- the answer at digits of which few are read
-pub small_answer : (digits : List ℕ) (most : ℕ) (r : Result ℕ WordFault) → most ≤ 4 → length digits ≤ most → Answers (WritesNumber 16 digits) is_word_sized r
+pub small_answer : (digits : List ℕ) (most : ℕ) (r : Result ℕ WordFault) → most ≤ 4 → length digits ≤ most → FindsMeaning (WritesNumber 16 digits) is_word_sized r
     → MatchOption (result_ok r) (IsNumeral 16 digits × (length digits ≤ most) → ⊥) (λ n. IsNumeral 16 digits × (length digits ≤ most) × (n ≡ digits_value 16 digits))
 small_answer digits most (Ok n) low upper_bound h = (h.0.numeral, upper_bound, sym h.0.value)
 small_answer digits most (Err fault.TooLarge) low upper_bound h =

@@ -2,7 +2,7 @@
 
 ghost use Rattle.std.specs.Prelude.{◌≡◌, ◌≤◌, ◌&&◌, ◌==◌, position};
 ghost use Rattle.flt_words.specs.Numbers.{IsNumber, IsRange, WritesNumber};
-ghost use Rattle.flt_words.specs.inside.Numbers.{Answers};
+ghost use Rattle.flt_words.specs.inside.Numbers.{FindsMeaning};
 ghost use Rattle.flt_words.specs.Numbers.{WritesDecimal, is_word_sized};
 ghost use Rattle.flt_words.specs.inside.Numbers.{both_known};
 
@@ -22,7 +22,7 @@ pub(crate) enum WordFault {
 pub(crate) fn parse_digits(radix: u32, digits: &[u8]) -> Result<u32, WordFault>
     requires low { 2 ≤ radix }
     requires high { radix ≤ 16 }
-    ensures { Answers (WritesNumber radix digits.now) is_word_sized result }
+    ensures { FindsMeaning (WritesNumber radix digits.now) is_word_sized result }
 {
     if digits.is_empty() || !are_digits(radix, digits) {
         return Err(WordFault::Unknown);
@@ -37,7 +37,7 @@ pub(crate) fn parse_digits(radix: u32, digits: &[u8]) -> Result<u32, WordFault>
 
 /// The number that decimal digits write. With leading zeros they are `Unknown`.
 pub(crate) fn parse_decimal(digits: &[u8]) -> Result<u32, WordFault>
-    ensures { Answers (WritesDecimal digits.now) is_word_sized result }
+    ensures { FindsMeaning (WritesDecimal digits.now) is_word_sized result }
 {
     if digits.len() > 1 && digits[0] == b'0' {
         return Err(WordFault::Unknown);
@@ -48,7 +48,7 @@ pub(crate) fn parse_decimal(digits: &[u8]) -> Result<u32, WordFault>
 /// The number that a word spells as C does: decimal, octal after `0`, hexadecimal after `0x` or
 /// `0X`.
 pub(crate) fn parse_number(word: &[u8]) -> Result<u32, WordFault>
-    ensures { Answers (IsNumber word.now) is_word_sized result }
+    ensures { FindsMeaning (IsNumber word.now) is_word_sized result }
 {
     if word.len() < 2 || word[0] != b'0' {
         parse_decimal(word)
@@ -83,7 +83,7 @@ fn both_numbers(
 /// The two decimal numbers that a dash joins, in the order in which they stand. A word without a
 /// dash is `Unknown`.
 pub(crate) fn parse_range(word: &[u8]) -> Result<(u32, u32), WordFault>
-    ensures { Answers (λ range. IsRange word.now range.0 range.1)
+    ensures { FindsMeaning (λ range. IsRange word.now range.0 range.1)
         (λ range. is_word_sized range.0 && is_word_sized range.1) result }
 {
     match find_dash(word) {

@@ -7,7 +7,7 @@
 
 ghost use Rattle.std.specs.Prelude.{◌≡◌, None, false, true};
 ghost use Rattle.flt_words.specs.inside.Characters.{has};
-ghost use Rattle.flt_words.specs.inside.Numbers.{Answers};
+ghost use Rattle.flt_words.specs.inside.Numbers.{FindsMeaning};
 ghost use Rattle.flt_words.specs.Spellings.{keyword_of};
 ghost use Rattle.flt_words.specs.Words.{Spells, WordMeans, fits};
 
@@ -20,7 +20,7 @@ use crate::token::TokenKind;
 /// What a word with a colon means: a MAC address or an IPv6 address.
 fn kind_with_colon(word: &[u8]) -> Result<TokenKind, WordFault>
     requires { has 58 word.now ≡ true }
-    ensures { Answers (Spells word.now) fits result }
+    ensures { FindsMeaning (Spells word.now) fits result }
 {
     if let Some(address) = parse_mac(word) {
         return Ok(TokenKind::Mac(address));
@@ -35,7 +35,7 @@ fn kind_with_colon(word: &[u8]) -> Result<TokenKind, WordFault>
 fn kind_with_point(word: &[u8]) -> Result<TokenKind, WordFault>
     requires point { has 46 word.now ≡ true }
     requires no_colon { has 58 word.now ≡ false }
-    ensures { Answers (Spells word.now) fits result }
+    ensures { FindsMeaning (Spells word.now) fits result }
 {
     match parse_dotted(word) {
         Some((address, parts)) => Ok(TokenKind::Dotted { address, parts }),
@@ -49,7 +49,7 @@ fn kind_of_range(word: &[u8]) -> Result<TokenKind, WordFault>
     requires dash { has 45 word.now ≡ true }
     requires no_point { has 46 word.now ≡ false }
     requires no_colon { has 58 word.now ≡ false }
-    ensures { Answers (Spells word.now) fits result }
+    ensures { FindsMeaning (Spells word.now) fits result }
 {
     parse_range(word).map(|(first, last)| TokenKind::Range { first, last })
 }
@@ -59,7 +59,7 @@ fn kind_with_dash(word: &[u8]) -> Result<TokenKind, WordFault>
     requires dash { has 45 word.now ≡ true }
     requires no_point { has 46 word.now ≡ false }
     requires no_colon { has 58 word.now ≡ false }
-    ensures { Answers (Spells word.now) fits result }
+    ensures { FindsMeaning (Spells word.now) fits result }
 {
     match keyword_of(word) {
         Some(kind) => Ok(kind),
@@ -72,7 +72,7 @@ fn kind_of_plain_word(word: &[u8]) -> Result<TokenKind, WordFault>
     requires no_dash { has 45 word.now ≡ false }
     requires no_point { has 46 word.now ≡ false }
     requires no_colon { has 58 word.now ≡ false }
-    ensures { Answers (Spells word.now) fits result }
+    ensures { FindsMeaning (Spells word.now) fits result }
 {
     match keyword_of(word) {
         Some(kind) => Ok(kind),
@@ -82,7 +82,7 @@ fn kind_of_plain_word(word: &[u8]) -> Result<TokenKind, WordFault>
 
 /// What any word means.
 fn kind_of(word: &[u8]) -> Result<TokenKind, WordFault>
-    ensures { Answers (Spells word.now) fits result }
+    ensures { FindsMeaning (Spells word.now) fits result }
 {
     if word.contains(&b':') {
         kind_with_colon(word)

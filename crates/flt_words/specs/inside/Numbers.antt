@@ -3,12 +3,12 @@ use Rattle.std.specs.Prelude.{◌≡◌, Bool, true, false, Result, Ok, Err}
 use Rattle.flt_words.specs.declared.number.WordFault.{WordFault}
 use Rattle.flt_words.specs.declared.number.WordFault.TheVariants as fault
 
--- what is returned for a word, of which `Spells` is what it means: `Ok` is a meaning that passes
+-- what is returned for a word, of which `Means` is what it means: `Ok` is a meaning that passes
 -- the test, `TooLarge` that it has one which doesn't pass, `Unknown` that it has none
-abbrev pub Answers : {A : Type 0} → (A → Type 0) → (A → Bool) → Result A WordFault → Type 0
-Answers {A} Spells test (Ok a) = Spells a × (test a ≡ true)
-Answers {A} Spells test (Err fault.TooLarge) = (a : A) × Spells a × (test a ≡ false)
-Answers {A} Spells test (Err fault.Unknown) = (a : A) → Spells a → ⊥
+abbrev pub FindsMeaning : {A : Type 0} → (A → Type 0) → (A → Bool) → Result A WordFault → Type 0
+FindsMeaning {A} Means test (Ok a) = Means a × (test a ≡ true)
+FindsMeaning {A} Means test (Err fault.TooLarge) = (a : A) × Means a × (test a ≡ false)
+FindsMeaning {A} Means test (Err fault.Unknown) = (a : A) → Means a → ⊥
 
 -- both answers: unknown where either is, and else too large where either is
 abbrev pub both_known : {A B : Type 0} → Result A WordFault → Result B WordFault
