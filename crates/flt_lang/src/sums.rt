@@ -29,7 +29,7 @@ fn sum_of_tests(nodes: &[Node]) -> u128
     sum
 }
 
-/// How many nodes of arithmetic nodes count as together: at most 2 each.
+/// How many nodes of arithmetic nodes count as together: at most 2 each, of fewer than 2^64 nodes.
 fn sum_of_arithmetic_nodes(nodes: &[Node]) -> u128
     ensures sum { result ≡ sum_by node_size nodes.now }
     ensures upper_bound { result ≤ 2 * 2 ^ 64 }

@@ -81,10 +81,10 @@ fn push_branch(line: &mut Line, operation: Operation, insn: &Insn, place: u32)
 /// An instruction as `tcpdump -d` prints it, without a line feed; `place` is its index in the
 /// program, from 0. It is what libpcap's `bpf_image` writes.
 ///
-/// It differs in four things. A load of the original length into X (code 0x81), which libpcap
-/// doesn't know, is `ldx #pktlen`. A load from 0xfffff000 on has no name here, since it is a load
-/// like others. The target of a jump past 2^31 is no negative number. A code without an operation
-/// has no targets.
+/// The line differs from that in four things. A load of the original length into X (code 0x81),
+/// which libpcap doesn't know, is `ldx #pktlen`. A load from 0xfffff000 on has no name here, since
+/// it is a load like others. The target of a jump past 2^31 is no negative number. A code without
+/// an operation has no targets.
 #[tactic(auto, unfolding(crate::specs::Text::insn_text))]
 pub fn insn_text(insn: &Insn, place: u32) -> Line
     ensures { result ≡ insn_text insn.now place }
