@@ -8,12 +8,12 @@ use Rattle.flt_words.specs.declared.token.Protocol.{Protocol}
 use Rattle.cap_octet.specs.declared.link.Link.{Link}
 use Rattle.flt_emit.specs.Numbers.{accessor_tests}
 use Rattle.flt_emit.specs.inside.Code.{Block, block, emit_all}
-use Rattle.flt_gen.specs.inside.ProgramCode.{emit_accessors}
+use Rattle.flt_gen.specs.inside.ProgramCode.{emit_accessor_tests}
 
 -- one more
-pub one_more : (link : Link) (ps : List Protocol) (k : ℕ) (other : Protocol) (hit miss : ℕ) (c d d' : List Insn) (entry entry' : ℕ) → k < length ps → emit_accessors link (reverse (take k ps)) hit miss c ≡ block d entry → emit_all (accessor_tests link (get_or ps k other)) entry miss d ≡ block d' entry' → emit_accessors link (reverse (take (k + 1) ps)) hit miss c ≡ block d' entry'
+pub one_more : (link : Link) (ps : List Protocol) (k : ℕ) (other : Protocol) (hit miss : ℕ) (c d d' : List Insn) (entry entry' : ℕ) → k < length ps → emit_accessor_tests link (reverse (take k ps)) hit miss c ≡ block d entry → emit_all (accessor_tests link (get_or ps k other)) entry miss d ≡ block d' entry' → emit_accessor_tests link (reverse (take (k + 1) ps)) hit miss c ≡ block d' entry'
 one_more link ps k other hit miss c d d' entry entry' l h n =
     let p = get_or ps k other in
     let taken : take (k + 1) ps ≡ take k ps ++ (p ∷ []) = ap (λ j. take j ps) (add-one k) ∙ take-suc ps k other l in
     let turned : reverse (take (k + 1) ps) ≡ p ∷ reverse (take k ps) = ap reverse taken ∙ reverse-append (take k ps) (p ∷ []) in
-    ap (λ qs. emit_accessors link qs hit miss c) turned ∙ ap (λ (e : Block). emit_all (accessor_tests link p) e.entry miss e.code) h ∙ n
+    ap (λ qs. emit_accessor_tests link qs hit miss c) turned ∙ ap (λ (e : Block). emit_all (accessor_tests link p) e.entry miss e.code) h ∙ n

@@ -24,7 +24,7 @@ use Rattle.flt_emit.specs.Numbers.{accessor_tests}
 use Rattle.flt_emit.specs.declared.elementary.Elementary.{Elementary}
 use Rattle.flt_words.specs.declared.token.Protocol.{Protocol}
 use Rattle.flt_emit.specs.inside.Code.{plain, computation, takes, emit_comparison, emit_operands, emit_right, emit_number, Block, emit_elementary, emit_formula, emit_all}
-use Rattle.flt_gen.specs.inside.ProgramCode.{emit_accessors, expression_code}
+use Rattle.flt_gen.specs.inside.ProgramCode.{emit_accessor_tests, expression_code}
 use Rattle.flt_gen.specs.inside.Walk.{Walk, targets, finish_truth, finish_number, with_insns, finish_formula, flush_members, flush_group, emit_value, emit_truth_node, emit_node, or_walk, start_walk, emit_nodes}
 
 guarded_emitted : (link : Link) (ts : List Elementary) (f : Formula) (hit miss : ℕ) (c : List Insn) → emit_formula link (guarded_formula ts f) hit miss c ≡ (let e = emit_formula link f hit miss c in emit_all ts e.entry miss e.code)
@@ -32,7 +32,7 @@ guarded_emitted link [] f hit miss c = refl
 guarded_emitted link (t ∷ ts) f hit miss c = ap (λ (e : Block). emit_elementary t e.entry miss e.code) (guarded_emitted link ts f hit miss c)
 
 -- the tests of accessors stand in front of the formula that they guard
-checked_emitted : (link : Link) (ps : List Protocol) (f : Formula) (hit miss : ℕ) (c : List Insn) → emit_formula link (checked_formula link ps f) hit miss c ≡ (let e = emit_formula link f hit miss c in emit_accessors link ps e.entry miss e.code)
+checked_emitted : (link : Link) (ps : List Protocol) (f : Formula) (hit miss : ℕ) (c : List Insn) → emit_formula link (checked_formula link ps f) hit miss c ≡ (let e = emit_formula link f hit miss c in emit_accessor_tests link ps e.entry miss e.code)
 checked_emitted link [] f hit miss c = refl
 checked_emitted link (p ∷ ps) f hit miss c =
     guarded_emitted link (accessor_tests link p) (checked_formula link ps f) hit miss c ∙ ap (λ (e : Block). emit_all (accessor_tests link p) e.entry miss e.code) (checked_emitted link ps f hit miss c)
@@ -93,7 +93,7 @@ relation_walked : (link : Link) (k : Comparison) (a b : NumberTree) (c : List In
 relation_walked link k a b c to ts d =
     both b ∙ ap (λ (e : Block). emit_nodes link (finish_truth e (between c to ts)) d) (sym (checked_emitted link (protocols_of a (protocols_of b [])) (compare k a b) to.yes to.no c))
   where
-    both : (r : NumberTree) → comparison_walked link k r (between c to ts) (number_onto a d) ≡ (let e = emit_formula link (compare k a r) to.yes to.no c in emit_nodes link (finish_truth (emit_accessors link (protocols_of a (protocols_of r [])) e.entry to.no e.code) (between c to ts)) d)
+    both : (r : NumberTree) → comparison_walked link k r (between c to ts) (number_onto a d) ≡ (let e = emit_formula link (compare k a r) to.yes to.no c in emit_nodes link (finish_truth (emit_accessor_tests link (protocols_of a (protocols_of r [])) e.entry to.no e.code) (between c to ts)) d)
     both (literal j) = number_walked link a _ d
     both (named j) = number_walked link a _ d
     both len = number_walked link a _ d

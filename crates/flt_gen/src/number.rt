@@ -4,7 +4,7 @@ ghost use Rattle.std.specs.Prelude.{◌≡◌, OnOk, reverse};
 ghost use Rattle.flt_emit.specs.inside.Code.{emit_base, emit_transport, emit_accessor};
 ghost use Rattle.flt_emit.specs.inside.Code.{alu_operation, computation, takes, emit_operands};
 ghost use Rattle.flt_emit.specs.inside.Code.{emit_all};
-ghost use Rattle.flt_gen.specs.inside.ProgramCode.{emit_accessors};
+ghost use Rattle.flt_gen.specs.inside.ProgramCode.{emit_accessor_tests};
 ghost use Rattle.flt_emit.specs.Numbers.{accessor_tests, width_of};
 ghost use Rattle.flt_emit.specs.inside.Emits.{Emits};
 
@@ -137,13 +137,13 @@ fn emit_accessor_tests<A: Allocator>(
 
 /// Emits the tests of accessors' protocols, of which that of the last word comes first here.
 /// Returns where they begin.
-pub fn emit_accessors<A: Allocator>(
+pub fn emit_accessor_tests<A: Allocator>(
     code: &mut Code<A>,
     link: Link,
     protocols: &[Protocol],
     to: Targets,
 ) -> Result<usize, AllocError>
-    ensures { Emits result (emit_accessors link (reverse protocols.now) to.yes to.no code.old)
+    ensures { Emits result (emit_accessor_tests link (reverse protocols.now) to.yes to.no code.old)
         code.new }
 {
     let mut yes = to.yes;

@@ -25,7 +25,9 @@ ghost use Rattle.flt_gen.specs.inside.Walk.{finish_truth, is_number_node, emit_l
 ghost use Rattle.flt_gen.specs.inside.Walk.{begin_operands, finish_number, finish_relation};
 
 use crate::group::Group;
-use crate::number::{computation, emit_accessor, emit_accessors, emit_operands, takes, width_of};
+use crate::number::{
+    computation, emit_accessor, emit_accessor_tests, emit_operands, takes, width_of,
+};
 use crate::steps::{Step, Steps};
 use crate::waiting::{LeftTruth, Pending, Stack, Waiting, add_accessor};
 use cap_octet::Link;
@@ -432,7 +434,7 @@ impl<A: Allocator + Clone> Walk<A> {
             yes: self.code.top(),
             no: self.to.no,
         };
-        let entry = emit_accessors(&mut self.code, link, self.accessors.entries(), to)?;
+        let entry = emit_accessor_tests(&mut self.code, link, self.accessors.entries(), to)?;
         self.accessors.clear();
         self.finish_truth(entry);
         Ok(())

@@ -228,7 +228,7 @@ impl<A: Allocator> Writer<A> {
     }
 
     /// Writes the qualifiers before a value of a tree that isn't resolved: those that its text had.
-    fn write_written_qualifiers(&mut self, qualifiers: Qualifiers) -> Result<(), AllocError>
+    fn write_given_qualifiers(&mut self, qualifiers: Qualifiers) -> Result<(), AllocError>
         ensures tokens { OnOk result (self.new.tokens
             ≡ written_tokens qualifiers self.old.tokens) }
         ensures pending { OnOk result (self.new.pending ≡ self.old.pending) }
@@ -326,7 +326,7 @@ impl<A: Allocator> Writer<A> {
     {
         self.close_parentheses(is_operand)?;
         self.write_value(value)?;
-        self.write_written_qualifiers(qualifiers)?;
+        self.write_given_qualifiers(qualifiers)?;
         self.open_parentheses(is_operand)?;
         self.settle()
     }

@@ -10,10 +10,10 @@ use Rattle.flt_gen.specs.inside.Group.{no_group, grouped_formula}
 use Rattle.flt_bpf.specs.declared.operation.Operation.TheVariants.{ReturnConstant}
 
 -- the tests of accessors, from the last to the first
-abbrev pub emit_accessors : Link → List Protocol → ℕ → ℕ → List Insn → Block
-emit_accessors link [] hit miss c = record { code = c; entry = hit }
-emit_accessors link (p ∷ ps) hit miss c =
-    let e = emit_accessors link ps hit miss c in
+abbrev pub emit_accessor_tests : Link → List Protocol → ℕ → ℕ → List Insn → Block
+emit_accessor_tests link [] hit miss c = record { code = c; entry = hit }
+emit_accessor_tests link (p ∷ ps) hit miss c =
+    let e = emit_accessor_tests link ps hit miss c in
     emit_all (accessor_tests link p) e.entry miss e.code
 
 -- the two returns at the end

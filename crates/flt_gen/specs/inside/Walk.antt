@@ -25,7 +25,7 @@ use Rattle.flt_gen.specs.inside.Group.{Group, no_group, larger_group, group_form
 use Rattle.flt_gen.specs.Primitives.{check_formula, cast_formula, sized_formula}
 use Rattle.flt_emit.specs.inside.Code.{plain, emit_comparison, emit_accessor, computation, takes, emit_operands, Block, block, emit_formula}
 use Rattle.flt_gen.specs.inside.Steps.{Part, Leaf, Joint}
-use Rattle.flt_gen.specs.inside.ProgramCode.{emit_accessors, returns_code}
+use Rattle.flt_gen.specs.inside.ProgramCode.{emit_accessor_tests, returns_code}
 use Rattle.flt_bpf.specs.declared.operation.Operation.TheVariants.{Load, Store, Negate}
 use Rattle.flt_bpf.specs.declared.operation.Register.TheVariants.{Accumulator}
 use Rattle.flt_bpf.specs.declared.operation.Source.{Source}
@@ -75,7 +75,7 @@ finish_truth e w = record w {
 -- the operands of a relation are emitted: the tests of its accessors stand in front of them
 abbrev pub finish_relation : Link → Walk → Walk
 finish_relation link w =
-    finish_truth (emit_accessors link w.accessors (length w.code) w.to.no w.code)
+    finish_truth (emit_accessor_tests link w.accessors (length w.code) w.to.no w.code)
     (record w { accessors = [] })
 
 -- a number's code is emitted: the accessors whose index it is are complete, and then the left

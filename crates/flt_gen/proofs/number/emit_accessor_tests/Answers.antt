@@ -1,6 +1,6 @@
 -- One more comes in front.
 use Rattle.flt_gen.proofs.Accessors.{one_more}
-use Rattle.flt_gen.proofs.number.emit_accessors.Goals as goal
+use Rattle.flt_gen.proofs.number.emit_accessor_tests.Goals as goal
 
 pub loop-protocol-preserved : goal.loop-protocol-preserved
 loop-protocol-preserved g c =
