@@ -21,7 +21,7 @@ use Rattle.flt_short.specs.declared.facts.Fact.{Fact}
 use Rattle.flt_short.specs.declared.facts.Held.{Held}
 use Rattle.flt_short.specs.declared.facts.Held.TheVariants as held
 use Rattle.flt_short.specs.declared.facts.Known.{Known}
-use Rattle.flt_short.specs.inside.Facts.{nothing_claimed, nothing_known, same_mask, same_field, is_nothing, allows, entails_some, entails, one_of_two, joined_claim, joined_some, joined_fact, joined_held, same_index, joined_by, joined, says, first_said, decided, the_two, one_of, with_fact, captures, any_captures, holds_field, is_captured, claim_after, known_by, known_by_test}
+use Rattle.flt_short.specs.inside.Facts.{nothing_claimed, nothing_known, same_mask, same_field, is_nothing, allows, entails_some, entails, one_of_two, joined_claim, joined_some, joined_fact, joined_held, same_header, joined_by, joined, says, first_said, decided, the_two, one_of, with_fact, captures, any_captures, holds_field, is_captured, claim_after, known_by, known_by_test}
 use Rattle.flt_short.proofs.Basics.{by_test, both_true, either_true}
 
 -- what a field is
@@ -302,10 +302,10 @@ module _ (p : List ℕ) where
       (λ _. tt)
   held_right _ _ s x = tt
 
-  index_left : (a b : Option ℕ) (n : ℕ) → IndexHolds a n → IndexHolds (same_index a b) n
+  index_left : (a b : Option ℕ) (n : ℕ) → IndexHolds a n → IndexHolds (same_header a b) n
   index_left a b n x = by_test (λ o. IndexHolds o n) (same_mask a b) a None (λ _. x) (λ _. tt)
 
-  index_right : (a b : Option ℕ) (n : ℕ) → IndexHolds b n → IndexHolds (same_index a b) n
+  index_right : (a b : Option ℕ) (n : ℕ) → IndexHolds b n → IndexHolds (same_header a b) n
   index_right a b n x = by_test (λ o. IndexHolds o n) (same_mask a b) a None (λ e. subst (λ o. IndexHolds o n) (sym (same_masks a b e)) x) (λ _. tt)
 
   by_left : (h : Held) (k came : Known) (s : State) → HeldHolds h s → Holds k s → Holds (joined_by h k came) s

@@ -24,7 +24,7 @@ use Rattle.flt_short.specs.declared.facts.Known.{Known}
 use Rattle.flt_short.specs.declared.thread.Spot.{Spot}
 use Rattle.flt_short.specs.declared.thread.Reached.{Reached}
 use Rattle.flt_short.specs.inside.Facts.{same_field, decided, one_of, with_fact, is_captured, masked_field, masked_by}
-use Rattle.flt_short.specs.inside.Threads.{field_at, away, spot_at, past_decided, past_test_of, past_masked, past_mask_of, holds_load, holds_header, step, sets, sets_if_there, is_free_by, is_free_at, is_free, can_stop, step_if_there, walk_on, walk, FUEL, walked, two_of, two_at, target_by, target, moved}
+use Rattle.flt_short.specs.inside.Threads.{field_at, away, spot_at, past_decided, past_test_of, past_masked, past_mask_of, holds_load, holds_header, step, ignores_accumulator, ignores_accumulator_if_there, is_free_by, is_free_at, is_free, can_stop, step_if_there, walk_on, walk, FUEL, walked, two_of, tests_at, two_at_field, two_at, target_by, target, moved}
 use Rattle.flt_short.proofs.Basics.{by_test, both_true, either_true}
 use Rattle.flt_short.proofs.Knowing.{is_said, loaded, masked, value_at, value_of, loaded_at, numbers, same_value, same_number, HeldHolds, IndexHolds, Holds, IsEither, captured_there, decided_right, one_of_right, fact_holds}
 
@@ -57,7 +57,7 @@ module _ (p : List ℕ) (n : ℕ) where
 
   module _ (c : List Insn) where
     -- an operation that puts something into A
-    sets_does : (op : Option Operation) (rest : ℕ → State → Option ℕ) (i : Insn) (s : State) (a : ℕ) → sets op ≡ true → answer_after rest (does_if_known op i p n (with_a s a)) ≡ answer_after rest (does_if_known op i p n s)
+    sets_does : (op : Option Operation) (rest : ℕ → State → Option ℕ) (i : Insn) (s : State) (a : ℕ) → ignores_accumulator op ≡ true → answer_after rest (does_if_known op i p n (with_a s a)) ≡ answer_after rest (does_if_known op i p n s)
     sets_does (Some (LoadAbsolute w)) rest i s a e = puts (field p i.k w)
       where
         puts : (o : Option ℕ) → answer_after rest (into Accumulator o (with_a s a)) ≡ answer_after rest (into Accumulator o s)
@@ -79,7 +79,7 @@ module _ (p : List ℕ) (n : ℕ) where
     sets_does (Some CopyToAccumulator) rest i s a e = refl
     sets_does _ rest i s a e = cc
 
-    sets_same : (place : ℕ) (o : Option Insn) (s : State) (a : ℕ) → slice_get c place ≡ o → sets_if_there o ≡ true → answer_of c p n place (with_a s a) ≡ answer_of c p n place s
+    sets_same : (place : ℕ) (o : Option Insn) (s : State) (a : ℕ) → slice_get c place ≡ o → ignores_accumulator_if_there o ≡ true → answer_of c p n place (with_a s a) ≡ answer_of c p n place s
     sets_same place None s a g e = cc
     sets_same place (Some i) s a g e =
         let rest = λ (far : ℕ) (w : State). answer_of c p n (place + 1 + far) w in
@@ -105,7 +105,7 @@ module _ (p : List ℕ) (n : ℕ) where
             ap (λ m. answer_of c p n m (with_a (record s { index = v }) a)) none
             ∙ sets_same (place + 1) (slice_get c (place + 1)) (record s { index = v }) a refl e
             ∙ sym (ap (λ m. answer_of c p n m (record s { index = v })) none)
-    free_by op place i s a g k e = sets_same place (Some i) s a g (subst (λ o. sets o ≡ true) (sym k) e)
+    free_by op place i s a g k e = sets_same place (Some i) s a g (subst (λ o. ignores_accumulator o ≡ true) (sym k) e)
 
     free_same : (place : ℕ) (o : Option Insn) (s : State) (a : ℕ) → slice_get c place ≡ o → is_free_at o c place ≡ true → answer_of c p n place (with_a s a) ≡ answer_of c p n place s
     free_same place None s a g e = cc
@@ -297,7 +297,7 @@ module _ (p : List ℕ) (n : ℕ) where
 
     -- where a field is one of two numbers
     target_inside : (k : Known) (from : ℕ) → from < length c → target k c from < length c
-    target_inside k from l = by (two_at k (field_at k.held (walked k c from).spot.other))
+    target_inside k from l = by (two_at k c (walked k c from).spot)
       where
         by : (o : Option (Field × ℕ × ℕ)) → target_by o k c from (walked k c from).best < length c
         by None = walked_inside k from l
@@ -306,9 +306,9 @@ module _ (p : List ℕ) (n : ℕ) where
             (λ _. walked_inside (with_fact k two.0 (Is two.1)) from l)
             (λ _. walked_inside k from l)
 
-    two_is : (k : Known) (s : State) (f : Option Field) (two : Field × ℕ × ℕ) → Holds p k s → two_at k f ≡ Some two → IsEither p two.0 two.1 two.2
-    two_is k s None two h e = cc
-    two_is k s (Some f) two h e = by (one_of k.facts f) refl e
+    two_of_field : (k : Known) (s : State) (f : Option Field) (two : Field × ℕ × ℕ) → Holds p k s → two_at_field k f ≡ Some two → IsEither p two.0 two.1 two.2
+    two_of_field k s None two h e = cc
+    two_of_field k s (Some f) two h e = by (one_of k.facts f) refl e
       where
         by : (o : Option (ℕ × ℕ)) → one_of k.facts f ≡ o → two_of f o ≡ Some two → IsEither p two.0 two.1 two.2
         by None q e' = cc
@@ -316,15 +316,21 @@ module _ (p : List ℕ) (n : ℕ) where
             let same : (f, pair.0, pair.1) ≡ two = cc in
             subst (λ (t : Field × ℕ × ℕ). IsEither p t.0 t.1 t.2) same (one_of_right p k.facts f pair h.facts q)
 
+    two_is : (k : Known) (s : State) (end : Spot) (two : Field × ℕ × ℕ) → Holds p k s → two_at k c end ≡ Some two → IsEither p two.0 two.1 two.2
+    two_is k s end two h =
+        by_test (λ o. o ≡ Some two → IsEither p two.0 two.1 two.2) (tests_at c end.place) (two_at_field k (field_at k.held end.other)) None
+        (λ _. λ e. two_of_field k s (field_at k.held end.other) two h e)
+        (λ _. λ e. cc)
+
     target_same : (k : Known) (from : ℕ) (s : State) → Holds p k s → answer_of c p n (target k c from) s ≡ answer_of c p n from s
-    target_same k from s h = by (two_at k (field_at k.held (walked k c from).spot.other)) refl
+    target_same k from s h = by (two_at k c (walked k c from).spot) refl
       where
-        by : (o : Option (Field × ℕ × ℕ)) → two_at k (field_at k.held (walked k c from).spot.other) ≡ o → answer_of c p n (target_by o k c from (walked k c from).best) s ≡ answer_of c p n from s
+        by : (o : Option (Field × ℕ × ℕ)) → two_at k c (walked k c from).spot ≡ o → answer_of c p n (target_by o k c from (walked k c from).best) s ≡ answer_of c p n from s
         by None q = walked_same k s h from
         by (Some two) q =
             let first = walked (with_fact k two.0 (Is two.1)) c from in
             let second = walked (with_fact k two.0 (Is two.2)) c from in
-            let is = two_is k s (field_at k.held (walked k c from).spot.other) two h q in
+            let is = two_is k s (walked k c from).spot two h q in
             let said = λ (a : ℕ) (e : is.number ≡ a). fact_holds p k two.0 (Is a) s h (subst (λ o. is_said (Is a) o ≡ true) (sym is.is) (same_number is.number a e)) in
             by_test (λ m. answer_of c p n m s ≡ answer_of c p n from s) (first.best == second.best) _ _
             (λ t. elim is.either [

@@ -7,14 +7,14 @@ ghost use Rattle.flt_short.specs.inside.Facts.{entails};
 ghost use Rattle.flt_short.specs.inside.Facts.{joined_claim, nothing_claimed, joined_some};
 ghost use Rattle.flt_short.specs.inside.Facts.{joined_fact};
 ghost use Rattle.flt_short.specs.inside.Facts.{joined_held};
-ghost use Rattle.flt_short.specs.inside.Facts.{same_index, joined, says, decided, one_of};
+ghost use Rattle.flt_short.specs.inside.Facts.{same_header, joined, says, decided, one_of};
 ghost use Rattle.flt_short.specs.inside.Facts.{gives_way};
 ghost use Rattle.flt_short.specs.inside.Facts.{place_for, with_fact, captures, any_captures};
 ghost use Rattle.flt_short.specs.inside.Facts.{holds_field};
 ghost use Rattle.flt_short.specs.inside.Facts.{is_captured, masked_field, masked_held};
 ghost use Rattle.flt_short.specs.inside.Facts.{without_index};
 ghost use Rattle.flt_short.specs.inside.Facts.{held_after, index_after, known_after, claim_after};
-ghost use Rattle.flt_short.specs.inside.Facts.{known_by, known_by_test, nothing_known, unreached};
+ghost use Rattle.flt_short.specs.inside.Facts.{known_by_test, nothing_known, unreached};
 
 use flt_bpf::Wide;
 use flt_bpf::operation::{AluOperation, Operand, Operation, Register, Test, decode};
@@ -184,8 +184,8 @@ fn joined_claim(claim: Claim, other: Claim) -> Claim
 }
 
 /// What both this fact, which says something, and one of the others claim of its field.
-fn joined_some(fact: Fact, others: &[Fact]) -> Fact
-    ensures { result ≡ joined_some fact others.now }
+fn joined_some(fact: &Fact, others: &[Fact]) -> Fact
+    ensures { result ≡ joined_some fact.now others.now }
 {
     match others {
         [] => nothing_claimed(),
@@ -212,7 +212,7 @@ fn joined_fact(fact: Fact, others: &[Fact]) -> Fact
     if is_nothing(fact.claim) {
         fact
     } else {
-        joined_some(fact, others)
+        joined_some(&fact, others)
     }
 }
 
@@ -254,28 +254,24 @@ fn joined_held(one: Held, other: Held) -> Held
 }
 
 /// The header whose length X holds on both ways, if it is one.
-fn same_index(one: Option<u32>, other: Option<u32>) -> Option<u32>
-    ensures { result ≡ same_index one other }
+fn same_header(one: Option<u32>, other: Option<u32>) -> Option<u32>
+    ensures { result ≡ same_header one other }
 {
     if same_mask(one, other) { one } else { None }
 }
 
-/// What holds where a run comes on two ways.
-pub fn joined(known: &Known, came: &Known) -> Known
-    ensures { result ≡ joined known.now came.now }
+/// Keeps of what is known at a place what one more run that comes there knows too: all that it
+/// knows, where no run came before.
+pub fn join(known: &mut Known, came: &Known)
+    ensures { known.new ≡ joined known.old came.now }
 {
-    match known.held {
-        Held::Unreached => *came,
-        held => {
-            let mut facts = known.facts;
-            join_facts(&mut facts, &came.facts);
-            Known {
-                held: joined_held(held, came.held),
-                index: same_index(known.index, came.index),
-                facts,
-            }
-        }
+    if let Held::Unreached = known.held {
+        *known = *came;
+        return;
     }
+    join_facts(&mut known.facts, &came.facts);
+    known.held = joined_held(known.held, came.held);
+    known.index = same_header(known.index, came.index);
 }
 
 /// The outcome that a claim gives to the test whether the number is this one, if it decides that.
@@ -295,13 +291,13 @@ fn says(claim: Claim, number: u32) -> Option<bool>
 }
 
 /// The outcome of the test whether a field is a number, if a fact decides it.
-pub fn decided(facts: &[Fact], field: Field, number: u32) -> Option<bool>
-    ensures { result ≡ decided facts.now field number }
+pub fn decided(facts: &[Fact], field: &Field, number: u32) -> Option<bool>
+    ensures { result ≡ decided facts.now field.now number }
 {
     match facts {
         [] => None,
         [first, others @ ..] => {
-            if !same_field(first.field, field) {
+            if !same_field(first.field, *field) {
                 return decided(others, field, number);
             }
             match says(first.claim, number) {
@@ -313,13 +309,13 @@ pub fn decided(facts: &[Fact], field: Field, number: u32) -> Option<bool>
 }
 
 /// The two numbers of which a field is one, if a fact says so.
-pub fn one_of(facts: &[Fact], field: Field) -> Option<(u32, u32)>
-    ensures { result ≡ one_of facts.now field }
+pub fn one_of(facts: &[Fact], field: &Field) -> Option<(u32, u32)>
+    ensures { result ≡ one_of facts.now field.now }
 {
     match facts {
         [] => None,
         [first, others @ ..] => {
-            if !same_field(first.field, field) {
+            if !same_field(first.field, *field) {
                 return one_of(others, field);
             }
             match first.claim {
@@ -338,14 +334,14 @@ fn gives_way(old: Fact, fact: Fact) -> bool
 }
 
 /// The index where one more fact goes: of one that gives way, or else of the last.
-fn place_for(facts: &[Fact], fact: Fact) -> usize
-    ensures place { result ≡ place_for facts.now fact }
+fn place_for(facts: &[Fact], fact: &Fact) -> usize
+    ensures place { result ≡ place_for facts.now fact.now }
     ensures upper_bound { result ≤ length facts.now }
 {
     match facts {
         [] => 0,
         [first, others @ ..] => {
-            if others.len() == 0 || gives_way(*first, fact) {
+            if others.len() == 0 || gives_way(*first, *fact) {
                 0
             } else {
                 1 + place_for(others, fact)
@@ -354,22 +350,16 @@ fn place_for(facts: &[Fact], fact: Fact) -> usize
     }
 }
 
-/// What is known with one more fact: it takes the place of one that gives way to it, else that of
-/// the last one, which is lost.
-pub fn with_fact(known: &Known, field: Field, claim: Claim) -> Known
-    ensures { result ≡ with_fact known.now field claim }
+/// Adds a fact: it takes the place of one that gives way to it, else that of the last one, which is
+/// lost.
+pub fn add_fact(known: &mut Known, field: Field, claim: Claim)
+    ensures { known.new ≡ with_fact known.old field claim }
 {
     let fact = Fact { field, claim };
-    let at = place_for(&known.facts, fact);
-    let mut facts = known.facts;
+    let at = place_for(&known.facts, &fact);
     // It always is: `place_for` returns an index of the facts where there are some.
     if at < MOST_FACTS {
-        facts[at] = fact;
-    }
-    Known {
-        held: known.held,
-        index: known.index,
-        facts,
+        known.facts[at] = fact;
     }
 }
 
@@ -477,24 +467,23 @@ fn index_after(index: Option<u32>, insn: Wide) -> Option<u32>
     }
 }
 
-/// What is known after an instruction that isn't a test.
-pub fn known_after(known: &Known, insn: Wide) -> Known
-    ensures { result ≡ known_after (operation_of insn.code) known.now insn }
+/// Changes what is known to what it is after an instruction that isn't a test.
+pub fn pass(known: &mut Known, insn: Wide)
+    ensures { known.new ≡ known_after (operation_of insn.code) known.old insn }
 {
-    Known {
-        held: held_after(known.held, insn),
-        index: index_after(known.index, insn),
-        facts: known.facts,
-    }
+    known.held = held_after(known.held, insn);
+    known.index = index_after(known.index, insn);
 }
 
-/// What the outcome of the test whether a number is this one says of it, if it is one of two.
-fn claim_after(outcome: bool, number: u32, two: Option<(u32, u32)>) -> Claim
-    ensures { result ≡ claim_after outcome number two }
+/// What the outcome of the test whether a field is a number says of it, by what is known of it.
+fn claim_by(facts: &[Fact], field: &Field, number: u32, outcome: bool) -> Claim
+    ensures { result ≡ claim_after outcome number (one_of facts.now field.now) }
 {
-    match (outcome, two) {
-        (true, _) => Claim::Is(number),
-        (false, Some((one, other))) => {
+    if outcome {
+        return Claim::Is(number);
+    }
+    match one_of(facts, field) {
+        Some((one, other)) => {
             if number == one {
                 Claim::Is(other)
             } else if number == other {
@@ -503,29 +492,19 @@ fn claim_after(outcome: bool, number: u32, two: Option<(u32, u32)>) -> Claim
                 Claim::IsNot(number)
             }
         }
-        (false, None) => Claim::IsNot(number),
+        None => Claim::IsNot(number),
     }
 }
 
-/// What is known once the test whether a field is a number had an outcome.
-fn known_by(known: &Known, field: Field, number: u32, outcome: bool) -> Known
-    ensures { result ≡ known_by known.now field number outcome }
+/// Adds what the outcome of a test shows. Only a test for equality, of a field in A, shows something.
+pub fn learn(known: &mut Known, insn: Wide, outcome: bool)
+    ensures { known.new
+        ≡ known_by_test (operation_of insn.code) known.old.held known.old insn.k outcome }
 {
-    let claim = claim_after(outcome, number, one_of(&known.facts, field));
-    with_fact(known, field, claim)
-}
-
-/// What is known once a test had an outcome. Only one for equality, of a field in A, shows
-/// something.
-pub fn known_by_test(known: &Known, insn: Wide, outcome: bool) -> Known
-    ensures { result
-        ≡ known_by_test (operation_of insn.code) known.now.held known.now insn.k outcome }
-{
-    match decode(insn.code) {
-        Some(Operation::JumpIf(Test::Equal, Operand::Constant)) => match known.held {
-            Held::Field(field) => known_by(known, field, insn.k, outcome),
-            _ => *known,
-        },
-        _ => *known,
+    if let Some(Operation::JumpIf(Test::Equal, Operand::Constant)) = decode(insn.code) {
+        if let Held::Field(field) = known.held {
+            let claim = claim_by(&known.facts, &field, insn.k, outcome);
+            add_fact(known, field, claim);
+        }
     }
 }

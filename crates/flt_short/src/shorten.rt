@@ -14,7 +14,7 @@ use flt_bpf::operation::{AluOperation, Operand, Operation, Register, Source, Tes
 use std::alloc::{AllocError, Allocator};
 
 /// In longer code tests aren't shared, since the optimiser makes less of it then.
-const MERGED: usize = 256;
+const MOST_MERGED: usize = 256;
 
 /// The landing of what isn't in the new code.
 const NOWHERE: Landing = Landing {
@@ -442,7 +442,7 @@ fn shorten(insns: &[Wide], landings: &mut [Landing], backwards: &mut [Wide]) -> 
         landings,
         backwards,
         len: 0,
-        merges: insns.len() <= MERGED,
+        merges: insns.len() <= MOST_MERGED,
     };
     shortening.read_all()
 }

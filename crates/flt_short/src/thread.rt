@@ -4,15 +4,18 @@ ghost use Rattle.std.specs.Prelude.{◌≡◌, ◌<◌, ◌^◌, nat_lt, if◌th
 ghost use Rattle.flt_bpf.specs.Instructions.{operation_of};
 ghost use Rattle.flt_short.specs.Threads.{Threads};
 ghost use Rattle.flt_short.specs.inside.Threads.{field_at, away, past_test, past_mask, holds_load};
-ghost use Rattle.flt_short.specs.inside.Threads.{holds_header, step, sets, sets_at, is_free};
-ghost use Rattle.flt_short.specs.inside.Threads.{can_stop, walk, two_at, target, moved};
+ghost use Rattle.flt_short.specs.inside.Threads.{holds_header, step, ignores_accumulator, ignores_accumulator_at, is_free};
+ghost use Rattle.flt_short.specs.declared.facts.Claim.TheVariants.{Is};
+ghost use Rattle.flt_short.specs.inside.Facts.{with_fact};
+ghost use Rattle.flt_short.specs.inside.Threads.{can_stop, walk, walked, tests_at, two_at, target};
+ghost use Rattle.flt_short.specs.inside.Threads.{moved};
 ghost use Rattle.flt_short.specs.inside.Threads.{threaded_test, threaded_insn};
 ghost use Rattle.flt_short.specs.inside.Threads.{with_ways, with_arrivals, flow, threaded};
 
 use crate::arrivals::Arrivals;
 use crate::facts::{
-    Claim, Field, Held, Known, decided, is_captured, known_after, known_by_test, masked_field,
-    one_of, same_field, with_fact,
+    Claim, Field, Held, Known, add_fact, decided, is_captured, learn, masked_field, one_of, pass,
+    same_field,
 };
 use flt_bpf::Wide;
 use flt_bpf::operation::{AluOperation, Operand, Operation, Register, Test, decode};
@@ -74,7 +77,7 @@ fn past_test(known: &Known, insn: Wide, spot: Spot) -> Option<Spot>
 {
     match field_at(known.held, spot.other) {
         None => None,
-        Some(field) => match decided(&known.facts, field, insn.k) {
+        Some(field) => match decided(&known.facts, &field, insn.k) {
             None => None,
             Some(outcome) => {
                 let skipped = if outcome { insn.yes } else { insn.no };
@@ -165,8 +168,8 @@ fn step(known: &Known, insn: Wide, spot: Spot) -> Option<Spot>
 }
 
 /// Whether an instruction puts something into A, or ends the run, without reading A.
-fn sets(code: u16) -> bool
-    ensures { result ≡ sets (operation_of code) }
+fn ignores_accumulator(code: u16) -> bool
+    ensures { result ≡ ignores_accumulator (operation_of code) }
 {
     matches!(
         decode(code),
@@ -181,12 +184,12 @@ fn sets(code: u16) -> bool
 }
 
 /// Whether the instruction at a place does that.
-fn sets_at(code: &[Wide], place: usize) -> bool
-    ensures { result ≡ sets_at code.now place }
+fn ignores_accumulator_at(code: &[Wide], place: usize) -> bool
+    ensures { result ≡ ignores_accumulator_at code.now place }
 {
     match code.get(place) {
         None => false,
-        Some(insn) => sets(insn.code),
+        Some(insn) => ignores_accumulator(insn.code),
     }
 }
 
@@ -198,8 +201,8 @@ fn is_free(code: &[Wide], place: usize) -> bool
     match code.get(place) {
         None => false,
         Some(insn) => match decode(insn.code) {
-            Some(Operation::LoadHeaderLength) => sets_at(code, place + 1),
-            _ => sets(insn.code),
+            Some(Operation::LoadHeaderLength) => ignores_accumulator_at(code, place + 1),
+            _ => ignores_accumulator(insn.code),
         },
     }
 }
@@ -224,47 +227,71 @@ fn best_of(code: &[Wide], spot: Spot, best: usize) -> usize
 
 /// How far a walk goes on, past at most `fuel` instructions.
 #[tactic(auto, unfolding(crate::specs::inside::Threads::walk))]
-fn walk(fuel: usize, known: &Known, code: &[Wide], reached: Reached) -> Reached
-    ensures { result ≡ walk fuel known.now code.now reached }
+fn walk(fuel: usize, known: &Known, code: &[Wide], reached: &mut Reached)
+    ensures { reached.new ≡ walk fuel known.now code.now reached.old }
 {
     if fuel == 0 {
-        return reached;
+        return;
     }
-    match code.get(reached.spot.place) {
-        None => reached,
-        Some(insn) => match step(known, *insn, reached.spot) {
-            None => reached,
-            Some(spot) => {
-                let best = best_of(code, spot, reached.best);
-                walk(fuel - 1, known, code, Reached { spot, best })
-            }
-        },
+    if let Some(insn) = code.get(reached.spot.place) {
+        if let Some(spot) = step(known, *insn, reached.spot) {
+            reached.best = best_of(code, spot, reached.best);
+            reached.spot = spot;
+            walk(fuel - 1, known, code, reached);
+        }
     }
 }
 
 /// How far a walk from a place goes.
 fn walked(known: &Known, code: &[Wide], from: usize) -> Reached
-    ensures { result ≡ walk FUEL known.now code.now
-        (record { spot = record { place = from; other = None }; best = from }) }
+    ensures { result ≡ walked known.now code.now from }
 {
     let spot = Spot {
         place: from,
         other: None,
     };
-    walk(FUEL, known, code, Reached { spot, best: from })
+    let mut reached = Reached { spot, best: from };
+    walk(FUEL, known, code, &mut reached);
+    reached
 }
 
-/// The field that A would hold where a walk ended, and the two numbers of which it is one.
-fn two_at(known: &Known, other: Option<Field>) -> Option<(Field, u32, u32)>
-    ensures { result ≡ two_at known.now (field_at known.now.held other) }
+/// The instruction at a place tests whether A is a number.
+fn tests_at(code: &[Wide], place: usize) -> bool
+    ensures { result ≡ tests_at code.now place }
 {
-    match field_at(known.held, other) {
+    match code.get(place) {
+        None => false,
+        Some(insn) => matches!(
+            decode(insn.code),
+            Some(Operation::JumpIf(Test::Equal, Operand::Constant))
+        ),
+    }
+}
+
+/// The field that A would hold where a walk ended at a test of it, and the two numbers of which it
+/// is one. Elsewhere the walk doesn't depend on which it is.
+fn two_at(known: &Known, code: &[Wide], spot: Spot) -> Option<(Field, u32, u32)>
+    ensures { result ≡ two_at known.now code.now spot }
+{
+    if !tests_at(code, spot.place) {
+        return None;
+    }
+    match field_at(known.held, spot.other) {
         None => None,
-        Some(field) => match one_of(&known.facts, field) {
+        Some(field) => match one_of(&known.facts, &field) {
             None => None,
             Some((one, other)) => Some((field, one, other)),
         },
     }
+}
+
+/// Where a run may go on in place of a place, if a field is a number.
+fn target_if(known: &Known, field: Field, number: u32, code: &[Wide], from: usize) -> usize
+    ensures { result ≡ (walked (with_fact known.now field (Is number)) code.now from).best }
+{
+    let mut known = *known;
+    add_fact(&mut known, field, Claim::Is(number));
+    walked(&known, code, from).best
 }
 
 /// Where a run may go on in place of a place. Where a field is one of two numbers, it is where the
@@ -273,16 +300,12 @@ fn target(known: &Known, code: &[Wide], from: usize) -> usize
     ensures { result ≡ target known.now code.now from }
 {
     let end = walked(known, code, from);
-    match two_at(known, end.spot.other) {
+    match two_at(known, code, end.spot) {
         None => end.best,
         Some((field, one, other)) => {
-            let first = walked(&with_fact(known, field, Claim::Is(one)), code, from);
-            let second = walked(&with_fact(known, field, Claim::Is(other)), code, from);
-            if first.best == second.best {
-                first.best
-            } else {
-                end.best
-            }
+            let first = target_if(known, field, one, code, from);
+            let second = target_if(known, field, other, code, from);
+            if first == second { first } else { end.best }
         }
     }
 }
@@ -304,25 +327,26 @@ fn moved(known: &Known, following: &[Wide], skipped: u32) -> u32
 fn thread_test(
     arrivals: &mut Arrivals,
     from: usize,
-    here: &Known,
+    here: &mut Known,
     insn: Wide,
     following: &[Wide],
 ) -> Wide
     requires { from < 2 ^ 63 }
-    ensures insn { result ≡ threaded_test (operation_of insn.code) here.now insn following.now }
+    ensures insn { result ≡ threaded_test (operation_of insn.code) here.old insn following.now }
     ensures arrivals { arrivals.new
-        ≡ with_ways from (operation_of insn.code) here.now result arrivals.old }
+        ≡ with_ways from (operation_of insn.code) here.old result arrivals.old }
 {
-    let yes = known_by_test(here, insn, true);
-    let no = known_by_test(here, insn, false);
+    let mut yes = *here;
+    learn(&mut yes, insn, true);
+    learn(here, insn, false);
     let insn = Wide {
         code: insn.code,
         yes: moved(&yes, following, insn.yes),
-        no: moved(&no, following, insn.no),
+        no: moved(here, following, insn.no),
         k: insn.k,
     };
     arrivals.arrive(from, from + insn.yes as usize, &yes);
-    arrivals.arrive(from, from + insn.no as usize, &no);
+    arrivals.arrive(from, from + insn.no as usize, here);
     insn
 }
 
@@ -331,14 +355,14 @@ fn thread_test(
 fn thread_insn(
     arrivals: &mut Arrivals,
     from: usize,
-    here: &Known,
+    here: &mut Known,
     insn: Wide,
     following: &[Wide],
 ) -> Wide
     requires { from < 2 ^ 63 }
-    ensures insn { result ≡ threaded_insn (operation_of insn.code) here.now insn following.now }
+    ensures insn { result ≡ threaded_insn (operation_of insn.code) here.old insn following.now }
     ensures arrivals { arrivals.new
-        ≡ with_arrivals from (operation_of insn.code) here.now result arrivals.old }
+        ≡ with_arrivals from (operation_of insn.code) here.old result arrivals.old }
 {
     if let Held::Unreached = here.held {
         return insn;
@@ -351,7 +375,8 @@ fn thread_insn(
         }
         Some(Operation::ReturnConstant | Operation::ReturnAccumulator) => insn,
         _ => {
-            arrivals.arrive(from, from, &known_after(here, insn));
+            pass(here, insn);
+            arrivals.arrive(from, from, here);
             insn
         }
     }
@@ -364,8 +389,9 @@ fn thread_all(arrivals: &mut Arrivals, insns: &mut [Wide])
     let mut at = 0;
     // The label names the loop in its proof.
     'insns: while at < insns.len() {
-        let (here, old) = (arrivals.known_at(at), insns[at]);
-        let insn = thread_insn(arrivals, at + 1, &here, old, &insns[at + 1..]);
+        let mut here = arrivals.known_at(at);
+        let old = insns[at];
+        let insn = thread_insn(arrivals, at + 1, &mut here, old, &insns[at + 1..]);
         insns[at] = insn;
         at += 1;
     }
@@ -393,10 +419,11 @@ fn repeats_a_load(insns: &[Wide]) -> bool {
     match insns {
         [] => false,
         [first, others @ ..] => {
-            let again = others
-                .iter()
-                .any(|other| other.code == first.code && other.k == first.k);
-            again && is_load(*first) || repeats_a_load(others)
+            is_load(*first)
+                && others
+                    .iter()
+                    .any(|other| other.code == first.code && other.k == first.k)
+                || repeats_a_load(others)
         }
     }
 }

@@ -14,7 +14,7 @@ use flt_bpf::operation::{AluOperation, Operand, Operation, Source, decode};
 const WORDS: u32 = 16;
 
 /// Whether arithmetic with this constant is allowed: no division by 0, no shift by 32 or more.
-fn is_constant(operator: AluOperation, k: u32) -> bool
+fn allows_constant(operator: AluOperation, k: u32) -> bool
     ensures { IsTrue result → constant_fault operator k ≡ None }
 {
     use AluOperation::{Divide, Remainder, ShiftLeft, ShiftRight};
@@ -37,7 +37,7 @@ fn is_faultless(insn: Wide, following: usize) -> bool
             (insn.yes as usize) < following && (insn.no as usize) < following
         }
         Some(Operation::Load(_, Source::Memory) | Operation::Store(_)) => insn.k < WORDS,
-        Some(Operation::Compute(operator, Operand::Constant)) => is_constant(operator, insn.k),
+        Some(Operation::Compute(operator, Operand::Constant)) => allows_constant(operator, insn.k),
         Some(_) => true,
     }
 }

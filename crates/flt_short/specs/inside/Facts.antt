@@ -95,14 +95,14 @@ joined_held (held.AtIndex code k) (held.AtIndex other_code other_k) =
 joined_held _ _ = held.Unknown
 
 -- the header whose length X holds on both ways, if it is one
-abbrev pub same_index : Option ℕ → Option ℕ → Option ℕ
-same_index a b = if same_mask a b then a else None
+abbrev pub same_header : Option ℕ → Option ℕ → Option ℕ
+same_header a b = if same_mask a b then a else None
 
 abbrev pub joined_by : Held → Known → Known → Known
 joined_by held.Unreached k came = came
 joined_by h k came = record {
   held = joined_held h came.held;
-  index = same_index k.index came.index;
+  index = same_header k.index came.index;
   facts = map (λ x. joined_fact x came.facts) k.facts;
 }
 

@@ -85,24 +85,24 @@ step (Some (JumpIf Equal Constant)) k i s = past_test k i s
 step _ k i s = None
 
 -- an operation puts something into A, or ends the run, without reading A
-abbrev pub sets : Option Operation → Bool
-sets (Some (LoadAbsolute width)) = true
-sets (Some (LoadIndirect width)) = true
-sets (Some (Load Accumulator source)) = true
-sets (Some ReturnConstant) = true
-sets (Some CopyToAccumulator) = true
-sets _ = false
+abbrev pub ignores_accumulator : Option Operation → Bool
+ignores_accumulator (Some (LoadAbsolute width)) = true
+ignores_accumulator (Some (LoadIndirect width)) = true
+ignores_accumulator (Some (Load Accumulator source)) = true
+ignores_accumulator (Some ReturnConstant) = true
+ignores_accumulator (Some CopyToAccumulator) = true
+ignores_accumulator _ = false
 
-abbrev pub sets_if_there : Option Insn → Bool
-sets_if_there None = false
-sets_if_there (Some i) = sets (operation_of i.code)
+abbrev pub ignores_accumulator_if_there : Option Insn → Bool
+ignores_accumulator_if_there None = false
+ignores_accumulator_if_there (Some i) = ignores_accumulator (operation_of i.code)
 
-abbrev pub sets_at : List Insn → ℕ → Bool
-sets_at c place = sets_if_there (slice_get c place)
+abbrev pub ignores_accumulator_at : List Insn → ℕ → Bool
+ignores_accumulator_at c place = ignores_accumulator_if_there (slice_get c place)
 
 abbrev pub is_free_by : Option Operation → List Insn → ℕ → Bool
-is_free_by (Some LoadHeaderLength) c place = sets_at c (place + 1)
-is_free_by op c place = sets op
+is_free_by (Some LoadHeaderLength) c place = ignores_accumulator_at c (place + 1)
+is_free_by op c place = ignores_accumulator op
 
 abbrev pub is_free_at : Option Insn → List Insn → ℕ → Bool
 is_free_at None c place = false
@@ -142,10 +142,27 @@ abbrev pub two_of : Field → Option (ℕ × ℕ) → Option (Field × ℕ × �
 two_of f None = None
 two_of f (Some two) = Some (f, two.0, two.1)
 
+-- an operation tests whether A is a number
+abbrev pub tests : Option Operation → Bool
+tests (Some (JumpIf Equal Constant)) = true
+tests _ = false
+
+abbrev pub tests_if_there : Option Insn → Bool
+tests_if_there None = false
+tests_if_there (Some i) = tests (operation_of i.code)
+
+abbrev pub tests_at : List Insn → ℕ → Bool
+tests_at c place = tests_if_there (slice_get c place)
+
 -- a field, and the two numbers of which it is one
-abbrev pub two_at : Known → Option Field → Option (Field × ℕ × ℕ)
-two_at k None = None
-two_at k (Some f) = two_of f (one_of k.facts f)
+abbrev pub two_at_field : Known → Option Field → Option (Field × ℕ × ℕ)
+two_at_field k None = None
+two_at_field k (Some f) = two_of f (one_of k.facts f)
+
+-- the same of the field that A would hold where a walk ended, if it is tested there
+abbrev pub two_at : Known → List Insn → Spot → Option (Field × ℕ × ℕ)
+two_at k c s =
+    if tests_at c s.place then two_at_field k (field_at k.held s.other) else None
 
 abbrev pub agreed : ℕ → ℕ → ℕ → ℕ
 agreed first second best = if first == second then first else best
@@ -160,7 +177,7 @@ target_by (Some two) k c from best =
 abbrev pub target : Known → List Insn → ℕ → ℕ
 target k c from =
     let end = walked k c from in
-    target_by (two_at k (field_at k.held end.spot.other)) k c from end.best
+    target_by (two_at k c end.spot) k c from end.best
 
 -- the same of the instructions that a test skips
 abbrev pub moved : Known → List Insn → ℕ → ℕ
