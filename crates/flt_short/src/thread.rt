@@ -4,7 +4,8 @@ ghost use Rattle.std.specs.Prelude.{◌≡◌, ◌<◌, ◌^◌, nat_lt, if◌th
 ghost use Rattle.flt_bpf.specs.Instructions.{operation_of};
 ghost use Rattle.flt_short.specs.Threads.{Threads};
 ghost use Rattle.flt_short.specs.inside.Threads.{field_at, away, past_test, past_mask, holds_load};
-ghost use Rattle.flt_short.specs.inside.Threads.{holds_header, step, ignores_accumulator, ignores_accumulator_at, is_free};
+ghost use Rattle.flt_short.specs.inside.Threads.{holds_header, step, is_free};
+ghost use Rattle.flt_short.specs.inside.Threads.{ignores_accumulator, ignores_accumulator_at};
 ghost use Rattle.flt_short.specs.declared.facts.Claim.TheVariants.{Is};
 ghost use Rattle.flt_short.specs.inside.Facts.{with_fact};
 ghost use Rattle.flt_short.specs.inside.Threads.{can_stop, walk, walked, tests_at, two_at, target};
@@ -183,7 +184,7 @@ fn ignores_accumulator(code: u16) -> bool
     )
 }
 
-/// Whether the instruction at a place does that.
+/// Whether the instruction at a place puts something into A, or ends the run, without reading A.
 fn ignores_accumulator_at(code: &[Wide], place: usize) -> bool
     ensures { result ≡ ignores_accumulator_at code.now place }
 {
