@@ -496,7 +496,7 @@ fn claim_by(facts: &[Fact], field: &Field, number: u32, outcome: bool) -> Claim
     }
 }
 
-/// Adds what the outcome of a test shows. Only a test for equality, of a field in A, shows something.
+/// Adds what the outcome of a test shows: only one for equality, of a field in A, shows something.
 pub fn learn(known: &mut Known, insn: Wide, outcome: bool)
     ensures { known.new
         ≡ known_by_test (operation_of insn.code) known.old.held known.old insn.k outcome }
