@@ -15,7 +15,7 @@ use Rattle.cap_io.specs.RoundTrip.{Carries, ItemsBack}
 use Rattle.cap_io.specs.Text.{text}
 use Rattle.cap_print.specs.declared.print.Options.{Options}
 use Rattle.cap_filter.specs.FilterRules.{Rule}
-use Rattle.cap_io.specs.Sequence.{Event, Packet, InputEnd, SequenceEnd, Complete, FaultIn, Sequence, PacketOrder, InTurn, ByTime, InputItems, whole_input, Entry, packet_events, input_sequence, sequence_in_turn, sequence_of, end_of, end_after, end_at, entries_of, input_entries, comes_before, insert_entry, sort_entries, end_or_more, sequence_of_entries, sequence_by_time, first_end, unless_fault, with_front}
+use Rattle.cap_io.specs.Sequence.{Event, Packet, InputEnd, SequenceEnd, Complete, FaultIn, Sequence, PacketOrder, InTurn, ByTime, InputItems, whole_input, Entry, packet_events, input_sequence, sequence_in_turn, sequence_of, end_of, end_after, entries_of, comes_before, insert_entry, sort_entries, sequence_of_entries, sequence_by_time, first_end, unless_fault, with_front}
 use Rattle.cap_process.specs.Verdict.{Policy, Edit, Filter, KeepAll, Count, Judgement, SelectorState, initial_state, Verdict, Pass, PassLast, Skip, Refuse, edited_packet_with, judge, judge_by, passes, refuses}
 use Rattle.cap_process.specs.Reports.{Report, Tally, nothing_counted, tally_with, reports_text}
 use Rattle.cap_process.specs.Outcome.{Form, AsCapture, AsReports, AsLines, JobProgress, Work, no_progress, form_refuses, unless_refused, decide, end_with, apply_verdict, apply_event, apply_events, next_progress, end_input, unless_ended, end_unless_ended, final_progress, output_text, text_at_end, first_link, lines_text, status, outcome_at, outcome}
@@ -368,7 +368,7 @@ sorted input ending greatest (p ∷ ps) =
     ap (insert_entry (entry input ending greatest p ps)) (sorted input ending (max greatest p.packet.time) ps)
     ∙ insert-first input ending greatest p ps
 
-last-of : (input : ℕ) (ending : Ending) (e : Event) → end_or_more (end_of input ending) e (record { events = []; end = Complete }) ≡ record { events = e ∷ []; end = end_of input ending }
+last-of : (input : ℕ) (ending : Ending) (e : Event) → with_front (e ∷ []) (unless_fault (end_of input ending) (record { events = []; end = Complete })) ≡ record { events = e ∷ []; end = end_of input ending }
 last-of input End e = refl
 last-of input (FaultAt fault offset) e = refl
 
@@ -392,8 +392,10 @@ one-by-time greatest ending (p ∷ ps) = ap sequence_of_entries (sorted 0 ending
 
 by-time : (r : InputItems) → sequence_by_time (r ∷ []) ≡ record { events = packet_events 0 r.items.packets; end = end_of 0 r.items.ending }
 by-time r =
-    ap (λ (es : List Entry). unless_fault (first_end (end_at 0 r) Complete) (sequence_of_entries (sort_entries es))) (append-nil (input_entries 0 r))
-    ∙ ap (λ (c : SequenceEnd). unless_fault c (sequence_of_entries (sort_entries (input_entries 0 r)))) (first-complete (end_at 0 r))
+    let entries : List Entry = entries_of 0 r.items.ending r.greatest r.items.packets in
+    let close : SequenceEnd = end_after 0 r.items.ending r.items.packets in
+    ap (λ (es : List Entry). unless_fault (first_end close Complete) (sequence_of_entries (sort_entries es))) (append-nil entries)
+    ∙ ap (λ (c : SequenceEnd). unless_fault c (sequence_of_entries (sort_entries entries))) (first-complete close)
     ∙ one-by-time r.greatest r.items.ending r.items.packets
 
 -- an input's end changes nothing where nothing is reported
