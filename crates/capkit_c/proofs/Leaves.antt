@@ -4,7 +4,7 @@ use Rattle.std.specs.Prelude.{min}
 use Rattle.std.proofs.lemmas.List.{drop-drop, length-drop}
 use Rattle.cap_octet.specs.Packet.{Captured}
 use Rattle.cap_octet.specs.declared.fault.Fault.{Fault}
-use Rattle.cap_io.specs.Capture.{Declared, Stops, Whole, front_of}
+use Rattle.cap_io.specs.Capture.{Declared, NoUnit, Whole, front_of}
 use Rattle.cap_io.specs.Reading.{declared_by}
 use Rattle.capkit_c.specs.Layout.{declared_in, first_interfaces, reader_form, most_known}
 use Rattle.capkit_c.specs.Units.{IsPacketFound, NextLeaves, Stays, comment_by, ends, fails, finds, is_full, passes}
@@ -113,7 +113,7 @@ pub ended : (capture text : List ℕ) (r : Reader) (t : List Interface) (p : Pac
 ended capture text r t p f count is counts same over =
     ends (ap (front_of (declared_in r t)) (sym same) ∙ ap (λ d. front_of d text) (sym (declared_as f r t count is counts)) ∙ stops f over) (stays r t t p refl)
   where
-    stops : (g : FileState) → IsAtEnd g text → front_of (declared_by g (first_interfaces count t)) text ≡ Stops None
+    stops : (g : FileState) → IsAtEnd g text → front_of (declared_by g (first_interfaces count t)) text ≡ NoUnit None
     stops form.Unknown over = absurd over
     stops (form.Pcap head) over = ap (front_of (declared_by (form.Pcap head) (first_interfaces count t))) over
     stops (form.Pcapng order link) over = ap (front_of (declared_by (form.Pcapng order link) (first_interfaces count t))) over

@@ -7,7 +7,7 @@ use Rattle.cap_octet.specs.declared.fault.Fault.{Fault}
 use Rattle.cap_pcapng.specs.Comment.{comment_in}
 use Rattle.cap_pcapng.specs.Interface.{Described}
 use Rattle.cap_pcapng.specs.Unit.{Section}
-use Rattle.cap_io.specs.Capture.{Declared, Nothing, PcapFile, PcapngFile, Whole, Stops, front_of}
+use Rattle.cap_io.specs.Capture.{Declared, Nothing, PcapFile, PcapngFile, Whole, NoUnit, front_of}
 use Rattle.capkit_c.specs.Layout.{declared_in}
 use Rattle.capkit_c.specs.declared.memory.layout.Interface.{Interface}
 use Rattle.capkit_c.specs.declared.memory.layout.Packet.{Packet}
@@ -71,9 +71,9 @@ pub data NextLeaves (capture : List ℕ) (r r' : Reader) (t t' : List Interface)
       → r'.offset ≡ r.offset + size
       → size ≤ length (drop r.offset capture) → IsPacketFound capture (declared_in r' t') p' q
       → NextLeaves capture r r' t t' p p' found.Packet
-  ends : front_of (declared_in r t) (drop r.offset capture) ≡ Stops None → Stays r r' t t' p p'
+  ends : front_of (declared_in r t) (drop r.offset capture) ≡ NoUnit None → Stays r r' t t' p p'
       → NextLeaves capture r r' t t' p p' found.End
-  fails : (fault : Fault) → front_of (declared_in r t) (drop r.offset capture) ≡ Stops (Some fault)
+  fails : (fault : Fault) → front_of (declared_in r t) (drop r.offset capture) ≡ NoUnit (Some fault)
       → Stays r r' t t' p p' → NextLeaves capture r r' t t' p p' (found.Fault fault)
   is_full : (interfaces : List Described) → length t ≤ length interfaces
       → DeclaresOne (declared_in r t) (drop r.offset capture) interfaces → Stays r r' t t' p p'

@@ -2,7 +2,7 @@
 use Rattle.std.specs.Prelude.{◌≡◌, ℕ, ◌+◌, ◌<◌, ◌≤◌, List, [], ◌∷◌, length, take, drop, Option, Some, None, true}
 use Rattle.cap_octet.specs.Packet.{Captured}
 use Rattle.cap_pcapng.specs.Interface.{Described}
-use Rattle.cap_io.specs.Capture.{Declared, Whole, Stops, front_of, is_pcapng}
+use Rattle.cap_io.specs.Capture.{Declared, Whole, NoUnit, front_of, is_pcapng}
 use Rattle.cap_io.specs.Reading.{declared_by}
 use Rattle.capkit_c.specs.Layout.{first_interfaces, most_known}
 use Rattle.capkit_c.specs.declared.memory.block.UnitPacket.{UnitPacket}
@@ -53,7 +53,7 @@ pub record BeginsWithUnit (form : FileState) (interfaces : List Described) (text
 -- it begins with no unit, but with a fault; or with an interface that a full table has no room for
 abbrev pub IsNoUnit : FileState → List Described → List ℕ → ℕ → Refusal → Type 0
 IsNoUnit form interfaces text room (refusal.Fault fault) =
-    front_of (declared_by form interfaces) text ≡ Stops (Some fault)
+    front_of (declared_by form interfaces) text ≡ NoUnit (Some fault)
 IsNoUnit form interfaces text room refusal.NoRoom =
     (room ≤ length interfaces) × DeclaresOne (declared_by form interfaces) text interfaces
 
