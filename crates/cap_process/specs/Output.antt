@@ -55,6 +55,12 @@ failures_to (Capture sink) = sink.failures
 failures_to (Text written failures room) = failures
 failures_to (Lines options written failures room) = failures
 
+-- how many bytes it takes in all before it fails
+abbrev pub room_to : Target → ℕ
+room_to (Capture sink) = sink.room
+room_to (Text written failures room) = room
+room_to (Lines options written failures room) = room
+
 -- no more interfaces than a file may have, with names of few bytes
 abbrev pub HasFewOutputInterfaces : Target → Type 0
 HasFewOutputInterfaces (Capture sink) = FitFile sink.interfaces

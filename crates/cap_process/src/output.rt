@@ -53,7 +53,7 @@ impl<O: Output, A: Allocator> JobOutput<O, A> {
     ghost use Rattle.std.specs.Prelude.{◌≡◌, IsTrue, true};
     ghost use Rattle.cap_octet.specs.Packet.{captured};
     ghost use Rattle.cap_process.specs.inside.Output.{EndsOutput, PutsIntoOutput, Reports, is_text};
-    ghost use Rattle.cap_process.specs.Output.{HasFewOutputInterfaces, failures_to};
+    ghost use Rattle.cap_process.specs.Output.{HasFewOutputInterfaces, failures_to, room_to};
     ghost use Rattle.cap_process.specs.Output.{target_at, written_to};
     ghost use Rattle.cap_process.specs.Reports.{file_report};
     ghost use Rattle.flt_bpf.specs.Listing.{listing};
@@ -77,6 +77,7 @@ impl<O: Output, A: Allocator> JobOutput<O, A> {
     pub fn put(&mut self, packet: &Packet<'_>) -> Result<(), Fault>
         ensures exact { IsTrue O.tells
             → PutsIntoOutput (captured packet.now) self.old result self.new }
+        ensures room { room_to self.new ≡ room_to self.old }
         ensures upper_bound { HasFewOutputInterfaces self.old → HasFewOutputInterfaces self.new }
     {
         match &mut self.device {
@@ -102,6 +103,7 @@ impl<O: Output, A: Allocator> JobOutput<O, A> {
     pub fn report(&mut self, name: &str, report: &Report) -> Result<(), DeviceFault>
         ensures exact { IsTrue O.tells → Reports (file_report name.now report.now.kind
             report.now.size report.now.tally) self.old result self.new }
+        ensures room { room_to self.new ≡ room_to self.old }
         ensures upper_bound { HasFewOutputInterfaces self.old → HasFewOutputInterfaces self.new }
     {
         match &mut self.device {
@@ -116,6 +118,7 @@ impl<O: Output, A: Allocator> JobOutput<O, A> {
         requires { is_text self.old ≡ true }
         ensures exact { IsTrue O.tells
             → Reports (listing program.now.insns) self.old result self.new }
+        ensures room { room_to self.new ≡ room_to self.old }
         ensures upper_bound { HasFewOutputInterfaces self.old → HasFewOutputInterfaces self.new }
     {
         match &mut self.device {
@@ -129,6 +132,7 @@ impl<O: Output, A: Allocator> JobOutput<O, A> {
     /// or 1 where there is none.
     pub fn finish(&mut self, first: Option<u16>) -> Result<(), DeviceFault>
         ensures exact { IsTrue O.tells → EndsOutput first self.old result self.new }
+        ensures room { room_to self.new ≡ room_to self.old }
         ensures upper_bound { HasFewOutputInterfaces self.old → HasFewOutputInterfaces self.new }
     {
         match &mut self.device {
@@ -143,6 +147,7 @@ impl<O: Output, A: Allocator> JobOutput<O, A> {
         A: Drop,
         ensures written { O.written result ≡ written_to self }
         ensures failures { O.failures result ≡ failures_to self }
+        ensures room { O.room result ≡ room_to self }
     {
         let JobOutput { device } = self;
         match device {
@@ -194,6 +199,7 @@ fn end_capture<O: Output, A: Allocator>(
 ) -> Result<(), DeviceFault>
     ensures exact { IsTrue O.tells
         → EndsOutput first (Capture sink.old) result (Capture sink.new) }
+    ensures room { sink.new.room ≡ sink.old.room }
     ensures upper_bound { HasFewOutputInterfaces (Capture sink.old)
         → HasFewOutputInterfaces (Capture sink.new) }
 {

@@ -1,5 +1,5 @@
 -- What the run of a job leaves, in terms of its call.
-use Rattle.std.proofs.Common.{◌≡◌, inl, inr, ℕ, ◌+◌, ◌-◌, ◌≤◌, arith, Bool, false, List, [], ◌∷◌, ◌++◌, length, map, take, Option, None, Some, Ok, refl, sym, ◌∙◌, ap, subst}
+use Rattle.std.proofs.Common.{◌≡◌, inl, inr, ℕ, ◌+◌, ◌-◌, ◌<◌, ◌≤◌, arith, Bool, false, List, [], ◌∷◌, ◌++◌, length, map, take, Option, None, Some, Ok, refl, sym, ◌∙◌, ap, subst}
 use Rattle.std.proofs.lemmas.List.{append-nil, length-map, length-set}
 use Rattle.std.proofs.lemmas.Option.{slice_get-map}
 use Rattle.std.specs.List.{slice_get}
@@ -38,10 +38,10 @@ use Rattle.cap_tools.specs.Jobs.{JobView, end_status, end_message, first_job}
 use Rattle.cap_tools.specs.declared.step.JobEnd.{JobEnd}
 use Rattle.cap_tools.specs.declared.step.JobEnd.TheVariants as end
 use Rattle.cap_io.specs.Source.{SourceView}
-use Rattle.cap_tools.specs.Packets.{JobState, PacketsDecided, CompletesOutput, EndLeaves, EndsByCut, Meets, StopsWriting, WantsMemory, a_packet, all_ends, an_end, failures_by, output_form, wholes_of, work_of, written_by}
+use Rattle.cap_tools.specs.Packets.{JobState, PacketsDecided, CompletesOutput, EndLeaves, EndsByCut, Meets, StopsWriting, WantsMemory, a_packet, all_ends, an_end, failures_by, output_form, room_by, wholes_of, work_of, written_by}
 use Rattle.cap_tools.specs.inside.Packets.{texts}
 use Rattle.cap_process.specs.Outcome.{Outcome, JobProgress, Work, IsNextAnswer, NeedsMemory, cut_at, message, outcome, status, text_after, text_of_progress}
-use Rattle.cap_process.specs.Output.{failures_to, form_to, target_at, written_to}
+use Rattle.cap_process.specs.Output.{failures_to, form_to, room_to, target_at, written_to}
 use Rattle.cap_process.specs.Reports.{name_at}
 use Rattle.cap_tools.specs.Run.{CommandRuns, HasLeft, HasLostOutput, IsPolicy, IsWhyRefused, IsWork, ends, fault_outcome, form_asked, listing_answer, listing_outcome, of_cut_input, of_events, of_listing, of_packets, of_refusal, output_failed, packets_answer, refusal_outcome, whole_inputs}
 use Rattle.cap_tools.specs.Start.{Assignment, Preparing, ReadsFilter, Compiles}
@@ -76,6 +76,14 @@ first-written (writing.Capture format) bytes failures room = refl
 first-written writing.Text bytes failures room = refl
 first-written (writing.Lines options) bytes failures room = refl
 
+target-room : (w : Writing) (bytes : List ℕ) (failures room : ℕ) → room_to (target_at w bytes failures room) ≡ room
+target-room (writing.Capture format) bytes failures room = refl
+target-room writing.Text bytes failures room = refl
+target-room (writing.Lines options) bytes failures room = refl
+
+pub first-room : (asked : Assignment) (call : Call) → room_by (first_job asked call).state ≡ call.room
+first-room asked call = target-room asked.writing call.output.written call.output.failures call.room
+
 first-limits : (os : List FreshInput) → device_limits (map fresh_view os) ≡ map fresh_limits os
 first-limits [] = refl
 first-limits (o ∷ os) = ap (λ (l : List DeviceLimits). fresh_limits o ∷ l) (first-limits os)
@@ -95,6 +103,10 @@ first-output asked call =
 
 first-name : (asked : Assignment) (call : Call) → output_name (first_job asked call) ≡ name_at call.names (length call.inputs)
 first-name asked call = ap (name_at call.names) (length-map call.inputs fresh_view)
+
+-- where the output failed, it took as many bytes as it has room for
+abbrev pub IsFilled : Call → RunResult → Type 0
+IsFilled call r = 0 < r.output.failures → call.room ≤ length r.output.written
 
 -- ---- what is told
 
@@ -152,8 +164,8 @@ same-count old new (all_ends next same) = ap (λ (f : InputsView). length f.curs
 -- ---- a job with packets
 
 -- what its run leaves
-packets-run : (asked : Assignment) (call : Call) (first : JobView) (r : RunResult) → Begins asked call first → JobRuns (map nothing_done call.inputs) call.output.written call.tells first r → CommandRuns asked call r
-packets-run asked call first r b runs = by_end runs.end refl runs.leaves
+packets-run : (asked : Assignment) (call : Call) (first : JobView) (r : RunResult) → IsFilled call r → Begins asked call first → JobRuns (map nothing_done call.inputs) call.output.written call.tells first r → CommandRuns asked call r
+packets-run asked call first r filled b runs = by_end runs.end refl runs.leaves
   where
     ss : List InputPast
     ss = map nothing_done call.inputs
@@ -275,12 +287,14 @@ packets-run asked call first r b runs = by_end runs.end refl runs.leaves
         ∙ sym (length-map old.inputs.cursors (λ (h : InputView). limits_of h.source))
         ∙ ap length (runs.progress.limits ∙ b.limits)
         ∙ length-map call.inputs fresh_limits in
+        let failures : r.output.failures ≡ call.output.failures + 1 = runs.failures ∙ stops.failures ∙ ap (λ n. n + 1) unfailed in
         record {
           written = text_after w d.events;
           bytes = bytes;
           answer = packets_answer w b.work d.events stops.event refl (subst L wholes-are (subst V work-is stops.answer));
           stops = subst R (sym runs.written) (subst S so-far stops.stops);
-          failures = runs.failures ∙ stops.failures ∙ ap (λ n. n + 1) unfailed;
+          failures = failures;
+          filled = filled (omega (arith, failures));
           message = reported (ap (end_message names runs.last.inputs.cursors) is
               ∙ ap (λ (n : List (List ℕ)). write_failed_message (name_at n (length runs.last.inputs.cursors))) b.names
               ∙ ap (λ n. write_failed_message (name_at call.names n)) count);
@@ -311,9 +325,9 @@ refused-run asked call r why refused status same exact = ends (refusal_outcome w
   status = status;
 })
 
-compile-run : (asked : Assignment) (call : Call) (r : RunResult) (words : List ℕ) (link : Link) → asked.preparing ≡ Some (Compiles words link)
+compile-run : (asked : Assignment) (call : Call) (r : RunResult) (words : List ℕ) (link : Link) → IsFilled call r → asked.preparing ≡ Some (Compiles words link)
     → Runs (λ message. CompileLeaves words link (output_name (first_job asked call)) (output_of (first_job asked call)) r.output message r.status) call.tells call.messages r.messages → CommandRuns asked call r
-compile-run asked call r words link is runs =
+compile-run asked call r words link filled is runs =
     elim runs.left [
       | inl lists ↦ elim lists.listed [
         | inl written ↦ ends (listing_outcome lists.prog) (of_listing words link lists.prog is lists.compiled) (record {
@@ -329,6 +343,7 @@ compile-run asked call r words link is runs =
           answer = listing_answer words link lists.prog is lists.compiled refl refl;
           stops = (failed.count, failed.within, failed.written ∙ ap (λ (o : OutputView). o.written ++ take failed.count (listing lists.prog)) out ∙ ap (λ (l : List ℕ). l ++ take failed.count (listing lists.prog)) (sym (append-nil call.output.written)));
           failures = failed.failures ∙ ap (λ (o : OutputView). o.failures + 1) out;
+          filled = filled (omega (arith, failed.failures));
           message = exact (failed.exact ∙ ap write_failed_message (first-name asked call));
           status = failed.answered;
         })
@@ -373,21 +388,21 @@ filter-begins asked call rule count programs policy = record {
 }
 
 -- the run of a job is a run of its call
-pub call-runs : (asked : Assignment) (call : Call) (r : RunResult) → RunsBy asked.preparing (map nothing_done call.inputs) call.output.written call.tells (first_job asked call) r → CommandRuns asked call r
-call-runs asked call r runs = by_preparing asked.preparing refl runs
+pub call-runs : (asked : Assignment) (call : Call) (r : RunResult) → IsFilled call r → RunsBy asked.preparing (map nothing_done call.inputs) call.output.written call.tells (first_job asked call) r → CommandRuns asked call r
+call-runs asked call r filled runs = by_preparing asked.preparing refl runs
   where
     by_preparing : (p : Option Preparing) → asked.preparing ≡ p → RunsBy p (map nothing_done call.inputs) call.output.written call.tells (first_job asked call) r → CommandRuns asked call r
     by_preparing None is runs =
         let P : Option Preparing → Type 0 = λ p. IsPolicy p asked.policy asked.policy in
-        packets-run asked call (first_job asked call) r (begins asked call (subst P (sym is) refl)) runs
+        packets-run asked call (first_job asked call) r filled (begins asked call (subst P (sym is) refl)) runs
     by_preparing (Some (ReadsFilter filter)) is runs =
         elim runs [
           | inl filtered ↦
               let P : Option Preparing → Type 0 = λ p. IsPolicy p asked.policy (Filter filtered.rule filter.count) in
-              packets-run asked call (filtering filtered.rule filter.count filtered.programs (first_job asked call)) r
+              packets-run asked call (filtering filtered.rule filter.count filtered.programs (first_job asked call)) r filled
               (filter-begins asked call filtered.rule filter.count filtered.programs (subst P (sym is) (filtered.rule, filtered.is, refl))) filtered.runs
           | inr refused ↦
               let P : Option Preparing → Type 0 = λ p. IsWhyRefused p refused.refusal in
               refused-run asked call r refused.refusal (subst P (sym is) refused.why) refused.status_is refused.same refused.exact
         ]
-    by_preparing (Some (Compiles words link)) is runs = compile-run asked call r words link is runs
+    by_preparing (Some (Compiles words link)) is runs = compile-run asked call r words link filled is runs

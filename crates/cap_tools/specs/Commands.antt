@@ -17,6 +17,7 @@ use Rattle.cap_tools.specs.Start.{FilterAsked, Preparing, ReadsFilter, Compiles}
 use Rattle.cap_process.specs.Selector.{HavePrograms}
 use Rattle.cap_inputs.specs.Inputs.{InputPast, steps_left_in}
 use Rattle.cap_tools.specs.Bounds.{IsLight, StepReads, most_turns}
+use Rattle.cap_tools.specs.Packets.{room_by}
 use Rattle.cap_tools.specs.Jobs.{JobView, Decided, IsStatus, done_by}
 use Rattle.cap_tools.specs.FirstStep.{WritesListing, StopsListing, RefusesStart, filtering}
 
@@ -87,6 +88,7 @@ pub record StepKeeps (old : JobView) (r : Turn) (new : JobView) : Type 0 where
   pub sound : HavePrograms new.state.policy new.programs
   pub left : r ≡ turn.More → job_left new < job_left old
   pub names : new.state.output.names ≡ old.state.output.names
+  pub room : room_by new.state ≡ room_by old.state
   -- a step that goes on sends no message
   pub quiet : r ≡ turn.More → new.err ≡ old.err
   -- a filter changes what is asked

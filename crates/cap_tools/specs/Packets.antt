@@ -12,7 +12,7 @@ use Rattle.cap_inputs.specs.declared.inputs.Next.TheVariants as next
 use Rattle.cap_tools.specs.declared.step.JobEnd.{JobEnd}
 use Rattle.cap_tools.specs.declared.step.JobEnd.TheVariants as end
 use Rattle.cap_process.specs.Reports.{Report}
-use Rattle.cap_process.specs.Output.{JobOutputView, HasWrittenTo, form_to, written_to, failures_to}
+use Rattle.cap_process.specs.Output.{JobOutputView, HasWrittenTo, form_to, written_to, failures_to, room_to}
 use Rattle.cap_io.specs.Sequence.{Event, Packet, InputEnd, SequenceEnd, Complete, FaultIn, InputItems, PacketOrder, InTurn, ByTime, sequence_of, whole_input}
 use Rattle.cap_process.specs.Verdict.{Policy, SelectorState}
 use Rattle.cap_process.specs.Selector.{IsWithin, is_count}
@@ -40,6 +40,9 @@ written_by m = written_to m.output.target
 
 abbrev pub failures_by : JobState → ℕ
 failures_by m = failures_to m.output.target
+
+abbrev pub room_by : JobState → ℕ
+room_by m = room_to m.output.target
 
 abbrev pub wholes_of : List InputPast → List InputItems
 wholes_of ss = map whole_input (map (λ (s : InputPast). s.text) ss)

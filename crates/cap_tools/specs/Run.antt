@@ -1,6 +1,6 @@
 -- What a run of a command leaves: its outcome on the whole inputs; or what it leaves where a device
 -- fails, or memory runs out. All of it is said by the call, and by what the run hands back.
-use Rattle.std.specs.Prelude.{◌≡◌, ◌⊎◌, ℕ, ◌+◌, ◌-◌, List, [], ◌++◌, length, map, Option, None, Some}
+use Rattle.std.specs.Prelude.{◌≡◌, ◌⊎◌, ℕ, ◌+◌, ◌-◌, ◌≤◌, List, [], ◌++◌, length, map, Option, None, Some}
 use Rattle.std.specs.List.{slice_get}
 use Rattle.cap_octet.specs.Device.{HasGiven, Stops}
 use Rattle.cap_octet.specs.declared.fault.Fault.{Fault}
@@ -144,6 +144,8 @@ pub record HasLostOutput (asked : Assignment) (call : Call) (r : RunResult) : Ty
   pub answer : IsAnswer asked call written bytes
   pub stops : Stops (call.output.written ++ written) bytes r.output.written
   pub failures : r.output.failures ≡ call.output.failures + 1
+  -- it failed only after as many bytes as it has room for
+  pub filled : call.room ≤ length r.output.written
   pub message : IsTold call.tells call.messages
       (write_failed_message (name_at call.names (length call.inputs))) r.messages
   pub status : r.status ≡ 1

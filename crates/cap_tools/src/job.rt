@@ -123,7 +123,7 @@ impl<I: Input, O: Output, E: Output, A: Allocator + Copy + Drop> Job<I, O, E, A>
     ghost use Rattle.cap_tools.specs.Jobs.{JobGives, first_job};
     ghost use Rattle.cap_tools.specs.Jobs.{turn_goes_on};
     ghost use Rattle.cap_inputs.specs.Fresh.{nothing_done};
-    ghost use Rattle.cap_tools.specs.Packets.{failures_by, written_by};
+    ghost use Rattle.cap_tools.specs.Packets.{failures_by, room_by, written_by};
     ghost use Rattle.cap_tools.specs.Start.{asked_by};
     ghost use Rattle.cap_tools.specs.inside.Step.{IsStep, ending};
 
@@ -427,6 +427,7 @@ impl<I: Input, O: Output, E: Output, A: Allocator + Copy + Drop> Job<I, O, E, A>
         ensures inputs { result.0.items ≡ self.state.inputs.cursors }
         ensures written { O.written result.1 ≡ written_by self.state }
         ensures failures { O.failures result.1 ≡ failures_by self.state }
+        ensures room { O.room result.1 ≡ room_by self.state }
         ensures messages { output_view (E.written result.2) (E.failures result.2) ≡ self.err }
     {
         let Job {
@@ -448,6 +449,7 @@ impl<I: Input, O: Output, E: Output, A: Allocator + Copy + Drop> Job<I, O, E, A>
         I: Drop,
         ensures written { O.written result.0 ≡ written_by self.state }
         ensures failures { O.failures result.0 ≡ failures_by self.state }
+        ensures room { O.room result.0 ≡ room_by self.state }
         ensures messages { output_view (E.written result.1) (E.failures result.1) ≡ self.err }
     {
         let (_, out, err) = self.into_devices();

@@ -1,7 +1,7 @@
 //! The parts of a step: a packet is decided, or an input that was read to its end is reported.
 ghost use Rattle.std.specs.Prelude.{◌≡◌, ◌<◌, ◌≤◌, IsTrue, false, length, true};
 ghost use Rattle.cap_octet.specs.Packet.{captured};
-ghost use Rattle.cap_process.specs.Output.{HasFewOutputInterfaces, output_at};
+ghost use Rattle.cap_process.specs.Output.{HasFewOutputInterfaces, output_at, room_to};
 ghost use Rattle.cap_process.specs.inside.Reports.{FitsTally};
 ghost use Rattle.cap_process.specs.inside.Selector.{GrowsByOne, HasFewMarks, policy_state};
 ghost use Rattle.cap_tools.specs.Packets.{asks_report};
@@ -33,6 +33,7 @@ fn put<O: Output, A: Allocator>(
 ) -> Result<(), Fault>
     ensures exact { IsTrue O.tells → Offers verdict (captured packet.now) output.old result
         output.new }
+    ensures room { room_to output.new ≡ room_to output.old }
     ensures upper_bound { HasFewOutputInterfaces output.old → HasFewOutputInterfaces output.new }
 {
     match verdict {
@@ -61,6 +62,7 @@ pub(crate) fn decide<I: Input, O: Output, A: Allocator + Copy + Drop>(
     ensures passed { selector.old.state.passed ≤ number → selector.new.state.passed ≤ number }
     ensures counted { GrowsByOne selector.old.state.tally selector.new.state.tally }
     ensures marks { HasFewMarks selector.new.policy selector.new.state }
+    ensures room { room_to output.new ≡ room_to output.old }
     ensures upper_bound { HasFewOutputInterfaces output.old → HasFewOutputInterfaces output.new }
 {
     let mut packet = cursor.packet().unwrap();
@@ -97,6 +99,7 @@ pub(crate) fn close<I: Input, O: Output, E: Output, A: Allocator>(
     ensures policy { selector.new.policy ≡ selector.old.policy }
     ensures marks { HasFewMarks selector.old.policy selector.old.state
         → HasFewMarks selector.new.policy selector.new.state }
+    ensures room { room_to output.new ≡ room_to output.old }
     ensures upper_bound { HasFewOutputInterfaces output.old → HasFewOutputInterfaces output.new }
     ensures kept { asks_report inputs.now.order selector.old.policy ≡ false
         → output.new ≡ output.old }

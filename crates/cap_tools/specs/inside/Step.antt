@@ -4,7 +4,7 @@ use Rattle.cap_octet.specs.Views.{OutputView}
 use Rattle.cap_tools.specs.declared.step.JobEnd.{JobEnd}
 use Rattle.cap_inputs.specs.inside.Inputs.{steps_left}
 use Rattle.cap_process.specs.Selector.{HavePrograms}
-use Rattle.cap_tools.specs.Packets.{StepGives}
+use Rattle.cap_tools.specs.Packets.{StepGives, room_by}
 use Rattle.cap_tools.specs.Jobs.{JobView, end_status}
 use Rattle.cap_tools.specs.Bounds.{IsLight, StepReads}
 use Rattle.cap_tools.specs.inside.Bounds.{IsPaid, step_goes_on}
@@ -21,6 +21,7 @@ pub record IsStep (inputs_tell output_tells : Bool) (old : JobView) (r : Option 
   pub sound : HavePrograms new.state.policy new.programs
   pub policy : new.state.policy ≡ old.state.policy
   pub names : new.state.output.names ≡ old.state.output.names
+  pub room : room_by new.state ≡ room_by old.state
   pub preparing : new.preparing ≡ old.preparing
   pub err : new.err ≡ old.err
   pub turns : new.turns ≡ old.turns

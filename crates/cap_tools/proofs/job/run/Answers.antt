@@ -1,22 +1,25 @@
-use Rattle.std.proofs.Common.{[], map, refl, sym, ◌∙◌, ap, subst, string_bytes, arith}
+use Rattle.std.proofs.Common.{◌≡◌, [], map, refl, sym, ◌∙◌, ap, subst, string_bytes, arith}
 use Rattle.std.proofs.lemmas.List.{append-nil}
 use Rattle.cap_process.specs.Messages.{IsTold, no_memory_message}
 use Rattle.cap_octet.specs.Views.{OutputView, fresh_input, fresh_output, output_view}
 use Rattle.cap_command.specs.Call.{Call, call_of}
 use Rattle.cap_tools.specs.declared.job.Turn.TheVariants as turn
+use Rattle.cap_tools.specs.Jobs.{JobView}
+use Rattle.cap_tools.specs.Packets.{room_by}
 use Rattle.cap_tools.specs.Run.{ends, fault_outcome, of_nothing}
 use Rattle.cap_tools.specs.Start.{assignment}
-use Rattle.cap_tools.proofs.Calls.{call-runs}
+use Rattle.cap_tools.proofs.Calls.{call-runs, first-room}
 use Rattle.cap_tools.proofs.CommandRuns.{fresh, gives, under-more, under-done}
 use Rattle.cap_tools.proofs.CommandStarts.{command-begun}
 use Rattle.cap_tools.proofs.job.run.Goals as goal
 
 pub loop-status-init : goal.loop-status-init
-loop-status-init g c = record { undone = λ none. none; exact = λ ti to none ss before d. fresh refl }
+loop-status-init g c = record { undone = λ none. none; room = refl; exact = λ ti to none ss before d. fresh refl }
 
 pub loop-status-preserved : goal.loop-status-preserved
 loop-status-preserved g c = record {
   undone = λ none. c.in-More.ensures.keeps.done;
+  room = c.in-More.ensures.keeps.room ∙ c.loop-status.invariant.room;
   exact = λ ti to none ss before d.
       let job = c.loop-status.job in
       let new = c.step.new.self in
@@ -32,7 +35,9 @@ returns-in-Done g c = record {
       let call : Call = call_of (map string_bytes c.args.names.items) (map (fresh_input g.I.Input) c.args.inputs.items) (fresh_output g.O.Output c.args.out) (fresh_output g.E.Output c.args.err) in
       let job = c.loop-status.job in
       let new = c.step.new.self in
-      call-runs (assignment c.args.command) call _ (command-begun c.args.command call c.in-Ok.job _ c.in-Ok.ensures.fresh (λ none ss before d.
+      let room : g.O.Output.room c.close-out.result.0 ≡ call.room = c.close-out.ensures.room ∙ c.in-Done.ensures.keeps.room ∙ c.loop-status.invariant.room
+      ∙ ap (λ (j : JobView). room_by j.state) c.in-Ok.ensures.fresh ∙ first-room (assignment c.args.command) call in
+      call-runs (assignment c.args.command) call _ (λ failed. omega (arith, room, g.met.O.Output.filled c.close-out.result.0 failed)) (command-begun c.args.command call c.in-Ok.job _ c.in-Ok.ensures.fresh (λ none ss before d.
       let step = gives job.preparing g.O.Output.tells g.E.Output.tells job (turn.Done c.in-Done.status) new to (c.in-Done.ensures.exact ti to (c.loop-status.invariant.undone none)) c.in-Done.ensures.prepares in
       under-done g.E.Output.tells c.in-Ok.job job new ss before _ step d c.close-out.ensures.written c.close-out.ensures.failures c.close-out.ensures.messages
       (c.loop-status.invariant.exact ti to none ss before d)));

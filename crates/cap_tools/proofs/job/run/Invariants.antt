@@ -1,12 +1,14 @@
 use Rattle.std.proofs.Common.{◌≡◌, ℕ, List, IsTrue, None}
 use Rattle.cap_inputs.specs.Inputs.{InputPast}
 use Rattle.cap_tools.specs.Commands.{DecidedBy, job_left}
+use Rattle.cap_tools.specs.Packets.{room_by}
 use Rattle.cap_tools.proofs.CommandRuns.{Under}
 use Rattle.cap_tools.proofs.job.run.Given as goal
 
 abbrev pub invariant-loop-status : goal.invariant-loop-status
 invariant-loop-status g l = record {
   undone : l.initial.job.done ≡ None → l.job.done ≡ None;
+  room : room_by l.job.state ≡ room_by l.initial.job.state;
   exact : IsTrue g.I.Input.tells → IsTrue g.O.Output.tells → l.initial.job.done ≡ None → (ss : List InputPast) (before : List ℕ) → DecidedBy l.initial.job.preparing ss before l.initial.job → Under l.initial.job ss before l.job;
 }
 

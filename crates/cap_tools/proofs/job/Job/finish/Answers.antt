@@ -43,6 +43,7 @@ returns g c =
       sound = c.self.invariant.3;
       policy = refl;
       names = refl;
+      room = c.finish.ensures.room;
       preparing = refl;
       err = refl;
       turns = refl;

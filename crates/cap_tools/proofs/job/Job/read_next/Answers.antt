@@ -28,6 +28,7 @@ returns-then-not-release_before g c =
       sound = c.self.invariant.3;
       policy = refl;
       names = refl;
+      room = refl;
       preparing = refl;
       err = refl;
       turns = refl;
