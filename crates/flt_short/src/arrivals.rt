@@ -2,7 +2,7 @@
 
 ghost use Rattle.std.specs.Prelude.{◌≡◌, ◌≤◌, ◌<◌, ◌-◌, ◌^◌, length};
 ghost use Rattle.flt_short.specs.inside.Arrivals.{first_at, first_free, known_at, arrived};
-ghost use Rattle.flt_short.specs.inside.Arrivals.{at_start};
+ghost use Rattle.flt_short.specs.inside.Arrivals.{at_start, ended};
 
 use crate::facts::{Known, join, nothing_known, unreached};
 
@@ -132,6 +132,16 @@ impl Arrivals {
             self.kept[free].set(place, known);
         } else {
             self.unknown_end = place + 1;
+        }
+    }
+
+    /// The same of a place where the run ends, if it isn't kept: what is known there is of no use.
+    pub fn end(&mut self, from: usize, place: usize)
+        requires { place < 2 ^ 64 - 1 }
+        ensures { self.new ≡ ended self.old from place }
+    {
+        if first_at(&self.kept, place) >= self.kept.len() {
+            self.arrive(from, place, &nothing_known());
         }
     }
 }

@@ -9,7 +9,7 @@ ghost use Rattle.flt_short.specs.inside.Threads.{ignores_accumulator, ignores_ac
 ghost use Rattle.flt_short.specs.declared.facts.Claim.TheVariants.{Is};
 ghost use Rattle.flt_short.specs.inside.Facts.{with_fact};
 ghost use Rattle.flt_short.specs.inside.Threads.{can_stop, walk, walked, tests_at, two_at, target};
-ghost use Rattle.flt_short.specs.inside.Threads.{moved};
+ghost use Rattle.flt_short.specs.inside.Threads.{moved, ends_at, came};
 ghost use Rattle.flt_short.specs.inside.Threads.{threaded_test, threaded_insn};
 ghost use Rattle.flt_short.specs.inside.Threads.{with_ways, with_arrivals, flow, threaded};
 
@@ -323,6 +323,29 @@ fn moved(known: &Known, following: &[Wide], skipped: u32) -> u32
     }
 }
 
+/// The run ends at a place.
+fn ends_at(code: &[Wide], place: usize) -> bool
+    ensures { result ≡ ends_at code.now place }
+{
+    match code.get(place) {
+        None => false,
+        Some(insn) => matches!(decode(insn.code), Some(Operation::ReturnConstant)),
+    }
+}
+
+/// A run skips some instructions of the code, which begins at `from`, and goes on with this known.
+fn come(arrivals: &mut Arrivals, from: usize, skipped: u32, known: &Known, code: &[Wide])
+    requires { from < 2 ^ 63 }
+    ensures { arrivals.new ≡ came from skipped known.now code.now arrivals.old }
+{
+    let place = from + skipped as usize;
+    if ends_at(code, skipped as usize) {
+        arrivals.end(from, place);
+    } else {
+        arrivals.arrive(from, place, known);
+    }
+}
+
 /// The test with each target as far on as what is known decides. Notes what is known at both, in
 /// the code whose instruction after the test is at `from`.
 fn thread_test(
@@ -335,7 +358,7 @@ fn thread_test(
     requires { from < 2 ^ 63 }
     ensures insn { result ≡ threaded_test (operation_of insn.code) here.old insn following.now }
     ensures arrivals { arrivals.new
-        ≡ with_ways from (operation_of insn.code) here.old result arrivals.old }
+        ≡ with_ways from (operation_of insn.code) here.old result following.now arrivals.old }
 {
     let mut yes = *here;
     learn(&mut yes, insn, true);
@@ -346,8 +369,8 @@ fn thread_test(
         no: moved(here, following, insn.no),
         k: insn.k,
     };
-    arrivals.arrive(from, from + insn.yes as usize, &yes);
-    arrivals.arrive(from, from + insn.no as usize, here);
+    come(arrivals, from, insn.yes, &yes, following);
+    come(arrivals, from, insn.no, here, following);
     insn
 }
 
@@ -363,7 +386,7 @@ fn thread_insn(
     requires { from < 2 ^ 63 }
     ensures insn { result ≡ threaded_insn (operation_of insn.code) here.old insn following.now }
     ensures arrivals { arrivals.new
-        ≡ with_arrivals from (operation_of insn.code) here.old result arrivals.old }
+        ≡ with_arrivals from (operation_of insn.code) here.old result following.now arrivals.old }
 {
     if let Held::Unreached = here.held {
         return insn;

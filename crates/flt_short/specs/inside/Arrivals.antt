@@ -54,3 +54,9 @@ arrived seen from place k =
     then arrived_again seen (first_at seen.kept place) place k
     else (if nat_lt place seen.unknown_end then seen
     else arrived_first seen (first_free seen.kept from) place k)
+
+-- the same of a place where the run ends, if it isn't kept
+abbrev pub ended : Arrivals → ℕ → ℕ → Arrivals
+ended seen from place =
+    if nat_lt (first_at seen.kept place) (length seen.kept) then seen
+    else arrived seen from place nothing_known

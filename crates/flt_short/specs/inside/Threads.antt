@@ -18,7 +18,7 @@ use Rattle.flt_short.specs.declared.thread.Spot.{Spot}
 use Rattle.flt_short.specs.declared.thread.Reached.{Reached}
 use Rattle.flt_short.specs.declared.arrivals.Arrivals.{Arrivals}
 use Rattle.flt_short.specs.inside.Facts.{same_field, decided, one_of, with_fact, is_captured, masked_field, known_after, known_by_test}
-use Rattle.flt_short.specs.inside.Arrivals.{at_start, known_at, arrived}
+use Rattle.flt_short.specs.inside.Arrivals.{at_start, known_at, arrived, ended}
 
 -- the field that A would hold
 abbrev pub field_at : Held → Option Field → Option Field
@@ -203,27 +203,45 @@ threaded_if h op k i c = threaded_by op k i c
 abbrev pub threaded_insn : Option Operation → Known → Insn → List Insn → Insn
 threaded_insn op k i c = threaded_if k.held op k i c
 
+abbrev pub ends : Option Operation → Bool
+ends (Some ReturnConstant) = true
+ends _ = false
+
+abbrev pub ends_if_there : Option Insn → Bool
+ends_if_there None = false
+ends_if_there (Some i) = ends (operation_of i.code)
+
+-- the run ends at a place
+abbrev pub ends_at : List Insn → ℕ → Bool
+ends_at c place = ends_if_there (slice_get c place)
+
+-- a run skips some instructions of the code, which begins at a place, and goes on with this known
+abbrev pub came : ℕ → ℕ → Known → List Insn → Arrivals → Arrivals
+came from skipped k c seen =
+    if ends_at c skipped then ended seen from (from + skipped)
+    else arrived seen from (from + skipped) k
+
 -- a run goes on where a test leads, in the code from a place on
-abbrev pub with_ways : ℕ → Option Operation → Known → Insn → Arrivals → Arrivals
-with_ways from op k i seen =
-    arrived (arrived seen from (from + i.jt) (known_by_test op k.held k i.k true))
-    from (from + i.jf) (known_by_test op k.held k i.k false)
+abbrev pub with_ways : ℕ → Option Operation → Known → Insn → List Insn → Arrivals → Arrivals
+with_ways from op k i c seen =
+    came from i.jf (known_by_test op k.held k i.k false) c
+    (came from i.jt (known_by_test op k.held k i.k true) c seen)
 
-abbrev pub with_arrivals_by : ℕ → Option Operation → Known → Insn → Arrivals → Arrivals
-with_arrivals_by from (Some (JumpIf test operand)) k i seen =
-    with_ways from (Some (JumpIf test operand)) k i seen
-with_arrivals_by from (Some Jump) k i seen = arrived seen from (from + i.k) k
-with_arrivals_by from (Some ReturnConstant) k i seen = seen
-with_arrivals_by from (Some ReturnAccumulator) k i seen = seen
-with_arrivals_by from op k i seen = arrived seen from from (known_after op k i)
+abbrev pub with_arrivals_by : ℕ → Option Operation → Known → Insn → List Insn → Arrivals → Arrivals
+with_arrivals_by from (Some (JumpIf test operand)) k i c seen =
+    with_ways from (Some (JumpIf test operand)) k i c seen
+with_arrivals_by from (Some Jump) k i c seen = arrived seen from (from + i.k) k
+with_arrivals_by from (Some ReturnConstant) k i c seen = seen
+with_arrivals_by from (Some ReturnAccumulator) k i c seen = seen
+with_arrivals_by from op k i c seen = arrived seen from from (known_after op k i)
 
-abbrev pub with_arrivals_if : Held → ℕ → Option Operation → Known → Insn → Arrivals → Arrivals
-with_arrivals_if held.Unreached from op k i seen = seen
-with_arrivals_if h from op k i seen = with_arrivals_by from op k i seen
+abbrev pub with_arrivals_if : Held → ℕ → Option Operation → Known → Insn → List Insn → Arrivals → Arrivals
+with_arrivals_if held.Unreached from op k i c seen = seen
+with_arrivals_if h from op k i c seen = with_arrivals_by from op k i c seen
 
 -- a run goes on from an instruction to those after it, the first of which is at a place
-abbrev pub with_arrivals : ℕ → Option Operation → Known → Insn → Arrivals → Arrivals
-with_arrivals from op k i seen = with_arrivals_if k.held from op k i seen
+abbrev pub with_arrivals : ℕ → Option Operation → Known → Insn → List Insn → Arrivals → Arrivals
+with_arrivals from op k i c seen = with_arrivals_if k.held from op k i c seen
 
 -- the code from a place on with its targets as far as what is known decides, where that is known
 -- that comes with the runs from the code in front
@@ -232,7 +250,7 @@ flow at seen [] = []
 flow at seen (i ∷ is) =
     let k = known_at seen at in
     let j = threaded_insn (operation_of i.code) k i is in
-    j ∷ flow (suc at) (with_arrivals (suc at) (operation_of i.code) k j seen) is
+    j ∷ flow (suc at) (with_arrivals (suc at) (operation_of i.code) k j is seen) is
 
 -- the same of a whole program
 abbrev pub threaded : List Insn → List Insn
