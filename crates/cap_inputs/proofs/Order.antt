@@ -4,7 +4,7 @@ use Rattle.std.proofs.lemmas.List.{append_assoc}
 use Rattle.std.proofs.lemmas.Bool.Decides.{nat_tests}
 use Rattle.cap_octet.specs.declared.fault.Fault.{Fault}
 use Rattle.cap_io.specs.Capture.{Placed, Items, Ending}
-use Rattle.cap_io.specs.Sequence.{Event, Packet, SequenceEnd, Complete, FaultIn, Sequence, with_front, InputItems, Entry, end_after, entries_of, all_entries, comes_before, insert_entry, sort_entries, sequence_of_entries, first_end, fault_without_packets, unless_fault, sequence_by_time}
+use Rattle.cap_io.specs.Sequence.{Packet, SequenceEnd, Complete, FaultIn, with_front, InputItems, Entry, end_after, entries_of, all_entries, comes_before, insert_entry, sort_entries, sequence_of_entries, first_end, fault_without_packets, unless_fault, sequence_by_time}
 
 -- what all entries and the fault of inputs without packets have of one input
 abbrev input_entries : ℕ → InputItems → List Entry

@@ -1,15 +1,16 @@
 -- What has come when an input is read on, or its packet is decided.
 use Rattle.std.proofs.Common.{◌≡◌, ℕ, suc, ◌+◌, Bool, true, false, List, [], ◌∷◌, ◌++◌, length, drop, map, None, Some, Result, Ok, refl, sym, ◌∙◌, ap, arith, subst, add-zero}
+use Rattle.std.specs.Prelude.{Option, option_to_list}
 use Rattle.std.proofs.lemmas.List.{append_assoc, append-nil, length-append}
 use Rattle.cap_octet.specs.Packet.{Captured}
 use Rattle.cap_octet.specs.declared.fault.Fault.{Fault}
-use Rattle.cap_io.specs.Capture.{Declared, Placed, Items, Ending, End, FaultAt, Stops, items, items_from, after_packets, no_items, front_of, kind_of}
+use Rattle.cap_io.specs.Capture.{Declared, Placed, placed_at, Items, Ending, End, FaultAt, NoUnit, items, items_from, after_packets, no_items, front_of, kind_of}
 use Rattle.cap_io.specs.Source.{SourceView, Phase, Ended, FindsPacket, FindsEnd, Finds, Advances}
 use Rattle.cap_io.specs.Position.{IsAt, pending}
 use Rattle.cap_io.proofs.Items.{items_from-stops}
 use Rattle.cap_io.proofs.Standing.{IsAt-items, items-begin, Advances-sound}
 use Rattle.cap_io.specs.Sequence.{InputItems, Event, Packet, InputEnd, FaultIn, Sequence, sequence_of, sequence_in_turn, input_sequence, with_front, whole_input, PacketOrder}
-use Rattle.cap_inputs.specs.Inputs.{InputView, InputsView, Future, InputPast, AreInputsAfter, AreFutures, AreSettled, waiting_packets, packets_at, input_items, inputs_with, items_left, inputs_left, sequence_left, no_future, input_after, input_after_decided}
+use Rattle.cap_inputs.specs.Inputs.{InputView, InputsView, Future, InputPast, AreInputsAfter, AreFutures, AreSettled, waiting_packets, input_items, inputs_with, items_left, inputs_left, sequence_left, no_future, input_after, input_after_decided}
 use Rattle.cap_inputs.specs.inside.Inputs.{actual_future}
 use Rattle.cap_tools.specs.Packets.{wholes_of}
 use Rattle.cap_process.specs.Outcome.{ComeFirst}
@@ -66,7 +67,7 @@ turn-next turn g g' x items size rs qs is =
 
 -- the packet that waits
 pub hand_is : (s : SourceView) (p : Captured) → s.packet ≡ Some p → waiting_packets true s ≡ record { offset = s.offset; packet = p } ∷ []
-hand_is s p is = ap (packets_at s.offset) is
+hand_is s p is = ap (λ (o : Option Captured). placed_at s.offset (option_to_list o)) is
 
 pub left-decided : (h : InputView) (turn : ℕ) (p : Captured) → h.waiting ≡ true → h.source.packet ≡ Some p → (f : Future) (rs qs : List InputItems) → length rs ≡ turn
     → from_turn turn (rs ++ items_left h f ∷ qs) ≡ with_front (Packet turn (record { offset = h.source.offset; packet = p }) ∷ []) (from_turn turn (rs ++ items_left (input_after_decided h) f ∷ qs))
@@ -169,7 +170,7 @@ true-wholes (s ∷ ss) (h ∷ hs) st = ap (λ (r : InputItems). r ∷ inputs_wit
 pub true-fit : (s : InputPast) (h : InputView) → At s h → Fit h (actual_future h.source)
 true-fit s h at e =
     let over = at.ended e in
-    let stops : front_of h.source.declared h.source.unread ≡ Stops None = rw over.unread over.ends in
+    let stops : front_of h.source.declared h.source.unread ≡ NoUnit None = rw over.unread over.ends in
     ap (λ (i : Items). record { items = i; size = (actual_future h.source).size }) (items_from-stops h.source.declared (h.source.offset + length h.source.block) h.source.unread None stops)
     ∙ ap (λ n. record { items = no_items h.source.declared None 0; size = n }) (rw (over.block, over.unread) (simp (add-zero)))
 

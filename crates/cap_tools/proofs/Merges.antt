@@ -3,11 +3,11 @@ use Rattle.std.proofs.Common.{◌≡◌, ℕ, ◌+◌, ◌<◌, ◌≤◌, true,
 use Rattle.cap_octet.specs.Packet.{Captured}
 use Rattle.cap_io.specs.Capture.{Placed, Items, after_packets}
 use Rattle.cap_io.specs.Source.{Ended}
-use Rattle.cap_io.specs.Sequence.{Packet, SequenceEnd, Complete, with_front, end_at, first_end, fault_without_packets, sequence_by_time}
+use Rattle.cap_io.specs.Sequence.{Packet, SequenceEnd, Complete, with_front, first_end, fault_without_packets, sequence_by_time}
 use Rattle.cap_inputs.specs.Inputs.{InputView, Future, AreFutures, waiting_packets, items_left, inputs_left, no_future, input_after_decided}
 use Rattle.cap_tools.proofs.Splits.{Fit}
 use Rattle.cap_tools.proofs.Coming.{hand_is}
-use Rattle.cap_inputs.proofs.Order.{IsOver, IsFrom, AllOver, AllFrom, merged-next}
+use Rattle.cap_inputs.proofs.Order.{IsOver, IsFrom, end_at, AllOver, AllFrom, merged-next}
 
 -- a packet waits, whose greatest time so far is over the key, or at least the key; or the input is at its clean end
 pub data InputOver (k : ℕ) (h : InputView) : Type 0 where
