@@ -7,7 +7,8 @@ pub fn masks_join()
     ensures { MasksJoin }
 {}
 
-/// By IPv4, IPv6, ARP and RARP an expression means the network headers that a line names so.
+/// By IPv4, IPv6, ARP and RARP an expression means the network headers that a line names so, and it
+/// rejects those of which too little is captured for one.
 pub fn kinds_agree()
     ensures kind { MatchesKind }
     ensures short { RejectsShort }

@@ -94,7 +94,7 @@ fn emit_transport<A: Allocator>(
     code.emit_plain(Operation::LoadHeaderLength, start)
 }
 
-/// Emits the load of an accessor's field into A, where its index is.
+/// Emits the load of an accessor's field into A, which holds its index until then.
 pub fn emit_accessor<A: Allocator>(
     code: &mut Code<A>,
     link: Link,
@@ -111,7 +111,7 @@ pub fn emit_accessor<A: Allocator>(
 }
 
 /// Emits what must hold of a packet before a protocol's bytes are read. Returns where that begins.
-fn emit_accessor_tests<A: Allocator>(
+fn emit_protocol_tests<A: Allocator>(
     code: &mut Code<A>,
     link: Link,
     protocol: Protocol,
@@ -148,7 +148,7 @@ pub fn emit_accessor_tests<A: Allocator>(
 {
     let mut yes = to.yes;
     for protocol in protocols {
-        yes = emit_accessor_tests(code, link, *protocol, Targets { yes, no: to.no })?;
+        yes = emit_protocol_tests(code, link, *protocol, Targets { yes, no: to.no })?;
     }
     Ok(yes)
 }

@@ -1,4 +1,6 @@
-//! Values with their qualifiers, as rows of the table of primitives.
+//! Values that join no group (`emit_value` of walk.rt), with their qualifiers, as rows of the table
+//! of primitives. `.._needed` in contracts is the row without the words of IPv6 that decide nothing
+//! (address.rt).
 
 ghost use Rattle.std.specs.Prelude.{OnOk};
 ghost use Rattle.flt_gen.specs.Primitives.{host_formula};

@@ -1,4 +1,5 @@
-//! What is known where runs go on, of a few places at a time.
+//! What is known where runs go on, of a few places at a time. Here a place is an index from the
+//! beginning of the code, not a distance to its end as in `shorten.rt`.
 
 ghost use Rattle.std.specs.Prelude.{◌≡◌, ◌≤◌, ◌<◌, ◌-◌, ◌^◌, length};
 ghost use Rattle.flt_short.specs.inside.Arrivals.{first_at, first_free, known_at, arrived};
@@ -22,7 +23,8 @@ pub struct Arrival {
 pub struct Arrivals {
     /// What is known at each of these places. One that is passed gives way to another.
     pub kept: [Arrival; MOST_PLACES],
-    /// Of a place in front of this one that isn't kept nothing is known: a run found no room.
+    /// One more than the last place for which a run found no room. Of an earlier place that isn't
+    /// kept nothing is known; no run has reached a later one.
     pub unknown_end: usize,
 }
 

@@ -205,7 +205,8 @@ fn joined_some(fact: &Fact, others: &[Fact]) -> Fact
     }
 }
 
-/// What holds where a fact does, and where all the others do.
+/// What of a fact holds where two ways meet, on one of which it holds, and on the other all of
+/// `others`.
 fn joined_fact(fact: Fact, others: &[Fact]) -> Fact
     ensures { result ≡ joined_fact fact others.now }
 {
@@ -216,7 +217,8 @@ fn joined_fact(fact: Fact, others: &[Fact]) -> Fact
     }
 }
 
-/// The facts that hold where all of some do, and where all of the others do.
+/// Keeps what of some facts holds where two ways meet, on one of which all of them hold, and on the
+/// other all of `others`.
 fn join_facts(facts: &mut [Fact], others: &[Fact])
     ensures { facts.new ≡ map (λ fact. joined_fact fact others.now) facts.old }
 {

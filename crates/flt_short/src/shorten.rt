@@ -1,5 +1,6 @@
 //! The same code with fewer instructions: those that no run reaches are left out, a block that
 //! is there already isn't emitted again, and one instruction replaces several that do the same.
+//! `at` is an index into the old code; `place` counts from the end of the new code, 0 is nowhere.
 
 ghost use Rattle.std.specs.Prelude.{IfOk};
 ghost use Rattle.std.specs.Option.{IfSome};
@@ -78,7 +79,7 @@ fn reaching(insn: Wide, yes: usize, no: usize) -> Option<Wide> {
 
 /// An instruction that is put again, `farther` instructions earlier, with the same targets, if its
 /// offsets reach so far.
-fn in_front(insn: Wide, farther: usize) -> Option<Wide> {
+fn put_farther(insn: Wide, farther: usize) -> Option<Wide> {
     match decode(insn.code) {
         Some(Operation::JumpIf(_, _)) => reaching(
             insn,
@@ -111,14 +112,14 @@ fn direct_code(indirect: u16) -> Option<u16> {
 }
 
 /// Code that grows from its end to its beginning, while the old code is read so. Where something is
-/// too far, an instruction lands nowhere, and then neither do those that go on there.
+/// too far, an instruction lands nowhere, nor do those that go on there land anywhere.
 #[derive(Drop)]
 struct Shortening<'a> {
     insns: &'a [Wide],
     landings: &'a mut [Landing],
     /// The new code, from its last instruction to its first: `backwards[p]` stands right in front
-    /// of place p, so that its own place is p + 1. It has room for as many as the old one; a program
-    /// that needs more isn't taken.
+    /// of place p, so that its own place is p + 1. It has room for as many as the old one; a longer
+    /// program isn't taken.
     backwards: &'a mut [Wide],
     len: usize,
     /// A test that is there already isn't put again.
@@ -259,10 +260,10 @@ impl Shortening<'_> {
     }
 
     /// Whether the test right in front of a place has these targets.
-    fn has_targets(&self, at: usize, yes: usize, no: usize) -> bool {
-        self.backwards.get(at).is_some_and(|other| {
-            other.yes as usize == at.saturating_sub(yes)
-                && other.no as usize == at.saturating_sub(no)
+    fn has_targets(&self, place: usize, yes: usize, no: usize) -> bool {
+        self.backwards.get(place).is_some_and(|other| {
+            other.yes as usize == place.saturating_sub(yes)
+                && other.no as usize == place.saturating_sub(no)
         })
     }
 
@@ -271,7 +272,7 @@ impl Shortening<'_> {
     fn is_front_at(&self, place: usize, at: usize) -> bool {
         match self.insn_at(at.wrapping_sub(1)) {
             None => false,
-            Some(front) => self.is_at(place, front),
+            Some(front) => self.stands_before(place, front),
         }
     }
 
@@ -281,7 +282,7 @@ impl Shortening<'_> {
         let low = yes.max(no);
         let mut found = None;
         for place in (low..self.len).rev() {
-            if self.is_at(place, insn) && self.has_targets(place, yes, no) {
+            if self.stands_before(place, insn) && self.has_targets(place, yes, no) {
                 let test = in_front_of(place);
                 if self.is_front_at(test, at) {
                     return Some(test);
@@ -322,20 +323,24 @@ impl Shortening<'_> {
 
     /// Emits again, in front, the block that an instruction lands in, from there to its end.
     fn emit_again(&mut self, from: usize) {
-        let (place, top) = (self.landing_at(from).place, self.len);
-        let mut low = place;
-        for at in (0..place).rev() {
-            low = at;
-            if self.backwards.get(at).is_none_or(|insn| ends_block(*insn)) {
+        let (landed, top) = (self.landing_at(from).place, self.len);
+        let mut low = landed;
+        for place in (0..landed).rev() {
+            low = place;
+            if self
+                .backwards
+                .get(place)
+                .is_none_or(|insn| ends_block(*insn))
+            {
                 break;
             }
         }
         let farther = top.saturating_sub(low);
-        for at in low..place {
-            let Some(insn) = self.backwards.get(at).copied() else {
+        for place in low..landed {
+            let Some(insn) = self.backwards.get(place).copied() else {
                 return;
             };
-            let Some(insn) = in_front(insn, farther) else {
+            let Some(insn) = put_farther(insn, farther) else {
                 return;
             };
             self.push(insn);
@@ -359,7 +364,7 @@ impl Shortening<'_> {
 
     /// Whether such an instruction stands right in front of a place; of a test, one with any
     /// targets.
-    fn is_at(&self, place: usize, insn: Wide) -> bool {
+    fn stands_before(&self, place: usize, insn: Wide) -> bool {
         self.backwards
             .get(place)
             .is_some_and(|other| other.code == insn.code && other.k == insn.k)
@@ -377,7 +382,7 @@ impl Shortening<'_> {
             return;
         }
         if landing.place < self.len {
-            if self.is_at(landing.place, insn) {
+            if self.stands_before(landing.place, insn) {
                 let place = in_front_of(landing.place);
                 self.land(at, landing_before(operation, place, landing));
                 return;

@@ -1,4 +1,5 @@
-//! Tests that go on as far as what is known there decides.
+//! Jump threading. From each target of a test a walk goes on as far as what is known there decides;
+//! the test then goes to the last place where a run may go on in place of it.
 
 ghost use Rattle.std.specs.Prelude.{◌≡◌, ◌<◌, ◌^◌, nat_lt, if◌then◌else◌, length};
 ghost use Rattle.flt_bpf.specs.Instructions.{operation_of};
@@ -32,6 +33,7 @@ const SHORT: usize = 64;
 /// Where a walk is.
 #[derive(Clone, Copy)]
 pub struct Spot {
+    /// An index into the code after the test.
     pub place: usize,
     /// The field that A would hold there, if that isn't what A holds where the walk began.
     pub other: Option<Field>,
