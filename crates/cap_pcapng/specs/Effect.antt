@@ -1,5 +1,5 @@
 -- What a block does among the interfaces of its section: what it brings there, and its packet.
-use Rattle.std.specs.Prelude.{◌≡◌, ℕ, ◌+◌, ◌^◌, ◌<◌, ◌≤◌, ◌⊎◌, Bool, false, List, [], ◌∷◌, ◌++◌, length, take, drop, Option, None, Some, true, is_some}
+use Rattle.std.specs.Prelude.{◌≡◌, ℕ, ◌+◌, ◌^◌, ◌<◌, ◌≤◌, ◌⊎◌, Bool, false, List, [], ◌∷◌, ◌++◌, take, drop, Option, None, Some, true, is_some}
 use Rattle.std.specs.List.{slice_get}
 use Rattle.std.specs.Option.{option_map}
 use Rattle.cap_octet.specs.Checks.{first_failing}
