@@ -34,7 +34,7 @@ impl Arrival {
     ghost use Rattle.flt_short.specs.inside.Facts.{joined};
     ghost use Rattle.flt_short.specs.inside.Arrivals.{arrival};
 
-    /// A run comes to a place that isn't kept.
+    /// Keeps a place that wasn't kept, for the first run that is seen to go on there.
     fn set(&mut self, place: usize, known: &Known)
         ensures { self.new ≡ arrival place known.now }
     {
@@ -42,7 +42,7 @@ impl Arrival {
         self.known = *known;
     }
 
-    /// One more run comes there.
+    /// Notes one more run that goes on there.
     fn meet(&mut self, place: usize, known: &Known)
         ensures { self.new ≡ arrival place (joined self.old.known known.now) }
     {
