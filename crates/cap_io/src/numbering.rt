@@ -97,9 +97,10 @@ impl<A: Allocator> OutputInterfaces<A> {
         self.keys.len() < MOST_OUTPUT_INTERFACES || self.keys.contains(&InterfaceKey::of(packet))
     }
 
-    /// The number of a packet's interface. A new one is put last; its caller knows by `has_room`
-    /// that it fits. `NoMemory` where an allocation for it fails.
-    pub fn number_of(&mut self, packet: &Packet<'_>) -> Result<InterfaceNumber, Fault>
+    /// Gives a packet's interface its number. A new one is put last, and only this call says that
+    /// it is new; the caller knows by `has_room` that it fits. `NoMemory` where an allocation for it
+    /// fails.
+    pub fn give_number(&mut self, packet: &Packet<'_>) -> Result<InterfaceNumber, Fault>
         requires { length (self.old ++ new_among self.old (interface_of (captured packet.now))) ≤
             most_output_interfaces }
         ensures fits { FitFile self.new }

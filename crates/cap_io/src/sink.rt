@@ -150,7 +150,7 @@ impl<O: Output, A: Allocator> Sink<O, A> {
                 write_record(&mut self.output, self.format, self.state, packet)
             }
             Format::Pcapng => {
-                let interface = self.interfaces.number_of(packet)?;
+                let interface = self.interfaces.give_number(packet)?;
                 write_block(&mut self.output, self.state, interface, packet)
             }
         };

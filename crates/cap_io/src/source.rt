@@ -258,7 +258,7 @@ impl<I: Input, A: Allocator> Source<I, A> {
     }
 
     /// Reads one unit: one with a packet becomes the current one, another is skipped, and at the
-    /// clean end the source ends.
+    /// clean end the source ends. A fault leaves it between units; `advance` notes the fault.
     fn read_next(&mut self) -> Result<NextUnit, Fault>
         requires between { IsBetween self.old }
         ensures packets { IsTrue I.tells → FindsNext self.old result self.new }

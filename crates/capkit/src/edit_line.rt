@@ -64,7 +64,8 @@ fn has_bad_time(matches: &ArgMatches<'_>) -> bool
         || is_bad_duration(matches, ids::EARLIER)
 }
 
-/// Whether times are to be shifted both later and earlier, which excludes each other.
+/// Whether times are to be shifted both later and earlier, which exclude each other. clap isn't
+/// told, since its line has no rule of one argument on another (`line_is_simple` of capkit_args).
 fn has_two_shifts(matches: &ArgMatches<'_>) -> bool
     ensures { result ≡ has_two_shifts (rows_of (found_of matches.now)) }
 {

@@ -1,10 +1,11 @@
 //! Laws of the definitions: each is the contract of a function that does nothing.
 ghost use Rattle.capkit_args.specs.Arguments.{LineIsFree, LineIsSimple};
 
-/// The whole line is a command that clap calls simple, and free: no argument has a rule on another.
-/// What clap states of the parses of such commands it so states of the line's, whatever the names
-/// of its formats and links.
-pub fn simple_line()
+/// The whole line is a command of which clap states what a parse gives: it is simple (no subcommand
+/// has its own, only the last argument by place takes several values, none has a delimiter or needs
+/// `=`) and free (no argument has a rule on another), whatever the names of its formats and links.
+/// So an argument that isn't so ends what is proved of the command line.
+pub fn line_is_simple()
     ensures simple { LineIsSimple }
     ensures free { LineIsFree }
 {}

@@ -125,7 +125,7 @@ impl<A: Allocator> Code<A> {
     ) -> Result<usize, AllocError>
         ensures { Emits result (emit_among field numbers.now to.yes to.no self.old) self.new }
     {
-        self.emit_among_both(field, numbers, &[], to)
+        self.emit_among_slices(field, numbers, &[], to)
     }
 
     /// As `emit_among`, of the numbers without `first`, which is tested before.
@@ -140,11 +140,12 @@ impl<A: Allocator> Code<A> {
             (emit_among field (remaining first numbers.now) to.yes to.no self.old) self.new }
     {
         let (lower, upper) = remaining(first, numbers);
-        self.emit_among_both(field, lower, upper, to)
+        self.emit_among_slices(field, lower, upper, to)
     }
 
-    /// As `emit_among`, of numbers in two slices, the second after the first.
-    fn emit_among_both(
+    /// As `emit_among`, so of one number at least, of numbers in two slices, the second after the
+    /// first.
+    fn emit_among_slices(
         &mut self,
         field: MaskedField,
         lower: &[u32],

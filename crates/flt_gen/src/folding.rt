@@ -33,11 +33,12 @@ fn applied_constant(operator: Operator, left: Option<u32>, right: Option<u32>) -
 }
 
 /// Pushes a negation: if the latest node is a number, which then is its operand, the negative
-/// number replaces it. In a tree each has an operand.
+/// number, modulo 2^32, replaces it.
 fn push_negation<A: Allocator>(nodes: &mut Stack<Node, A>) -> Result<(), AllocError>
     ensures { OnOk result (nodes.new ≡ with_negation nodes.old) }
 {
     let Some(operand) = nodes.pop() else {
+        // In no tree: there a negation has an operand.
         return nodes.push(Node::Negate);
     };
     match node_constant(operand) {

@@ -447,6 +447,7 @@ impl<A: Allocator> Walk<A> {
         ensures { result.items ≡ insns_of self }
     {
         let Walk { code, to, .. } = self;
+        // Without nodes `to` is as it was first: all packets are accepted.
         code.into_insns(to.yes)
     }
 }

@@ -85,7 +85,8 @@ pub(crate) fn rule_at(new: Wide, old: &[Wide], at: usize, both: &Both) -> Option
     None
 }
 
-/// Whether an instruction may be the new code's own: it can't fail, and changes no word of memory.
+/// Whether an instruction may be the new code's own (`does_own` of flt_opt): it is a test, or leads
+/// on to the next instruction on each packet that comes there, and changes no word of memory.
 pub(crate) fn may_be_own(new: Wide, both: &Both, facts: &[Fact]) -> bool {
     match decode(new.code) {
         None => false,

@@ -177,7 +177,8 @@ impl<A: Allocator + Clone> Threading<A> {
         Ok(())
     }
 
-    /// Lets the edges of a node lead to other nodes.
+    /// Lets the edges of a node, which stands at `at`, lead to these nodes, and notes whether that
+    /// changes one: then the nodes are put in order again.
     fn redirect(&mut self, at: usize, node: Node, yes: usize, no: usize) {
         if let Some(place) = self.nodes.get_mut(at)
             && (yes != node.yes || no != node.no)

@@ -9,7 +9,7 @@ use Rattle.cap_io.specs.declared.numbering.InterfaceNumber.{InterfaceNumber}
 use Rattle.cap_io.proofs.Interfaces.{same_interface}
 use Rattle.cap_io.proofs.Keys.{among-keys, number-keys, insert-keys}
 use Rattle.cap_io.proofs.Places.{few-following, first-following, place-of-last}
-use Rattle.cap_io.proofs.numbering.OutputInterfaces.number_of.Goals as goal
+use Rattle.cap_io.proofs.numbering.OutputInterfaces.give_number.Goals as goal
 
 pub returns-clause-number : goal.returns-clause-number
 returns-clause-number g c =
