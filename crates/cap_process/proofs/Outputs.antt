@@ -42,15 +42,15 @@ lines-one options ps q =
 
 -- ---- a packet is put
 
-pub record PutOk (before : List ℕ) (ps : List Captured) (rs : List Report) (q : Captured) (names names' : List (List ℕ)) (old new : Target) : Type 0 where
+pub record PutOk (before : List ℕ) (ps : List Captured) (rs : List Report) (q : Captured) (names : List (List ℕ)) (old new : Target) : Type 0 where
   pub none : form_refuses (form_to names old) ps q ≡ None
-  pub output : HasWrittenTo before names' new (ps ++ q ∷ []) rs
-  pub form : form_to names' new ≡ form_to names old
+  pub output : HasWrittenTo before names new (ps ++ q ∷ []) rs
+  pub form : form_to names new ≡ form_to names old
   pub failures : failures_to new ≡ failures_to old
 
-pub put-ok : (before : List ℕ) (ps : List Captured) (rs : List Report) (q : Captured) (names names' : List (List ℕ)) (old new : Target) → names' ≡ names → HasWrittenTo before names old ps rs
-    → PutsIntoOutput q old (Ok tt) new → PutOk before ps rs q names names' old new
-put-ok before ps rs q names names' (Capture sink) new same has puts =
+pub put-ok : (before : List ℕ) (ps : List Captured) (rs : List Report) (q : Captured) (names : List (List ℕ)) (old new : Target) → HasWrittenTo before names old ps rs
+    → PutsIntoOutput q old (Ok tt) new → PutOk before ps rs q names old new
+put-ok before ps rs q names (Capture sink) new has puts =
     let next = put-next ps sink q (Ok tt) puts.sink has.put puts.puts in
     rw puts.is (record {
       none = put-taken _ _ (put-answer ps sink q (Ok tt) puts.sink has.put next);
@@ -58,9 +58,9 @@ put-ok before ps rs q names names' (Capture sink) new same has puts =
       form = ap AsCapture next.adds.format;
       failures = next.adds.failures ∙ add-zero sink.failures;
     })
-put-ok before ps rs q names names' (Text bytes failures room) new same has puts =
-    rw (puts.1, same) (record { none = refl; output = has; form = refl; failures = refl })
-put-ok before ps rs q names names' (Lines options bytes failures room) new same has puts =
+put-ok before ps rs q names (Text bytes failures room) new has puts =
+    rw puts.1 (record { none = refl; output = has; form = refl; failures = refl })
+put-ok before ps rs q names (Lines options bytes failures room) new has puts =
     rw puts.is (record {
       none = refl;
       output =
@@ -160,17 +160,17 @@ reports-more names rs r qs =
     ap (reports_text names) (append_assoc rs (r ∷ []) qs)
     ∙ reports-append names rs (r ∷ qs)
 
-pub record ReportOk (before : List ℕ) (ps : List Captured) (rs : List Report) (report : Report) (names names' : List (List ℕ)) (old new : Target) : Type 0 where
-  pub output : HasWrittenTo before names' new ps (rs ++ report ∷ [])
-  pub form : form_to names' new ≡ form_to names old
+pub record ReportOk (before : List ℕ) (ps : List Captured) (rs : List Report) (report : Report) (names : List (List ℕ)) (old new : Target) : Type 0 where
+  pub output : HasWrittenTo before names new ps (rs ++ report ∷ [])
+  pub form : form_to names new ≡ form_to names old
   pub failures : failures_to new ≡ failures_to old
 
-pub report-ok : (before : List ℕ) (ps : List Captured) (rs : List Report) (report : Report) (names names' : List (List ℕ)) (old new : Target) → names' ≡ names → HasWrittenTo before names old ps rs
-    → Reports (report_text names report) old (Ok tt) new → ReportOk before ps rs report names names' old new
-report-ok before ps rs report names names' (Capture sink) new same has puts = rw puts.1 (record { output = has; form = refl; failures = refl })
-report-ok before ps rs report names names' (Lines options bytes failures room) new same has puts = rw puts.1 (record { output = has; form = refl; failures = refl })
-report-ok before ps rs report names names' (Text bytes failures room) new same has puts =
-    rw (puts.is, same) (record {
+pub report-ok : (before : List ℕ) (ps : List Captured) (rs : List Report) (report : Report) (names : List (List ℕ)) (old new : Target) → HasWrittenTo before names old ps rs
+    → Reports (report_text names report) old (Ok tt) new → ReportOk before ps rs report names old new
+report-ok before ps rs report names (Capture sink) new has puts = rw puts.1 (record { output = has; form = refl; failures = refl })
+report-ok before ps rs report names (Lines options bytes failures room) new has puts = rw puts.1 (record { output = has; form = refl; failures = refl })
+report-ok before ps rs report names (Text bytes failures room) new has puts =
+    rw puts.is (record {
       output =
           puts.appends
           ∙ ap (λ (l : List ℕ). l ++ report_text names report) has

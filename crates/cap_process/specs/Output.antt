@@ -18,14 +18,6 @@ pub data Target : Type 0 where
   Text : (written : List ℕ) → (failures room : ℕ) → Target
   Lines : (options : Options) → (written : List ℕ) → (failures room : ℕ) → Target
 
--- where a job writes, and the names of its files: of the inputs, then of the output
-pub record JobOutputView : Type 0 where
-  pub names : List (List ℕ)
-  pub target : Target
-
-abbrev pub output_at : List (List ℕ) → Target → JobOutputView
-output_at names target = record { names = names; target = target }
-
 abbrev pub target_of : {O Z : Type 0} → (O → List ℕ) → (O → ℕ) → (O → ℕ) → Device O Z → Target
 target_of written failures room (device.Capture sink) = Capture sink
 target_of written failures room (device.Text output) =

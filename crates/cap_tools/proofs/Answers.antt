@@ -39,8 +39,8 @@ use Rattle.cap_print.specs.declared.print.Options.{Options}
 use Rattle.cap_print.specs.Rendering.{printed_text}
 use Rattle.cap_process.specs.Outcome.{Form, AsCapture, AsLines, JobProgress, IsNextEvent, lines_text, no_progress, decide, unless_refused, apply_verdict, apply_event, apply_events, final_progress, packet_bytes, form_refuses, end_with, final_text, first_link, output_text}
 use Rattle.cap_process.specs.Outcome as course_spec
-use Rattle.cap_process.specs.Output.{JobOutputView, Target, Capture, Text, Lines, form_to, output_at, written_to, failures_to}
-use Rattle.cap_process.specs.inside.Output.{HasWritten, form_at, PutsIntoOutput}
+use Rattle.cap_process.specs.Output.{Target, Capture, Text, Lines, HasWrittenTo, form_to, written_to, failures_to}
+use Rattle.cap_process.specs.inside.Output.{PutsIntoOutput}
 use Rattle.cap_inputs.specs.Inputs.{InputView, Future, InputPast, AreInputsAfter, AreSettled, IsInput, input_after_decided, items_left, inputs_left, sequence_left}
 use Rattle.cap_inputs.specs.inside.Inputs.{actual_future, most_steps}
 use Rattle.cap_inputs.specs.inside.Inputs as input_spec
@@ -66,24 +66,24 @@ end_if code_verdict.PassLast = Some Complete
 end_if verdict = None
 
 -- what is written and how far the job is where a packet is decided
-pub record Took (policy : Policy) (w : JobProgress) (before : List ℕ) (i : ℕ) (x : Placed) (state' : SelectorState) (old new : JobOutputView) (end : Option SequenceEnd) : Type 0 where
+pub record Took (policy : Policy) (w : JobProgress) (before : List ℕ) (i : ℕ) (x : Placed) (state' : SelectorState) (names : List (List ℕ)) (old new : Target) (end : Option SequenceEnd) : Type 0 where
   pub passed : List Captured
   -- one at most
   pub upper_bound : (passed ≡ []) ⊎ ((q : Captured) × (passed ≡ q ∷ []))
-  pub went : apply_event policy (form_at old) w (Packet i x) ≡ course_spec.decide w state' passed end
-  pub output : HasWritten before new (w.packets ++ passed) w.reports
-  pub form : form_at new ≡ form_at old
-  pub failures : failures_to new.target ≡ failures_to old.target
+  pub went : apply_event policy (form_to names old) w (Packet i x) ≡ course_spec.decide w state' passed end
+  pub output : HasWrittenTo before names new (w.packets ++ passed) w.reports
+  pub form : form_to names new ≡ form_to names old
+  pub failures : failures_to new ≡ failures_to old
 
 goes-by : (policy : Policy) (form : Form) (w : JobProgress) (i : ℕ) (x : Placed) (v : Verdict) (state' : SelectorState) → v ≡ (judge policy w.state (w.decided + 1) x.packet).verdict → state' ≡ (judge policy w.state (w.decided + 1) x.packet).state
     → apply_event policy form w (Packet i x) ≡ apply_verdict form w i x v state'
 goes-by policy form w i x v state' one other = rw (one, other) refl
 
-put-took : (policy : Policy) (w : JobProgress) (before : List ℕ) (i : ℕ) (x : Placed) (q : Captured) (state' : SelectorState) (old new : JobOutputView) (end : Option SequenceEnd) → HasWritten before old w.packets w.reports → new.names ≡ old.names → PutsIntoOutput q old.target (Ok tt) new.target
-    → apply_event policy (form_at old) w (Packet i x) ≡ unless_refused (form_refuses (form_at old) w.packets q) w i x (decide w state' (q ∷ []) end)
-    → Took policy w before i x state' old new end
-put-took policy w before i x q state' old new end has names puts went =
-    let ok : PutOk before w.packets w.reports q old.names new.names old.target new.target = put-ok before w.packets w.reports q old.names new.names old.target new.target names has puts in
+put-took : (policy : Policy) (w : JobProgress) (before : List ℕ) (i : ℕ) (x : Placed) (q : Captured) (state' : SelectorState) (names : List (List ℕ)) (old new : Target) (end : Option SequenceEnd) → HasWrittenTo before names old w.packets w.reports → PutsIntoOutput q old (Ok tt) new
+    → apply_event policy (form_to names old) w (Packet i x) ≡ unless_refused (form_refuses (form_to names old) w.packets q) w i x (decide w state' (q ∷ []) end)
+    → Took policy w before i x state' names old new end
+put-took policy w before i x q state' names old new end has puts went =
+    let ok : PutOk before w.packets w.reports q names old new = put-ok before w.packets w.reports q names old new has puts in
     record {
       passed = q ∷ [];
       upper_bound = inr (q, refl);
@@ -93,18 +93,18 @@ put-took policy w before i x q state' old new end has names puts went =
       failures = ok.failures;
     }
 
-pub took : (policy : Policy) (w : JobProgress) (before : List ℕ) (i : ℕ) (x : Placed) (old new : JobOutputView) (state' : SelectorState) (v : code.Verdict) (q : Captured) → HasWritten before old w.packets w.reports
-    → IsVerdict (judge policy w.state (w.decided + 1) x.packet) (Ok v) q state' → new.names ≡ old.names → Offers v q old.target (Ok tt) new.target → Took policy w before i x state' old new (end_if v)
-took policy w before i x old new state' code_verdict.Pass q has exact names offers =
-    put-took policy w before i x q state' old new None has names offers (goes-by policy (form_at old) w i x (Pass q) state' exact.0 exact.1)
-took policy w before i x old new state' code_verdict.PassLast q has exact names offers =
-    put-took policy w before i x q state' old new (Some Complete) has names offers (goes-by policy (form_at old) w i x (PassLast q) state' exact.0 exact.1)
-took policy w before i x old new state' code_verdict.Skip q has exact names offers =
-    let same : new ≡ old = ap₂ output_at names offers.1 in
+pub took : (policy : Policy) (w : JobProgress) (before : List ℕ) (i : ℕ) (x : Placed) (names : List (List ℕ)) (old new : Target) (state' : SelectorState) (v : code.Verdict) (q : Captured) → HasWrittenTo before names old w.packets w.reports
+    → IsVerdict (judge policy w.state (w.decided + 1) x.packet) (Ok v) q state' → Offers v q old (Ok tt) new → Took policy w before i x state' names old new (end_if v)
+took policy w before i x names old new state' code_verdict.Pass q has exact offers =
+    put-took policy w before i x q state' names old new None has offers (goes-by policy (form_to names old) w i x (Pass q) state' exact.0 exact.1)
+took policy w before i x names old new state' code_verdict.PassLast q has exact offers =
+    put-took policy w before i x q state' names old new (Some Complete) has offers (goes-by policy (form_to names old) w i x (PassLast q) state' exact.0 exact.1)
+took policy w before i x names old new state' code_verdict.Skip q has exact offers =
+    let same : new ≡ old = offers.1 in
     rw same (record {
       passed = [];
       upper_bound = inl refl;
-      went = goes-by policy (form_at old) w i x Skip state' exact.0 exact.1;
+      went = goes-by policy (form_to names old) w i x Skip state' exact.0 exact.1;
       output = rw (append-nil w.packets) has;
       form = refl;
       failures = refl;
@@ -120,20 +120,20 @@ pub record Ahead (ss : List InputPast) (cursors : List InputView) (order : Packe
   pub is : sequence_of order (wholes_of ss) ≡ with_front es (with_front (e ∷ []) more)
 
 -- it is the next event
-pub is-next : (ss : List InputPast) (before : List ℕ) (cursors : List InputView) (order : PacketOrder) (policy : Policy) (state : SelectorState) (output : JobOutputView) (decided : ℕ) (e : Event)
-    → (d : PacketsDecided ss before (mk cursors order policy state output decided)) → Ahead ss cursors order d.events e
-    → IsNextEvent (work_of (mk cursors order policy state output decided)) (wholes_of ss) d.events e
-is-next ss before cursors order policy state output decided e d ahead = record {
+pub is-next : (ss : List InputPast) (before : List ℕ) (cursors : List InputView) (order : PacketOrder) (policy : Policy) (state : SelectorState) (names : List (List ℕ)) (output : Target) (decided : ℕ) (e : Event)
+    → (d : PacketsDecided ss before (mk cursors order policy state names output decided)) → Ahead ss cursors order d.events e
+    → IsNextEvent (work_of (mk cursors order policy state names output decided)) (wholes_of ss) d.events e
+is-next ss before cursors order policy state names output decided e d ahead = record {
   later = ahead.more.events;
   is = ap (λ (s : Sequence). s.events) ahead.is;
   goes = ap (λ (w : JobProgress). w.end) d.progress;
 }
 
-pub next-true : (us vs : List InputPast) (s : InputPast) (before : List ℕ) (xs ys : List InputView) (h : InputView) (order : PacketOrder) (turn : ℕ) (policy : Policy) (state : SelectorState) (output : JobOutputView) (decided : ℕ) (p : Captured)
+pub next-true : (us vs : List InputPast) (s : InputPast) (before : List ℕ) (xs ys : List InputView) (h : InputView) (order : PacketOrder) (turn : ℕ) (policy : Policy) (state : SelectorState) (names : List (List ℕ)) (output : Target) (decided : ℕ) (p : Captured)
     → DecideLaws order turn xs ys h → AreInputsAfter us xs → At s h → AreInputsAfter vs ys → h.source.packet ≡ Some p
-    → (d : PacketsDecided (us ++ s ∷ vs) before (mk (xs ++ h ∷ ys) order policy state output decided))
+    → (d : PacketsDecided (us ++ s ∷ vs) before (mk (xs ++ h ∷ ys) order policy state names output decided))
     → Ahead (us ++ s ∷ vs) (xs ++ h ∷ ys) order d.events (Packet turn (record { offset = h.source.offset; packet = p }))
-next-true us vs s before xs ys h order turn policy state output decided p laws front at back held d =
+next-true us vs s before xs ys h order turn policy state names output decided p laws front at back held d =
     let fits = true-fits (us ++ s ∷ vs) (xs ++ h ∷ ys) d.following in
     record {
       more = sequence_left order (xs ++ input_after_decided h ∷ ys) (inputs_left xs (map (λ (v : InputView). actual_future v.source) xs) ++ items_left (input_after_decided h) (actual_future h.source) ∷ inputs_left ys (map (λ (v : InputView). actual_future v.source) ys));
@@ -165,12 +165,12 @@ counted-more n t t' within grows =
     let z = grows.2 in
     (omega (arith, a, x), omega (arith, b, y), omega (arith, c, z))
 
-pub decided-goes : (us vs : List InputPast) (s : InputPast) (before : List ℕ) (xs ys : List InputView) (h : InputView) (order : PacketOrder) (turn : ℕ) (policy : Policy) (state state' : SelectorState) (output output' : JobOutputView) (decided : ℕ) (p : Captured)
+pub decided-goes : (us vs : List InputPast) (s : InputPast) (before : List ℕ) (xs ys : List InputView) (h : InputView) (order : PacketOrder) (turn : ℕ) (policy : Policy) (state state' : SelectorState) (names : List (List ℕ)) (output output' : Target) (decided : ℕ) (p : Captured)
     → DecideLaws order turn xs ys h → AreInputsAfter us xs → At s h → AreInputsAfter vs ys → h.source.packet ≡ Some p → state'.passed ≤ decided + 1 → GrowsByOne state.tally state'.tally
-    → (d : PacketsDecided (us ++ s ∷ vs) before (mk (xs ++ h ∷ ys) order policy state output decided))
-    → Took policy (progress_at (mk (xs ++ h ∷ ys) order policy state output decided) d.packets d.reports) before turn (record { offset = h.source.offset; packet = p }) state' output output' None
-    → GoesOn d (mk (xs ++ input_after_decided h ∷ ys) order policy state' output' (decided + 1))
-decided-goes us vs s before xs ys h order turn policy state state' output output' decided p laws front at back held within grows d t =
+    → (d : PacketsDecided (us ++ s ∷ vs) before (mk (xs ++ h ∷ ys) order policy state names output decided))
+    → Took policy (progress_at (mk (xs ++ h ∷ ys) order policy state names output decided) d.packets d.reports) before turn (record { offset = h.source.offset; packet = p }) state' names output output' None
+    → GoesOn d (mk (xs ++ input_after_decided h ∷ ys) order policy state' names output' (decided + 1))
+decided-goes us vs s before xs ys h order turn policy state state' names output output' decided p laws front at back held within grows d t =
     let waits : h.waiting ≡ true = laws.waits in
     let x : Placed = record { offset = h.source.offset; packet = p } in
     let P : Bool → Type 0 = λ b. IsAt s.text s.done s.packets b h.source in
@@ -179,8 +179,8 @@ decided-goes us vs s before xs ys h order turn policy state state' output output
     let after : InputPast = record { text = s.text; done = s.done ++ h.source.block; packets = s.packets ++ x ∷ [] } in
     let A : Captured → Type 0 = λ q. IsAt s.text (s.done ++ h.source.block) (s.packets ++ record { offset = h.source.offset; packet = q } ∷ []) false h.source in
     let here : At after (input_after_decided h) = subst A same (IsAt-decided s.text s.done s.packets h.source was).1 in
-    let old : JobState = mk (xs ++ h ∷ ys) order policy state output decided in
-    let new : JobState = mk (xs ++ input_after_decided h ∷ ys) order policy state' output' (decided + 1) in
+    let old : JobState = mk (xs ++ h ∷ ys) order policy state names output decided in
+    let new : JobState = mk (xs ++ input_after_decided h ∷ ys) order policy state' names output' (decided + 1) in
     let following : AreInputsAfter (us ++ after ∷ vs) new.inputs.cursors = stands-join us vs after xs ys (input_after_decided h) front here back in
     let come : AreSettled (us ++ after ∷ vs) new.inputs (d.events ++ Packet turn x ∷ []) = come-on us vs s after xs ys h (input_after_decided h) order d.events (Packet turn x ∷ []) front d.come
     (λ f' fit. carries-decided s xs ys h turn order h.source.block p waits held (λ f fit fs gs before with_front. laws.decided_left p held f fit fs gs before with_front) f' fit) in
@@ -198,7 +198,7 @@ decided-goes us vs s before xs ys h order turn policy state state' output output
         come = come;
         packets = d.packets ++ t.passed;
         reports = d.reports;
-        progress = ap (λ (f : Form). apply_events policy f no_progress (d.events ++ Packet turn x ∷ [])) t.form ∙ progress-next policy (form_at output) d.events (Packet turn x) (progress_at old d.packets d.reports) (progress_at new (d.packets ++ t.passed) d.reports) d.progress t.went;
+        progress = ap (λ (f : Form). apply_events policy f no_progress (d.events ++ Packet turn x ∷ [])) t.form ∙ progress-next policy (form_to names output) d.events (Packet turn x) (progress_at old d.packets d.reports) (progress_at new (d.packets ++ t.passed) d.reports) d.progress t.went;
         output = t.output;
         passed = within;
         counted = counted-more decided state.tally state'.tally d.counted grows;
@@ -206,9 +206,9 @@ decided-goes us vs s before xs ys h order turn policy state state' output output
       at_most_one = omega arith;
       form = t.form;
       once = elim t.upper_bound [
-        | inl none ↦ once-nothing (first_link (wholes_of (us ++ s ∷ vs))) (progress_of d) (progress_at new (d.packets ++ t.passed) d.reports) output output'
+        | inl none ↦ once-nothing (form_to names output) (first_link (wholes_of (us ++ s ∷ vs))) (progress_of d) (progress_at new (d.packets ++ t.passed) d.reports) output output'
             (ap (λ (l : List Captured). d.packets ++ l) none ∙ append-nil d.packets) refl (took-nothing none)
-        | inr one ↦ once-packet (first_link (wholes_of (us ++ s ∷ vs))) before (progress_of d) (progress_at new (d.packets ++ t.passed) d.reports) output output' one.0 d.output (took-one one.0 one.1) t.form
+        | inr one ↦ once-packet (first_link (wholes_of (us ++ s ∷ vs))) before (progress_of d) (progress_at new (d.packets ++ t.passed) d.reports) names output output' one.0 d.output (took-one one.0 one.1) t.form
             (ap (λ (l : List Captured). d.packets ++ l) one.1) refl
       ];
       output = t.failures;
@@ -216,16 +216,16 @@ decided-goes us vs s before xs ys h order turn policy state state' output output
       limits = limits-at xs ys h (input_after_decided h) refl;
     }
   where
-    took-one : (q : Captured) → t.passed ≡ q ∷ [] → HasWritten before output' (d.packets ++ q ∷ []) d.reports
-    took-one q is = let P : List Captured → Type 0 = λ l. HasWritten before output' (d.packets ++ l) d.reports in subst P is t.output
+    took-one : (q : Captured) → t.passed ≡ q ∷ [] → HasWrittenTo before names output' (d.packets ++ q ∷ []) d.reports
+    took-one q is = let P : List Captured → Type 0 = λ l. HasWrittenTo before names output' (d.packets ++ l) d.reports in subst P is t.output
 
-    took-nothing : t.passed ≡ [] → written_to output'.target ≡ written_to output.target
+    took-nothing : t.passed ≡ [] → written_to output' ≡ written_to output
     took-nothing is =
-        let P : List Captured → Type 0 = λ l. HasWritten before output' l d.reports in
-        let has : HasWritten before output' d.packets d.reports = subst P (ap (λ (l : List Captured). d.packets ++ l) is ∙ append-nil d.packets) t.output in
-        drained-text before output'.names output'.target d.packets d.reports has
+        let P : List Captured → Type 0 = λ l. HasWrittenTo before names output' l d.reports in
+        let has : HasWrittenTo before names output' d.packets d.reports = subst P (ap (λ (l : List Captured). d.packets ++ l) is ∙ append-nil d.packets) t.output in
+        drained-text before names output' d.packets d.reports has
         ∙ ap (λ (f : Form). before ++ output_text f d.packets d.reports) t.form
-        ∙ sym (drained-text before output.names output.target d.packets d.reports d.output)
+        ∙ sym (drained-text before names output d.packets d.reports d.output)
 
 -- ---- it is the last, or it is refused
 
@@ -236,20 +236,20 @@ stops-course ss cursors order es e policy form w w' c ahead far on went end =
     course-stop policy form (sequence_of order (wholes_of ss)) ahead.more es e w w' c ahead.is far (ap (λ (o : Option SequenceEnd). course_spec.unless_ended o w (apply_event policy form w e)) on ∙ went) end
 
 -- the last packet passed
-pub record LastTook (policy : Policy) (w : JobProgress) (before : List ℕ) (i : ℕ) (x : Placed) (state' : SelectorState) (old new : JobOutputView) : Type 0 where
+pub record LastTook (policy : Policy) (w : JobProgress) (before : List ℕ) (i : ℕ) (x : Placed) (state' : SelectorState) (names : List (List ℕ)) (old new : Target) : Type 0 where
   pub packet : Captured
-  pub went : apply_event policy (form_at old) w (Packet i x) ≡ course_spec.decide w state' (packet ∷ []) (Some Complete)
-  pub output : HasWritten before new (w.packets ++ packet ∷ []) w.reports
-  pub form : form_at new ≡ form_at old
-  pub failures : failures_to new.target ≡ failures_to old.target
+  pub went : apply_event policy (form_to names old) w (Packet i x) ≡ course_spec.decide w state' (packet ∷ []) (Some Complete)
+  pub output : HasWrittenTo before names new (w.packets ++ packet ∷ []) w.reports
+  pub form : form_to names new ≡ form_to names old
+  pub failures : failures_to new ≡ failures_to old
 
-pub last-took : (policy : Policy) (w : JobProgress) (before : List ℕ) (i : ℕ) (x : Placed) (old new : JobOutputView) (state' : SelectorState) (q : Captured) → IsVerdict (judge policy w.state (w.decided + 1) x.packet) (Ok code_verdict.PassLast) q state' → new.names ≡ old.names → PutsIntoOutput q old.target (Ok tt) new.target
-    → HasWritten before old w.packets w.reports → LastTook policy w before i x state' old new
-last-took policy w before i x old new state' q exact names puts has =
-    let ok : PutOk before w.packets w.reports q old.names new.names old.target new.target = put-ok before w.packets w.reports q old.names new.names old.target new.target names has puts in
+pub last-took : (policy : Policy) (w : JobProgress) (before : List ℕ) (i : ℕ) (x : Placed) (names : List (List ℕ)) (old new : Target) (state' : SelectorState) (q : Captured) → IsVerdict (judge policy w.state (w.decided + 1) x.packet) (Ok code_verdict.PassLast) q state' → PutsIntoOutput q old (Ok tt) new
+    → HasWrittenTo before names old w.packets w.reports → LastTook policy w before i x state' names old new
+last-took policy w before i x names old new state' q exact puts has =
+    let ok : PutOk before w.packets w.reports q names old new = put-ok before w.packets w.reports q names old new has puts in
     record {
       packet = q;
-      went = goes-by policy (form_at old) w i x (PassLast q) state' exact.0 exact.1 ∙ ap (λ (f : Option Fault). unless_refused f w i x (decide w state' (q ∷ []) (Some Complete))) ok.none;
+      went = goes-by policy (form_to names old) w i x (PassLast q) state' exact.0 exact.1 ∙ ap (λ (f : Option Fault). unless_refused f w i x (decide w state' (q ∷ []) (Some Complete))) ok.none;
       output = ok.output;
       form = ok.form;
       failures = ok.failures;
@@ -263,9 +263,9 @@ AnswersNext {ss} {before} {old} d new q = form_refuses (output_form old) d.packe
 
 -- the device failed at a packet
 stops-writing : (ss : List InputPast) (before : List ℕ) (cursors : List InputView) (order : PacketOrder) (policy : Policy) (state state' : SelectorState) (names : List (List ℕ)) (sink sink' : SinkView) (decided : ℕ) (new : JobState) (e : Event) (q : Captured) (o : Option SequenceEnd)
-    → (d : PacketsDecided ss before (mk cursors order policy state (record { names = names; target = Capture sink }) decided)) → Ahead ss cursors order d.events e
+    → (d : PacketsDecided ss before (mk cursors order policy state names (Capture sink) decided)) → Ahead ss cursors order d.events e
     → apply_event policy (AsCapture sink.format) (progress_of d) e ≡ course_spec.decide (progress_of d) state' (q ∷ []) o
-    → AnswersNext d new q → WhyUnput WriteFailed sink d.packets q sink' → new.output.target ≡ Capture sink'
+    → AnswersNext d new q → WhyUnput WriteFailed sink d.packets q sink' → new.output ≡ Capture sink'
     → StopsWriting d new
 stops-writing ss before cursors order policy state state' names sink sink' decided new e q o d ahead went answers why is =
     let form : Form = AsCapture sink.format in
@@ -278,7 +278,7 @@ stops-writing ss before cursors order policy state state' names sink sink' decid
     (progress-next policy form d.events e w w' d.progress went) in
     let closes : List ℕ = course_spec.text_at_end all.end form (first_link (wholes_of ss)) all.packets in
     let tail : List ℕ = packets_text sink.format (packets ++ q ∷ []) grows.packets in
-    let told = told-next ss before (mk cursors order policy state (record { names = names; target = Capture sink }) decided) new (added_text sink.format packets q) d (inl (answers why.0 (added_text sink.format packets q) refl)) in
+    let told = told-next ss before (mk cursors order policy state names (Capture sink) decided) new (added_text sink.format packets q) d (inl (answers why.0 (added_text sink.format packets q) refl)) in
     record {
       failures = ap failures_to is ∙ why.1;
       event = told.event;
@@ -297,9 +297,9 @@ stops-writing ss before cursors order policy state state' names sink sink' decid
 
 -- the device failed at the line of a packet
 stops-line : (ss : List InputPast) (before : List ℕ) (cursors : List InputView) (order : PacketOrder) (policy : Policy) (state state' : SelectorState) (names : List (List ℕ)) (options : Options) (bytes after : List ℕ) (failures room decided : ℕ) (new : JobState) (e : Event) (q : Captured) (o : Option SequenceEnd)
-    → (d : PacketsDecided ss before (mk cursors order policy state (record { names = names; target = Lines options bytes failures room }) decided)) → Ahead ss cursors order d.events e
+    → (d : PacketsDecided ss before (mk cursors order policy state names (Lines options bytes failures room) decided)) → Ahead ss cursors order d.events e
     → apply_event policy (AsLines options) (progress_of d) e ≡ course_spec.decide (progress_of d) state' (q ∷ []) o
-    → AnswersNext d new q → Stops bytes (printed_text options q) after → new.output.target ≡ Lines options after (failures + 1) room
+    → AnswersNext d new q → Stops bytes (printed_text options q) after → new.output ≡ Lines options after (failures + 1) room
     → StopsWriting d new
 stops-line ss before cursors order policy state state' names options bytes after failures room decided new e q o d ahead went answers stops is =
     let form : Form = AsLines options in
@@ -313,7 +313,7 @@ stops-line ss before cursors order policy state state' names options bytes after
     let closes : List ℕ = course_spec.text_at_end all.end form (first_link (wholes_of ss)) all.packets in
     let tail : List ℕ = lines_text options grows.packets in
     let T : Target → Type 0 = λ t. Stops bytes (printed_text options q) (written_to t) in
-    let told = told-next ss before (mk cursors order policy state (record { names = names; target = Lines options bytes failures room }) decided) new (printed_text options q) d (inl (answers refl (printed_text options q) refl)) in
+    let told = told-next ss before (mk cursors order policy state names (Lines options bytes failures room) decided) new (printed_text options q) d (inl (answers refl (printed_text options q) refl)) in
     record {
       failures = ap failures_to is;
       event = told.event;
@@ -334,10 +334,10 @@ stops-line ss before cursors order policy state state' names options bytes after
 
 -- a packet that passes isn't put into a capture
 unput-capture : (ss : List InputPast) (before : List ℕ) (cursors : List InputView) (order : PacketOrder) (turn : ℕ) (policy : Policy) (state state' : SelectorState) (names : List (List ℕ)) (sink sink' : SinkView) (decided : ℕ) (new : JobState) (x : Placed) (q : Captured) (o : Option SequenceEnd) (fault : Fault)
-    → (d : PacketsDecided ss before (mk cursors order policy state (record { names = names; target = Capture sink }) decided)) → Ahead ss cursors order d.events (Packet turn x)
+    → (d : PacketsDecided ss before (mk cursors order policy state names (Capture sink) decided)) → Ahead ss cursors order d.events (Packet turn x)
     → apply_event policy (AsCapture sink.format) (progress_of d) (Packet turn x) ≡ unless_refused (refusal_of sink.format d.packets q) (progress_of d) turn x (decide (progress_of d) state' (q ∷ []) o)
     → Meets (inputs_at order cursors) new.inputs (Some (Packet turn x)) → (cursor : InputView) → slice_get new.inputs.cursors turn ≡ Some cursor → cursor.source.offset ≡ x.offset
-    → PassesAs (judge policy state (decided + 1) x.packet).verdict q → AnswersNext d new q → WhyUnput fault sink d.packets q sink' → new.output.target ≡ Capture sink'
+    → PassesAs (judge policy state (decided + 1) x.packet).verdict q → AnswersNext d new q → WhyUnput fault sink d.packets q sink' → new.output ≡ Capture sink'
     → EndLeaves d (end_of_failed_write turn fault) new
 unput-capture ss before cursors order turn policy state state' names sink sink' decided new x q o WriteFailed d ahead went met cursor among offset passes answers why is =
     stops-writing ss before cursors order policy state state' names sink sink' decided new (Packet turn x) q o d ahead
@@ -350,7 +350,7 @@ unput-capture ss before cursors order turn policy state state' names sink sink' 
         packet = x;
         met = met;
         needs = record {
-          next = is-next ss before cursors order policy state (record { names = names; target = Capture sink }) decided (Packet turn x) d ahead;
+          next = is-next ss before cursors order policy state names (Capture sink) decided (Packet turn x) d ahead;
           kept = q;
           passes = (let G : JobProgress → Type 0 = λ v. PassesAs (judge policy v.state (v.decided + 1) x.packet).verdict q in subst G (sym d.progress) passes);
           taken = (let F : JobProgress → Type 0 = λ v. refusal_of sink.format v.packets q ≡ None in subst F (sym d.progress) why.0);
@@ -363,7 +363,7 @@ unput-capture ss before cursors order turn policy state state' names sink sink' 
       }));
     }
 unput-capture ss before cursors order turn policy state state' names sink sink' decided new x q o fault d ahead went met cursor among offset passes answers why is =
-    let m : JobState = mk cursors order policy state (record { names = names; target = Capture sink }) decided in
+    let m : JobState = mk cursors order policy state names (Capture sink) decided in
     let w : JobProgress = progress_of d in
     let stop : final_progress policy (AsCapture sink.format) (sequence_of order (wholes_of ss)) ≡ end_with w (FaultIn turn fault x.offset) =
     stops-course ss cursors order d.events (Packet turn x) policy (AsCapture sink.format) w (end_with w (FaultIn turn fault x.offset)) (FaultIn turn fault x.offset) ahead d.progress refl
@@ -375,10 +375,10 @@ unput-capture ss before cursors order turn policy state state' names sink sink' 
     }
 
 unput-leaves : (ss : List InputPast) (before : List ℕ) (cursors : List InputView) (order : PacketOrder) (turn : ℕ) (policy : Policy) (state state' : SelectorState) (names : List (List ℕ)) (target : Target) (decided : ℕ) (new : JobState) (x : Placed) (q : Captured) (o : Option SequenceEnd) (fault : Fault)
-    → (d : PacketsDecided ss before (mk cursors order policy state (record { names = names; target = target }) decided)) → Ahead ss cursors order d.events (Packet turn x)
+    → (d : PacketsDecided ss before (mk cursors order policy state names target decided)) → Ahead ss cursors order d.events (Packet turn x)
     → apply_event policy (form_to names target) (progress_of d) (Packet turn x) ≡ unless_refused (form_refuses (form_to names target) d.packets q) (progress_of d) turn x (decide (progress_of d) state' (q ∷ []) o)
     → Meets (inputs_at order cursors) new.inputs (Some (Packet turn x)) → (cursor : InputView) → slice_get new.inputs.cursors turn ≡ Some cursor → cursor.source.offset ≡ x.offset
-    → PassesAs (judge policy state (decided + 1) x.packet).verdict q → AnswersNext d new q → PutsIntoOutput q target (Err fault) new.output.target
+    → PassesAs (judge policy state (decided + 1) x.packet).verdict q → AnswersNext d new q → PutsIntoOutput q target (Err fault) new.output
     → EndLeaves d (end_of_failed_write turn fault) new
 unput-leaves ss before cursors order turn policy state state' names (Capture sink) decided new x q o fault d ahead went met cursor among offset passes answers puts =
     unput-capture ss before cursors order turn policy state state' names sink puts.sink decided new x q o fault d ahead went met cursor among offset passes answers
@@ -389,22 +389,22 @@ unput-leaves ss before cursors order turn policy state state' names (Lines optio
     subst L (sym puts.fault)
     (stops-line ss before cursors order policy state state' names options bytes puts.after failures room decided new (Packet turn x) q o d ahead went answers puts.appends puts.is)
 
-reject-leaves : (ss : List InputPast) (before : List ℕ) (cursors : List InputView) (order : PacketOrder) (turn : ℕ) (policy : Policy) (state state' : SelectorState) (output : JobOutputView) (decided : ℕ) (new : JobState) (x : Placed) (fault : Fault)
-    → (d : PacketsDecided ss before (mk cursors order policy state output decided)) → Ahead ss cursors order d.events (Packet turn x)
+reject-leaves : (ss : List InputPast) (before : List ℕ) (cursors : List InputView) (order : PacketOrder) (turn : ℕ) (policy : Policy) (state state' : SelectorState) (names : List (List ℕ)) (output : Target) (decided : ℕ) (new : JobState) (x : Placed) (fault : Fault)
+    → (d : PacketsDecided ss before (mk cursors order policy state names output decided)) → Ahead ss cursors order d.events (Packet turn x)
     → IsVerdict (judge policy state (decided + 1) x.packet) (Err fault) x.packet state'
     → (cursor : InputView) → slice_get new.inputs.cursors turn ≡ Some cursor → cursor.source.offset ≡ x.offset → new.output ≡ output → (fault ≡ WriteFailed → ⊥)
     → EndLeaves d (end_of_failed_write turn fault) new
-reject-leaves ss before cursors order turn policy state state' output decided new x fault d ahead exact cursor among offset same device =
+reject-leaves ss before cursors order turn policy state state' names output decided new x fault d ahead exact cursor among offset same device =
     let w : JobProgress = progress_of d in
-    let kept : written_by new ≡ written_to output.target = ap (λ (v : JobOutputView). written_to v.target) same in
+    let kept : written_by new ≡ written_to output = ap written_to same in
     let B : Type 0 = EndLeaves d (end.FaultIn turn fault) new in
     let breaks : B = record {
       cursor = cursor;
       among = among;
-      why = inl (rw offset (comes-broken ss before (mk cursors order policy state output decided) (wholes_of ss) d new turn fault x.offset
-          (stops-course ss cursors order d.events (Packet turn x) policy (form_at output) w (end_with w (FaultIn turn fault x.offset)) (FaultIn turn fault x.offset) ahead d.progress refl
-          (ap (λ (v : Verdict). apply_verdict (form_at output) w turn x v (judge policy state (decided + 1) x.packet).state) exact) refl)
-          kept (ap (λ (v : JobOutputView). failures_to v.target) same)));
+      why = inl (rw offset (comes-broken ss before (mk cursors order policy state names output decided) (wholes_of ss) d new turn fault x.offset
+          (stops-course ss cursors order d.events (Packet turn x) policy (form_to names output) w (end_with w (FaultIn turn fault x.offset)) (FaultIn turn fault x.offset) ahead d.progress refl
+          (ap (λ (v : Verdict). apply_verdict (form_to names output) w turn x v (judge policy state (decided + 1) x.packet).state) exact) refl)
+          kept (ap failures_to same)));
     } in
     other fault device breaks
   where
@@ -483,29 +483,29 @@ abbrev pub AnswerLeaves : {ss : List InputPast} {before : List ℕ} {old : JobSt
 AnswerLeaves {ss} {before} {old} d i (Ok verdict) new failed = StepLeaves d (end_after verdict) new
 AnswerLeaves {ss} {before} {old} d i (Err fault) new failed = EndLeaves d (end_of_failed_write i fault) failed
 
-answer-core : (us vs : List InputPast) (s : InputPast) (before : List ℕ) (xs ys : List InputView) (h : InputView) (order : PacketOrder) (turn : ℕ) (policy : Policy) (state state' : SelectorState) (output output' : JobOutputView) (decided : ℕ) (p : Captured) (r : Result code.Verdict Fault)
+answer-core : (us vs : List InputPast) (s : InputPast) (before : List ℕ) (xs ys : List InputView) (h : InputView) (order : PacketOrder) (turn : ℕ) (policy : Policy) (state state' : SelectorState) (names : List (List ℕ)) (output output' : Target) (decided : ℕ) (p : Captured) (r : Result code.Verdict Fault)
     → DecideLaws order turn xs ys h → input_spec.IsNext (inputs_at order (xs ++ h ∷ ys)) (next.Decide turn) → AreInputsAfter us xs → At s h → AreInputsAfter vs ys → h.source.packet ≡ Some p → state'.passed ≤ decided + 1 → GrowsByOne state.tally state'.tally
-    → (d : PacketsDecided (us ++ s ∷ vs) before (mk (xs ++ h ∷ ys) order policy state output decided))
-    → output'.names ≡ output.names → DecidesPacket (Some p) (decided + 1) (sieve (record { policy = policy; state = state }) output.target) r (sieve (record { policy = policy; state = state' }) output'.target)
-    → AnswerLeaves d turn r (mk (xs ++ input_after_decided h ∷ ys) order policy state' output' (decided + 1)) (mk (xs ++ h ∷ ys) order policy state' output' decided)
-answer-core us vs s before xs ys h order turn policy state state' output output' decided p (Ok code_verdict.Pass) laws tells front at back held within grows d names decides =
-    decided-goes us vs s before xs ys h order turn policy state state' output output' decided p laws front at back held within grows d
-    (took policy (progress_at (mk (xs ++ h ∷ ys) order policy state output decided) d.packets d.reports) before turn (record { offset = h.source.offset; packet = p }) output output' state' code_verdict.Pass decides.packet d.output decides.exact names decides.offers)
-answer-core us vs s before xs ys h order turn policy state state' output output' decided p (Ok code_verdict.Skip) laws tells front at back held within grows d names decides =
-    decided-goes us vs s before xs ys h order turn policy state state' output output' decided p laws front at back held within grows d
-    (took policy (progress_at (mk (xs ++ h ∷ ys) order policy state output decided) d.packets d.reports) before turn (record { offset = h.source.offset; packet = p }) output output' state' code_verdict.Skip decides.packet d.output decides.exact names decides.offers)
-answer-core us vs s before xs ys h order turn policy state state' output output' decided p (Ok code_verdict.PassLast) laws tells front at back held within grows d names decides =
-    let w : JobProgress = progress_at (mk (xs ++ h ∷ ys) order policy state output decided) d.packets d.reports in
+    → (d : PacketsDecided (us ++ s ∷ vs) before (mk (xs ++ h ∷ ys) order policy state names output decided))
+    → DecidesPacket (Some p) (decided + 1) (sieve (record { policy = policy; state = state }) output) r (sieve (record { policy = policy; state = state' }) output')
+    → AnswerLeaves d turn r (mk (xs ++ input_after_decided h ∷ ys) order policy state' names output' (decided + 1)) (mk (xs ++ h ∷ ys) order policy state' names output' decided)
+answer-core us vs s before xs ys h order turn policy state state' names output output' decided p (Ok code_verdict.Pass) laws tells front at back held within grows d decides =
+    decided-goes us vs s before xs ys h order turn policy state state' names output output' decided p laws front at back held within grows d
+    (took policy (progress_at (mk (xs ++ h ∷ ys) order policy state names output decided) d.packets d.reports) before turn (record { offset = h.source.offset; packet = p }) names output output' state' code_verdict.Pass decides.packet d.output decides.exact decides.offers)
+answer-core us vs s before xs ys h order turn policy state state' names output output' decided p (Ok code_verdict.Skip) laws tells front at back held within grows d decides =
+    decided-goes us vs s before xs ys h order turn policy state state' names output output' decided p laws front at back held within grows d
+    (took policy (progress_at (mk (xs ++ h ∷ ys) order policy state names output decided) d.packets d.reports) before turn (record { offset = h.source.offset; packet = p }) names output output' state' code_verdict.Skip decides.packet d.output decides.exact decides.offers)
+answer-core us vs s before xs ys h order turn policy state state' names output output' decided p (Ok code_verdict.PassLast) laws tells front at back held within grows d decides =
+    let w : JobProgress = progress_at (mk (xs ++ h ∷ ys) order policy state names output decided) d.packets d.reports in
     let x : Placed = record { offset = h.source.offset; packet = p } in
-    let l = last-took policy w before turn x output output' state' decides.packet decides.exact names decides.offers d.output in
-    let stop = stops-course (us ++ s ∷ vs) (xs ++ h ∷ ys) order d.events (Packet turn x) policy (form_at output) w (course_spec.decide w state' (l.packet ∷ []) (Some Complete)) Complete
-    (next-true us vs s before xs ys h order turn policy state output decided p laws front at back held d) d.progress refl l.went refl in
+    let l = last-took policy w before turn x names output output' state' decides.packet decides.exact decides.offers d.output in
+    let stop = stops-course (us ++ s ∷ vs) (xs ++ h ∷ ys) order d.events (Packet turn x) policy (form_to names output) w (course_spec.decide w state' (l.packet ∷ []) (Some Complete)) Complete
+    (next-true us vs s before xs ys h order turn policy state names output decided p laws front at back held d) d.progress refl l.went refl in
     record {
       ends = ap (λ (v : JobProgress). v.end) stop;
       written =
-          closing-some before output'.names (form_at output) output'.target (first_link (wholes_of (us ++ s ∷ vs))) (d.packets ++ l.packet ∷ []) d.reports (decided + 1) state' l.output l.form (some d.packets l.packet)
-          ∙ ap (λ (v : JobProgress). before ++ final_text (form_at output) (first_link (wholes_of (us ++ s ∷ vs))) v) (sym stop);
-      once = once-packet (first_link (wholes_of (us ++ s ∷ vs))) before w (progress_over (mk (xs ++ h ∷ ys) order policy state output decided) (wholes_of (us ++ s ∷ vs))) output output' l.packet d.output l.output l.form
+          closing-some before names (form_to names output) output' (first_link (wholes_of (us ++ s ∷ vs))) (d.packets ++ l.packet ∷ []) d.reports (decided + 1) state' l.output l.form (some d.packets l.packet)
+          ∙ ap (λ (v : JobProgress). before ++ final_text (form_to names output) (first_link (wholes_of (us ++ s ∷ vs))) v) (sym stop);
+      once = once-packet (first_link (wholes_of (us ++ s ∷ vs))) before w (progress_over (mk (xs ++ h ∷ ys) order policy state names output decided) (wholes_of (us ++ s ∷ vs))) names output output' l.packet d.output l.output l.form
           (ap (λ (v : JobProgress). v.packets) stop) (ap (λ (v : JobProgress). v.reports) stop);
       device = l.failures;
     }
@@ -513,26 +513,26 @@ answer-core us vs s before xs ys h order turn policy state state' output output'
     some : (ps : List Captured) (q : Captured) → 0 ≡ length (ps ++ q ∷ []) → ⊥
     some [] q e = absurd (omega (arith, e))
     some (x ∷ ps) q e = absurd (omega (arith, e))
-answer-core us vs s before xs ys h order turn policy state state' output output' decided p (Err fault) laws tells front at back held within grows d names decides =
+answer-core us vs s before xs ys h order turn policy state state' names output output' decided p (Err fault) laws tells front at back held within grows d decides =
     elim decides [
       | inl j ↦ by_verdict_of j.0 j.1.packet j.1.exact j.1.offers
-      | inr j ↦ reject-leaves (us ++ s ∷ vs) before (xs ++ h ∷ ys) order turn policy state state' output decided failed x fault d ahead j.exact h here refl (ap₂ output_at names j.same) (never-device policy state state' (decided + 1) p fault j.exact)
+      | inr j ↦ reject-leaves (us ++ s ∷ vs) before (xs ++ h ∷ ys) order turn policy state state' names output decided failed x fault d ahead j.exact h here refl j.same (never-device policy state state' (decided + 1) p fault j.exact)
     ]
   where
     x : Placed
     x = record { offset = h.source.offset; packet = p }
 
     failed : JobState
-    failed = mk (xs ++ h ∷ ys) order policy state' output' decided
+    failed = mk (xs ++ h ∷ ys) order policy state' names output' decided
 
     here : slice_get (xs ++ h ∷ ys) turn ≡ Some h
     here = get-at xs ys h turn laws.here
 
     ahead : Ahead (us ++ s ∷ vs) (xs ++ h ∷ ys) order d.events (Packet turn x)
-    ahead = next-true us vs s before xs ys h order turn policy state output decided p laws front at back held d
+    ahead = next-true us vs s before xs ys h order turn policy state names output decided p laws front at back held d
 
     w : JobProgress
-    w = progress_at (mk (xs ++ h ∷ ys) order policy state output decided) d.packets d.reports
+    w = progress_at (mk (xs ++ h ∷ ys) order policy state names output decided) d.packets d.reports
 
     answers : (q : Captured) → PassesAs (judge policy state (decided + 1) p).verdict q → AnswersNext d failed q
     answers q passes = λ taken bytes is. record {
@@ -542,7 +542,7 @@ answer-core us vs s before xs ys h order turn policy state state' output output'
       among = here;
       packet = p;
       held = held;
-      comes = is-next (us ++ s ∷ vs) before (xs ++ h ∷ ys) order policy state output decided (Packet turn x) d ahead;
+      comes = is-next (us ++ s ∷ vs) before (xs ++ h ∷ ys) order policy state names output decided (Packet turn x) d ahead;
       passed = q;
       passes = passes;
       taken = taken;
@@ -550,26 +550,26 @@ answer-core us vs s before xs ys h order turn policy state state' output output'
       inputs = refl;
     }
 
-    by_verdict_of : (v : code.Verdict) (q : Captured) → IsVerdict (judge policy state (decided + 1) p) (Ok v) q state' → Offers v q output.target (Err fault) output'.target → EndLeaves d (end_of_failed_write turn fault) failed
+    by_verdict_of : (v : code.Verdict) (q : Captured) → IsVerdict (judge policy state (decided + 1) p) (Ok v) q state' → Offers v q output (Err fault) output' → EndLeaves d (end_of_failed_write turn fault) failed
     by_verdict_of code_verdict.Pass q exact offers =
-        unput-leaves (us ++ s ∷ vs) before (xs ++ h ∷ ys) order turn policy state state' output.names output.target decided failed x q None fault d ahead
-        (goes-by policy (form_at output) w turn x (Pass q) state' exact.0 exact.1) (a_packet turn h p (next-is-of (inputs_at order (xs ++ h ∷ ys)) (next.Decide turn) tells) here held refl) h here refl (let A : Verdict → Type 0 = λ v. PassesAs v q in subst A exact.0 refl) (answers q (let A : Verdict → Type 0 = λ v. PassesAs v q in subst A exact.0 refl)) offers
+        unput-leaves (us ++ s ∷ vs) before (xs ++ h ∷ ys) order turn policy state state' names output decided failed x q None fault d ahead
+        (goes-by policy (form_to names output) w turn x (Pass q) state' exact.0 exact.1) (a_packet turn h p (next-is-of (inputs_at order (xs ++ h ∷ ys)) (next.Decide turn) tells) here held refl) h here refl (let A : Verdict → Type 0 = λ v. PassesAs v q in subst A exact.0 refl) (answers q (let A : Verdict → Type 0 = λ v. PassesAs v q in subst A exact.0 refl)) offers
     by_verdict_of code_verdict.PassLast q exact offers =
-        unput-leaves (us ++ s ∷ vs) before (xs ++ h ∷ ys) order turn policy state state' output.names output.target decided failed x q (Some Complete) fault d ahead
-        (goes-by policy (form_at output) w turn x (PassLast q) state' exact.0 exact.1) (a_packet turn h p (next-is-of (inputs_at order (xs ++ h ∷ ys)) (next.Decide turn) tells) here held refl) h here refl (let A : Verdict → Type 0 = λ v. PassesAs v q in subst A exact.0 refl) (answers q (let A : Verdict → Type 0 = λ v. PassesAs v q in subst A exact.0 refl)) offers
+        unput-leaves (us ++ s ∷ vs) before (xs ++ h ∷ ys) order turn policy state state' names output decided failed x q (Some Complete) fault d ahead
+        (goes-by policy (form_to names output) w turn x (PassLast q) state' exact.0 exact.1) (a_packet turn h p (next-is-of (inputs_at order (xs ++ h ∷ ys)) (next.Decide turn) tells) here held refl) h here refl (let A : Verdict → Type 0 = λ v. PassesAs v q in subst A exact.0 refl) (answers q (let A : Verdict → Type 0 = λ v. PassesAs v q in subst A exact.0 refl)) offers
     by_verdict_of code_verdict.Skip q exact offers = absurd (let e = offers.0 in cc)
 
-pub answer-leaves : (ss : List InputPast) (before : List ℕ) (cursors : List InputView) (order : PacketOrder) (policy : Policy) (state : SelectorState) (output : JobOutputView) (decided i : ℕ) (r : Result code.Verdict Fault) (h : InputView) (selector' : PolicyState) (output' : JobOutputView)
-    → output'.names ≡ output.names → input_spec.IsNext (inputs_at order cursors) (next.Decide i) → IsInput cursors i h → selector'.policy ≡ policy → (state.passed ≤ decided + 1 → selector'.state.passed ≤ decided + 1) → GrowsByOne state.tally selector'.state.tally → decided ≤ most_steps
-    → (state.passed < decided + 1 → FitsTally state.tally → DecidesPacket h.source.packet (decided + 1) (sieve (record { policy = policy; state = state }) output.target) r (sieve selector' output'.target))
-    → (d : PacketsDecided ss before (mk cursors order policy state output decided))
-    → AnswerLeaves d i r (mk (slice_set cursors i (input_after_decided h)) order policy selector'.state output' (decided + 1)) (mk cursors order policy selector'.state output' decided)
-answer-leaves ss before cursors order policy state output decided i r other selector' output' names tells among_other asks passes grows upper_bound decides d =
+pub answer-leaves : (ss : List InputPast) (before : List ℕ) (cursors : List InputView) (order : PacketOrder) (policy : Policy) (state : SelectorState) (names : List (List ℕ)) (output : Target) (decided i : ℕ) (r : Result code.Verdict Fault) (h : InputView) (selector' : PolicyState) (output' : Target)
+    → input_spec.IsNext (inputs_at order cursors) (next.Decide i) → IsInput cursors i h → selector'.policy ≡ policy → (state.passed ≤ decided + 1 → selector'.state.passed ≤ decided + 1) → GrowsByOne state.tally selector'.state.tally → decided ≤ most_steps
+    → (state.passed < decided + 1 → FitsTally state.tally → DecidesPacket h.source.packet (decided + 1) (sieve (record { policy = policy; state = state }) output) r (sieve selector' output'))
+    → (d : PacketsDecided ss before (mk cursors order policy state names output decided))
+    → AnswerLeaves d i r (mk (slice_set cursors i (input_after_decided h)) order policy selector'.state names output' (decided + 1)) (mk cursors order policy selector'.state names output' decided)
+answer-leaves ss before cursors order policy state names output decided i r other selector' output' tells among_other asks passes grows upper_bound decides d =
     let at : DecideAt order cursors i = decide-at order ss cursors i tells d.following in
     let among = at.among in
     let h = at.cursor in
     let same : other ≡ h = among-same cursors i other h among_other among in
-    let D : List InputView → Type 0 = λ l. PacketsDecided ss before (mk l order policy state output decided) in
+    let D : List InputView → Type 0 = λ l. PacketsDecided ss before (mk l order policy state names output decided) in
     let d' = subst D among.splits d in
     let st = stands-split ss among.front among.back h d'.following in
     let T : List InputView → Type 0 = λ l. input_spec.IsNext (inputs_at order l) (next.Decide i) in
@@ -577,18 +577,18 @@ answer-leaves ss before cursors order policy state output decided i r other sele
     let was : IsAt st.here.text st.here.done st.here.packets true h.source = subst W at.laws.waits st.at in
     let has = was.waits refl in
     let within : state.passed < decided + 1 = (let l = d.passed in omega (arith, l)) in
-    let C : Option Captured → Type 0 = λ o. DecidesPacket o (decided + 1) (sieve (record { policy = policy; state = state }) output.target) r (sieve selector' output'.target) in
-    let C' : Policy → Type 0 = λ k. DecidesPacket (Some has.packet) (decided + 1) (sieve (record { policy = policy; state = state }) output.target) r (sieve (record { policy = k; state = selector'.state }) output'.target) in
+    let C : Option Captured → Type 0 = λ o. DecidesPacket o (decided + 1) (sieve (record { policy = policy; state = state }) output) r (sieve selector' output') in
+    let C' : Policy → Type 0 = λ k. DecidesPacket (Some has.packet) (decided + 1) (sieve (record { policy = policy; state = state }) output) r (sieve (record { policy = k; state = selector'.state }) output') in
     let held : other.source.packet ≡ Some has.packet = ap (λ (v : InputView). v.source.packet) same ∙ has.held in
     let chosen = subst C' asks (subst C held (decides within (within-room decided state.tally upper_bound d.counted))) in
     let cursors' : slice_set cursors i (input_after_decided h) ≡ among.front ++ input_after_decided h ∷ among.back = ap (λ (l : List InputView). slice_set l i (input_after_decided h)) among.splits ∙ set-here among.front among.back h (input_after_decided h) i among.place in
-    let new : List InputView → JobState = λ l. mk l order policy selector'.state output' (decided + 1) in
-    let failed : List InputView → JobState = λ l. mk l order policy selector'.state output' decided in
+    let new : List InputView → JobState = λ l. mk l order policy selector'.state names output' (decided + 1) in
+    let failed : List InputView → JobState = λ l. mk l order policy selector'.state names output' decided in
     let passes_on : selector'.state.passed ≤ decided + 1 = passes (let l = d.passed in omega (arith, l)) in
-    let core : (e : PacketsDecided (st.front ++ st.here ∷ st.back) before (mk (among.front ++ h ∷ among.back) order policy state output decided)) → AnswerLeaves e i r (new (among.front ++ input_after_decided h ∷ among.back)) (failed (among.front ++ h ∷ among.back)) = λ e.
-    answer-core st.front st.back st.here before among.front among.back h order i policy state selector'.state output output' decided has.packet r at.laws (subst T among.splits tells) st.before st.at st.following has.held passes_on grows e names chosen in
-    let G : List InputPast → Type 0 = λ l. (e : PacketsDecided l before (mk (among.front ++ h ∷ among.back) order policy state output decided)) → AnswerLeaves e i r (new (among.front ++ input_after_decided h ∷ among.back)) (failed (among.front ++ h ∷ among.back)) in
-    let H : List InputView → Type 0 = λ l. (e : PacketsDecided ss before (mk l order policy state output decided)) → AnswerLeaves e i r (new (among.front ++ input_after_decided h ∷ among.back)) (failed l) in
+    let core : (e : PacketsDecided (st.front ++ st.here ∷ st.back) before (mk (among.front ++ h ∷ among.back) order policy state names output decided)) → AnswerLeaves e i r (new (among.front ++ input_after_decided h ∷ among.back)) (failed (among.front ++ h ∷ among.back)) = λ e.
+    answer-core st.front st.back st.here before among.front among.back h order i policy state selector'.state names output output' decided has.packet r at.laws (subst T among.splits tells) st.before st.at st.following has.held passes_on grows e chosen in
+    let G : List InputPast → Type 0 = λ l. (e : PacketsDecided l before (mk (among.front ++ h ∷ among.back) order policy state names output decided)) → AnswerLeaves e i r (new (among.front ++ input_after_decided h ∷ among.back)) (failed (among.front ++ h ∷ among.back)) in
+    let H : List InputView → Type 0 = λ l. (e : PacketsDecided ss before (mk l order policy state names output decided)) → AnswerLeaves e i r (new (among.front ++ input_after_decided h ∷ among.back)) (failed l) in
     let I : List InputView → Type 0 = λ l. AnswerLeaves d i r (new l) (failed cursors) in
     let J : InputView → Type 0 = λ v. AnswerLeaves d i r (new (slice_set cursors i (input_after_decided v))) (failed cursors) in
     let whole : H cursors = subst H (sym among.splits) (subst G (sym st.is) core) in

@@ -56,7 +56,7 @@ use Rattle.cap_process.proofs.Outputs.{drained-text}
 -- what the first view of a job has of its call
 record Begins (asked : Assignment) (call : Call) (first : JobView) : Type 0 where
   pub work : IsWork asked call (work_of first.state)
-  pub names : first.state.output.names ≡ call.names
+  pub names : first.state.names ≡ call.names
   pub failures : failures_by first.state ≡ call.output.failures
   pub limits : device_limits first.state.inputs.cursors ≡ map fresh_limits call.inputs
   pub err : first.err ≡ call.messages
@@ -183,7 +183,7 @@ packets-run asked call first r filled b runs = by_end runs.end refl runs.leaves
     w = work_of first.state
 
     names : List (List ℕ)
-    names = first.state.output.names
+    names = first.state.names
 
     work-is : work_of old ≡ w
     work-is = same-work ss before first runs.old runs.progress
@@ -205,7 +205,7 @@ packets-run asked call first r filled b runs = by_end runs.end refl runs.leaves
 
     so-far : written_by old ≡ before ++ text_after w d.events
     so-far =
-        drained-text before old.output.names old.output.target d.packets d.reports d.output
+        drained-text before old.names old.output d.packets d.reports d.output
         ∙ ap (λ (v : JobProgress). before ++ text_of_progress (output_form old) v) (sym d.progress)
         ∙ ap (λ (v : Work). before ++ text_after v d.events) work-is
 

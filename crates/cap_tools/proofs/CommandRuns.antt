@@ -90,7 +90,7 @@ pub record IsOn (preparing : Option Preparing) (first : JobView) (ss : List Inpu
   pub leads : Leads preparing first from
   pub done : job.done ≡ None
   pub err : job.err ≡ from.err
-  pub names : job.state.output.names ≡ from.state.output.names
+  pub names : job.state.names ≡ from.state.names
   pub progress : IsUnderWay ss before from job
 
 -- no step was made yet, or some
@@ -101,7 +101,7 @@ pub data Under (first : JobView) (ss : List InputPast) (before : List ℕ) (job 
 abbrev start-progress : (ss : List InputPast) (before : List ℕ) (j : JobView) → Decided ss before j → IsUnderWay ss before j j
 start-progress ss before j d = record { past = ss; texts = refl; decided = d; policy = refl; form = refl; output = refl; order = refl; limits = refl }
 
-first-more : (tells : Bool) (p : Option Preparing) (old new : JobView) (ss : List InputPast) (before : List ℕ) → Gives p tells old turn.More new → DecidedBy p ss before old → new.done ≡ None → new.state.output.names ≡ old.state.output.names
+first-more : (tells : Bool) (p : Option Preparing) (old new : JobView) (ss : List InputPast) (before : List ℕ) → Gives p tells old turn.More new → DecidedBy p ss before old → new.done ≡ None → new.state.names ≡ old.state.names
     → (p ≡ None → new.state.policy ≡ old.state.policy) → IsOn p old ss before new
 first-more tells None old new ss before gives d done names policy = record {
   from = old;
@@ -124,7 +124,7 @@ first-more tells (Some (ReadsFilter asked)) old new ss before gives d done names
     }
 first-more tells (Some (Compiles words link)) old new ss before gives d done names policy = absurd gives
 
-on-more : (tells : Bool) (p : Option Preparing) (first job new : JobView) (ss : List InputPast) (before : List ℕ) → JobGives tells job turn.More new → new.done ≡ None → new.state.output.names ≡ job.state.output.names → new.state.policy ≡ job.state.policy
+on-more : (tells : Bool) (p : Option Preparing) (first job new : JobView) (ss : List InputPast) (before : List ℕ) → JobGives tells job turn.More new → new.done ≡ None → new.state.names ≡ job.state.names → new.state.policy ≡ job.state.policy
     → IsOn p first ss before job → IsOn p first ss before new
 on-more tells p first job new ss before gives done names policy on = record {
   from = on.from;
@@ -136,10 +136,10 @@ on-more tells p first job new ss before gives done names policy on = record {
 }
 
 pub under-more : (tells : Bool) (first job new : JobView) (ss : List InputPast) (before : List ℕ) → Gives job.preparing tells job turn.More new → DecidedBy first.preparing ss before first
-    → new.preparing ≡ None → new.done ≡ None → new.state.output.names ≡ job.state.output.names → (job.preparing ≡ None → new.state.policy ≡ job.state.policy)
+    → new.preparing ≡ None → new.done ≡ None → new.state.names ≡ job.state.names → (job.preparing ≡ None → new.state.policy ≡ job.state.policy)
     → Under first ss before job → Under first ss before new
 under-more tells first job new ss before gives d prepared done names policy (fresh is) =
-    let P : JobView → Type 0 = λ c. Gives c.preparing tells c turn.More new → new.state.output.names ≡ c.state.output.names → (c.preparing ≡ None → new.state.policy ≡ c.state.policy)
+    let P : JobView → Type 0 = λ c. Gives c.preparing tells c turn.More new → new.state.names ≡ c.state.names → (c.preparing ≡ None → new.state.policy ≡ c.state.policy)
     → IsOn first.preparing first ss before new in
     let Q : P first = λ gives names policy. first-more tells first.preparing first new ss before gives d done names policy in
     goes prepared (subst P (sym is) Q gives names policy)
@@ -147,12 +147,12 @@ under-more tells first job new ss before gives d prepared done names policy (goe
     let P : Option Preparing → Type 0 = λ p. Gives p tells job turn.More new in
     goes prepared (on-more tells first.preparing first job new ss before (subst P none gives) done names (policy none) is)
 
-ended : (tells : Bool) (from job new : JobView) (ss : List InputPast) (before : List ℕ) (r : RunResult) (progress : IsUnderWay ss before from job) → job.err ≡ from.err → job.state.output.names ≡ from.state.output.names
+ended : (tells : Bool) (from job new : JobView) (ss : List InputPast) (before : List ℕ) (r : RunResult) (progress : IsUnderWay ss before from job) → job.err ≡ from.err → job.state.names ≡ from.state.names
     → EndsJob tells job r.status new → r.output.written ≡ written_by new.state → r.output.failures ≡ failures_by new.state → r.messages ≡ new.err → JobRuns ss before tells from r
 ended tells from job new ss before r progress same names ends written failures is =
     let N : List (List ℕ) → Type 0 = λ l. IsTold tells job.err (end_message l new.state.inputs.cursors ends.end) new.err in
-    let F : OutputView → Type 0 = λ v. IsTold tells v (end_message from.state.output.names new.state.inputs.cursors ends.end) new.err in
-    let T : OutputView → Type 0 = λ v. IsTold tells from.err (end_message from.state.output.names new.state.inputs.cursors ends.end) v in
+    let F : OutputView → Type 0 = λ v. IsTold tells v (end_message from.state.names new.state.inputs.cursors ends.end) new.err in
+    let T : OutputView → Type 0 = λ v. IsTold tells from.err (end_message from.state.names new.state.inputs.cursors ends.end) v in
     record {
       old = job;
       last = new.state;

@@ -4,7 +4,7 @@ use Rattle.std.proofs.lemmas.List.{append-nil}
 use Rattle.cap_octet.specs.declared.device.DeviceFault.{DeviceFault}
 use Rattle.flt_bpf.specs.Listing.{listing}
 use Rattle.cap_process.specs.Messages.{write_failed_message}
-use Rattle.cap_process.specs.Output.{Target, Capture, Text, Lines, output_at, target_at, written_to, failures_to}
+use Rattle.cap_process.specs.Output.{Target, Capture, Text, Lines, target_at, written_to, failures_to}
 use Rattle.cap_process.specs.inside.Output.{Reports, is_text}
 use Rattle.cap_process.specs.Reports.{name_at, nothing_counted}
 use Rattle.cap_tools.specs.Packets.{JobState, written_by}
@@ -82,7 +82,7 @@ pub first-made : {Z : Type 0} (c : Command Z) (call : Call) (a : Assignment) (in
     → messages ≡ record { names = call.names; device = call.messages } → target ≡ target_at a.writing call.output.written call.output.failures call.room
     → record {
       preparing = a.preparing;
-      state = state_at inputs selector (output_at messages.names target) 0;
+      state = state_at messages.names inputs selector target 0;
       programs = selector.programs;
       err = messages.device;
       turns = 0;
@@ -122,12 +122,12 @@ command-begun c call job r is runs =
 
 abbrev ListsInto : List Insn → Bool → JobState → OutputView → ℕ → JobState → OutputView → Type 0
 ListsInto insns tells old err status new err' =
-    Runs (ListingLeaves insns (name_at old.output.names (length old.inputs.cursors)) (output_by old) (output_by new) status) tells err err'
+    Runs (ListingLeaves insns (name_at old.names (length old.inputs.cursors)) (output_by old) (output_by new) status) tells err err'
 
-pub lists-ok : (insns : List Insn) (tells : Bool) (old new : JobState) (err : OutputView) → is_text old.output.target ≡ true → Reports (listing insns) old.output.target (Ok tt) new.output.target → ListsInto insns tells old err 0 new err
-lists-ok insns tells old new err text lists = by_target old.output.target refl text lists
+pub lists-ok : (insns : List Insn) (tells : Bool) (old new : JobState) (err : OutputView) → is_text old.output ≡ true → Reports (listing insns) old.output (Ok tt) new.output → ListsInto insns tells old err 0 new err
+lists-ok insns tells old new err text lists = by_target old.output refl text lists
   where
-    by_target : (t : Target) → old.output.target ≡ t → is_text t ≡ true → Reports (listing insns) t (Ok tt) new.output.target → ListsInto insns tells old err 0 new err
+    by_target : (t : Target) → old.output ≡ t → is_text t ≡ true → Reports (listing insns) t (Ok tt) new.output → ListsInto insns tells old err 0 new err
     by_target (Capture sink) is text to = absurd (let e = text in cc)
     by_target (Lines options written failures room) is text to = absurd (let e = text in cc)
     by_target (Text written failures room) is text to =
@@ -140,18 +140,18 @@ lists-ok insns tells old new err text lists = by_target old.output.target refl t
           exact = record { answer = Ok tt; exact = λ te. sym (append-nil err.written); counted = sym (add-zero err.failures) };
         }
 
-pub lists-err : (insns : List Insn) (tells : Bool) (old new : JobState) (failed : DeviceFault) (err err' : OutputView) → is_text old.output.target ≡ true → Reports (listing insns) old.output.target (Err failed) new.output.target
-    → IsTold tells err (write_failed_message (name_at old.output.names (length old.inputs.cursors))) err' → ListsInto insns tells old err 1 new err'
-lists-err insns tells old new failed err err' text lists exact = by_target old.output.target refl text lists
+pub lists-err : (insns : List Insn) (tells : Bool) (old new : JobState) (failed : DeviceFault) (err err' : OutputView) → is_text old.output ≡ true → Reports (listing insns) old.output (Err failed) new.output
+    → IsTold tells err (write_failed_message (name_at old.names (length old.inputs.cursors))) err' → ListsInto insns tells old err 1 new err'
+lists-err insns tells old new failed err err' text lists exact = by_target old.output refl text lists
   where
-    by_target : (t : Target) → old.output.target ≡ t → is_text t ≡ true → Reports (listing insns) t (Err failed) new.output.target → ListsInto insns tells old err 1 new err'
+    by_target : (t : Target) → old.output ≡ t → is_text t ≡ true → Reports (listing insns) t (Err failed) new.output → ListsInto insns tells old err 1 new err'
     by_target (Capture sink) is text to = absurd (let e = text in cc)
     by_target (Lines options written failures room) is text to = absurd (let e = text in cc)
     by_target (Text written failures room) is text to =
         let before : written_by old ≡ written = ap written_to is in
         let after : written_by new ≡ to.after = ap written_to to.is in
         record {
-          message = write_failed_message (name_at old.output.names (length old.inputs.cursors));
+          message = write_failed_message (name_at old.names (length old.inputs.cursors));
           left = inr (record {
             failures = ap failures_to to.is ∙ ap (λ (n : ℕ). n + 1) (sym (ap failures_to is));
             count = to.appends.0;
@@ -174,18 +174,18 @@ lists-told insns tells old new status runs =
           inr (record { stops = (failed.count, failed.within, failed.written); failures = failed.failures; exact = subst T failed.exact runs.exact; status_is = failed.answered })
     ]
 
-pub listed-ok : (insns : List Insn) (tells : Bool) (old mid new : JobView) → is_text old.state.output.target ≡ true → Reports (listing insns) old.state.output.target (Ok tt) mid.state.output.target → mid.err ≡ old.err
+pub listed-ok : (insns : List Insn) (tells : Bool) (old mid new : JobView) → is_text old.state.output ≡ true → Reports (listing insns) old.state.output (Ok tt) mid.state.output → mid.err ≡ old.err
     → new ≡ ending end.Complete new.err mid → new.err ≡ mid.err → EndsList insns tells old (turn.Done 0) new
 listed-ok insns tells old mid new text lists same is quiet =
     let M : JobState → Type 0 = λ m. ListsInto insns tells old.state old.err 0 m old.err in
     let E : OutputView → Type 0 = λ v. ListsInto insns tells old.state old.err 0 new.state v in
     lists-told insns tells old new 0 (subst E (sym (quiet ∙ same)) (subst M (sym (ap (λ (j : JobView). j.state) is)) (lists-ok insns tells old.state mid.state old.err text lists)))
 
-pub listed-err : (insns : List Insn) (tells : Bool) (old mid new : JobView) (failed : DeviceFault) → is_text old.state.output.target ≡ true → Reports (listing insns) old.state.output.target (Err failed) mid.state.output.target → mid.state.output.names ≡ old.state.output.names → mid.err ≡ old.err → mid.state.inputs ≡ old.state.inputs
-    → new ≡ ending end.OutputFailed new.err mid → IsTold tells mid.err (end_message mid.state.output.names mid.state.inputs.cursors end.OutputFailed) new.err → EndsList insns tells old (turn.Done 1) new
+pub listed-err : (insns : List Insn) (tells : Bool) (old mid new : JobView) (failed : DeviceFault) → is_text old.state.output ≡ true → Reports (listing insns) old.state.output (Err failed) mid.state.output → mid.state.names ≡ old.state.names → mid.err ≡ old.err → mid.state.inputs ≡ old.state.inputs
+    → new ≡ ending end.OutputFailed new.err mid → IsTold tells mid.err (end_message mid.state.names mid.state.inputs.cursors end.OutputFailed) new.err → EndsList insns tells old (turn.Done 1) new
 listed-err insns tells old mid new failed text lists names same inputs is exact =
     let M : JobState → Type 0 = λ m. ListsInto insns tells old.state old.err 1 m new.err in
     let N : List (List ℕ) → Type 0 = λ l. IsTold tells mid.err (write_failed_message (name_at l (length mid.state.inputs.cursors))) new.err in
-    let C : InputsView → Type 0 = λ f. IsTold tells mid.err (write_failed_message (name_at old.state.output.names (length f.cursors))) new.err in
-    let F : OutputView → Type 0 = λ v. IsTold tells v (write_failed_message (name_at old.state.output.names (length old.state.inputs.cursors))) new.err in
+    let C : InputsView → Type 0 = λ f. IsTold tells mid.err (write_failed_message (name_at old.state.names (length f.cursors))) new.err in
+    let F : OutputView → Type 0 = λ v. IsTold tells v (write_failed_message (name_at old.state.names (length old.state.inputs.cursors))) new.err in
     lists-told insns tells old new 1 (subst M (sym (ap (λ (j : JobView). j.state) is)) (lists-err insns tells old.state mid.state failed old.err new.err text lists (subst F same (subst C inputs (subst N names exact)))))

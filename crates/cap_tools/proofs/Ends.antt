@@ -34,12 +34,12 @@ clean-status end.OutputFailed is = (cc)
 
 -- a step that ended the job, and its report
 pub step-ends : (inputs_tell output_tells tells : Bool) (old mid new : JobView) (e : JobEnd) → IsTrue inputs_tell → IsTrue output_tells → IsStep inputs_tell output_tells old (Some e) mid → new ≡ ending e new.err mid
-    → IsTold tells mid.err (end_message mid.state.output.names mid.state.inputs.cursors e) new.err → (e ≡ end.Complete → new.err ≡ mid.err) → EndsJob tells old (end_status e) new
+    → IsTold tells mid.err (end_message mid.state.names mid.state.inputs.cursors e) new.err → (e ≡ end.Complete → new.err ≡ mid.err) → EndsJob tells old (end_status e) new
 step-ends inputs_tell output_tells tells old mid new e ti to step is exact quiet =
     let M : JobState → Type 0 = λ m. StepGives old.state (Some e) m in
     let N : List (List ℕ) → Type 0 = λ l. IsTold tells mid.err (end_message l mid.state.inputs.cursors e) new.err in
-    let C : JobState → Type 0 = λ m. IsTold tells mid.err (end_message old.state.output.names m.inputs.cursors e) new.err in
-    let F : OutputView → Type 0 = λ v. IsTold tells v (end_message old.state.output.names new.state.inputs.cursors e) new.err in
+    let C : JobState → Type 0 = λ m. IsTold tells mid.err (end_message old.state.names m.inputs.cursors e) new.err in
+    let F : OutputView → Type 0 = λ v. IsTold tells v (end_message old.state.names new.state.inputs.cursors e) new.err in
     let same : new.state ≡ mid.state = ap (λ (j : JobView). j.state) is in
     record {
       end = e;

@@ -20,8 +20,8 @@ use Rattle.cap_process.specs.inside.Selector as selecting_inside
 use Rattle.cap_process.specs.Selector.{IsWithin, is_count}
 use Rattle.cap_process.specs.inside.Selector.{PolicyState, with_empty_tally}
 use Rattle.cap_process.specs.Outcome.{Form, AsReports, JobProgress, cut_at, no_progress, apply_events, final_progress, end_with, final_text, output_text, text_at_end, first_link}
-use Rattle.cap_process.specs.Output.{JobOutputView, Target, Capture, Text, Lines, written_to, failures_to}
-use Rattle.cap_process.specs.inside.Output.{HasWritten, form_at, Reports}
+use Rattle.cap_process.specs.Output.{Target, Capture, Text, Lines, HasWrittenTo, form_to, written_to, failures_to}
+use Rattle.cap_process.specs.inside.Output.{Reports}
 use Rattle.cap_inputs.specs.Inputs.{InputView, InputsView, Future, InputPast, AreInputsAfter, AreSettled, IsInput, ReadsInput, waiting_packets, input_after, input_items, inputs_with, inputs_left, limits_of, sequence_left}
 use Rattle.cap_inputs.specs.inside.Inputs.{IsNext, actual_future, is_in_turn}
 use Rattle.cap_process.specs.Reports.{report_text, reports_text}
@@ -42,8 +42,8 @@ use Rattle.cap_inputs.proofs.Nexts.{next-is-of}
 abbrev pub inputs_at : PacketOrder → List InputView → InputsView
 inputs_at order cursors = record { order = order; cursors = cursors }
 
-abbrev pub mk : List InputView → PacketOrder → Policy → SelectorState → JobOutputView → ℕ → JobState
-mk cursors order policy state output decided = record { inputs = inputs_at order cursors; policy = policy; state = state; output = output; decided = decided }
+abbrev pub mk : List InputView → PacketOrder → Policy → SelectorState → (names : List (List ℕ)) → Target → ℕ → JobState
+mk cursors order policy state names output decided = record { names = names; inputs = inputs_at order cursors; policy = policy; state = state; output = output; decided = decided }
 
 at-here : (xs ys : List InputView) (v d : InputView) (n : ℕ) → length xs ≡ n → get_or (xs ++ v ∷ ys) n d ≡ v
 at-here [] ys v d n e = rw (← e) refl
@@ -57,15 +57,15 @@ among-same cursors i h h' a b =
 
 -- ---- a packet is found
 
-found-goes : (us vs : List InputPast) (s : InputPast) (before : List ℕ) (xs ys : List InputView) (h : InputView) (s' : SourceView) (order : PacketOrder) (turn : ℕ) (policy : Policy) (state : SelectorState) (output : JobOutputView) (decided : ℕ)
+found-goes : (us vs : List InputPast) (s : InputPast) (before : List ℕ) (xs ys : List InputView) (h : InputView) (s' : SourceView) (order : PacketOrder) (turn : ℕ) (policy : Policy) (state : SelectorState) (names : List (List ℕ)) (output : Target) (decided : ℕ)
     → ReadLaws order turn xs ys h → AreInputsAfter us xs → At s h → AreInputsAfter vs ys → Advances h.source.phase h.source (Ok true) s' → limits_of s' ≡ limits_of h.source
-    → (d : PacketsDecided (us ++ s ∷ vs) before (mk (xs ++ h ∷ ys) order policy state output decided))
-    → GoesOn d (mk (xs ++ input_after h (Ok true) s' ∷ ys) order policy state output decided)
-found-goes us vs s before xs ys h s' order turn policy state output decided laws front at back advances limits d =
+    → (d : PacketsDecided (us ++ s ∷ vs) before (mk (xs ++ h ∷ ys) order policy state names output decided))
+    → GoesOn d (mk (xs ++ input_after h (Ok true) s' ∷ ys) order policy state names output decided)
+found-goes us vs s before xs ys h s' order turn policy state names output decided laws front at back advances limits d =
     let waits : h.waiting ≡ false = laws.waits in
     let found : FindsPacket h.source s' = finds s h s' (Ok true) at waits advances in
     let P : Bool → Type 0 = λ b. IsAt s.text s.done s.packets b h.source in
-    let new : JobState = mk (xs ++ input_after h (Ok true) s' ∷ ys) order policy state output decided in
+    let new : JobState = mk (xs ++ input_after h (Ok true) s' ∷ ys) order policy state names output decided in
     let same : s.packets ++ [] ≡ s.packets = append-nil s.packets in
     let here : At (record { text = s.text; done = s.done ++ found.passes.passed; packets = s.packets ++ [] }) (input_after h (Ok true) s') =
     rw same (IsAt-found s.text s.done s.packets h.source s' (subst P waits at) found) in
@@ -87,14 +87,14 @@ found-goes us vs s before xs ys h s' order turn policy state output decided laws
         come = come;
         packets = d.packets;
         reports = d.reports;
-        progress = ap (λ (l : List Event). apply_events policy (form_at output) no_progress l) (append-nil d.events) ∙ d.progress;
+        progress = ap (λ (l : List Event). apply_events policy (form_to names output) no_progress l) (append-nil d.events) ∙ d.progress;
         output = d.output;
         passed = d.passed;
         counted = d.counted;
       };
       at_most_one = omega arith;
       form = refl;
-      once = once-nothing (first_link (wholes_of (us ++ s ∷ vs))) (progress_of d) (progress_at new d.packets d.reports) output output refl refl refl;
+      once = once-nothing (form_to names output) (first_link (wholes_of (us ++ s ∷ vs))) (progress_of d) (progress_at new d.packets d.reports) output output refl refl refl;
       output = refl;
       order = refl;
       limits = limits-at xs ys h (input_after h (Ok true) s') limits;
@@ -111,11 +111,11 @@ record ReadOut (us vs : List InputPast) (s : InputPast) (xs ys : List InputView)
   pub following : AreInputsAfter (us ++ read-out s bytes ∷ vs) (xs ++ h' ∷ ys)
   pub come : AreSettled (us ++ read-out s bytes ∷ vs) (record { order = order; cursors = xs ++ h' ∷ ys }) events
 
-closed-out : (us vs : List InputPast) (s : InputPast) (before : List ℕ) (xs ys : List InputView) (h : InputView) (s' : SourceView) (order : PacketOrder) (turn : ℕ) (policy : Policy) (state : SelectorState) (output : JobOutputView) (decided : ℕ)
+closed-out : (us vs : List InputPast) (s : InputPast) (before : List ℕ) (xs ys : List InputView) (h : InputView) (s' : SourceView) (order : PacketOrder) (turn : ℕ) (policy : Policy) (state : SelectorState) (names : List (List ℕ)) (output : Target) (decided : ℕ)
     → (laws : ReadLaws order turn xs ys h) → AreInputsAfter us xs → At s h → AreInputsAfter vs ys → Advances h.source.phase h.source (Ok false) s' → (found : FindsEnd h.source s')
-    → (d : PacketsDecided (us ++ s ∷ vs) before (mk (xs ++ h ∷ ys) order policy state output decided))
+    → (d : PacketsDecided (us ++ s ∷ vs) before (mk (xs ++ h ∷ ys) order policy state names output decided))
     → ReadOut us vs s xs ys (input_after h (Ok false) s') order (d.events ++ laws.closed_events (kind_of s'.declared) s'.offset) found.passes.passed
-closed-out us vs s before xs ys h s' order turn policy state output decided laws front at back advances found d =
+closed-out us vs s before xs ys h s' order turn policy state names output decided laws front at back advances found d =
     let waits : h.waiting ≡ false = laws.waits in
     let P : Bool → Type 0 = λ b. IsAt s.text s.done s.packets b h.source in
     let same : s.packets ++ [] ≡ s.packets = append-nil s.packets in
@@ -129,18 +129,18 @@ closed-out us vs s before xs ys h s' order turn policy state output decided laws
     }
 
 -- it goes on, with what closing the input makes of the progress
-closed-goes : (us vs : List InputPast) (s : InputPast) (before : List ℕ) (xs ys : List InputView) (h : InputView) (s' : SourceView) (order : PacketOrder) (turn : ℕ) (policy : Policy) (state : SelectorState) (output : JobOutputView) (decided : ℕ) (state' : SelectorState) (output' : JobOutputView) (reports : List Report)
+closed-goes : (us vs : List InputPast) (s : InputPast) (before : List ℕ) (xs ys : List InputView) (h : InputView) (s' : SourceView) (order : PacketOrder) (turn : ℕ) (policy : Policy) (state : SelectorState) (names : List (List ℕ)) (output : Target) (decided : ℕ) (state' : SelectorState) (output' : Target) (reports : List Report)
     → (laws : ReadLaws order turn xs ys h) → AreInputsAfter us xs → At s h → AreInputsAfter vs ys → Advances h.source.phase h.source (Ok false) s' → limits_of s' ≡ limits_of h.source
-    → (d : PacketsDecided (us ++ s ∷ vs) before (mk (xs ++ h ∷ ys) order policy state output decided))
-    → closed_in order policy (progress_at (mk (xs ++ h ∷ ys) order policy state output decided) d.packets d.reports) turn (kind_of s'.declared) s'.offset
+    → (d : PacketsDecided (us ++ s ∷ vs) before (mk (xs ++ h ∷ ys) order policy state names output decided))
+    → closed_in order policy (progress_at (mk (xs ++ h ∷ ys) order policy state names output decided) d.packets d.reports) turn (kind_of s'.declared) s'.offset
     ≡ record { decided = decided; state = state'; packets = d.packets; reports = reports; end = None }
-    → HasWritten before output' d.packets reports → AppendsOnce (first_link (wholes_of (us ++ s ∷ vs))) (progress_of d) (record { decided = decided; state = state'; packets = d.packets; reports = reports; end = None }) output output' → form_at output' ≡ form_at output → failures_to output'.target ≡ failures_to output.target
+    → HasWrittenTo before names output' d.packets reports → AppendsOnce (form_to names output) (first_link (wholes_of (us ++ s ∷ vs))) (progress_of d) (record { decided = decided; state = state'; packets = d.packets; reports = reports; end = None }) output output' → form_to names output' ≡ form_to names output → failures_to output' ≡ failures_to output
     → state'.passed ≤ decided → IsWithin decided state'.tally
-    → GoesOn d (mk (xs ++ input_after h (Ok false) s' ∷ ys) order policy state' output' decided)
-closed-goes us vs s before xs ys h s' order turn policy state output decided state' output' reports laws front at back advances limits d goes final_text once form failures passed counted =
+    → GoesOn d (mk (xs ++ input_after h (Ok false) s' ∷ ys) order policy state' names output' decided)
+closed-goes us vs s before xs ys h s' order turn policy state names output decided state' output' reports laws front at back advances limits d goes final_text once form failures passed counted =
     let found : FindsEnd h.source s' = finds s h s' (Ok false) at laws.waits advances in
-    let out = closed-out us vs s before xs ys h s' order turn policy state output decided laws front at back advances found d in
-    let w : JobProgress = progress_at (mk (xs ++ h ∷ ys) order policy state output decided) d.packets d.reports in
+    let out = closed-out us vs s before xs ys h s' order turn policy state names output decided laws front at back advances found d in
+    let w : JobProgress = progress_at (mk (xs ++ h ∷ ys) order policy state names output decided) d.packets d.reports in
     let es : List Event = laws.closed_events (kind_of s'.declared) s'.offset in
     record {
       input = turn;
@@ -157,8 +157,8 @@ closed-goes us vs s before xs ys h s' order turn policy state output decided sta
         packets = d.packets;
         reports = reports;
         progress = ap (λ (f : Form). apply_events policy f no_progress (d.events ++ es)) form
-            ∙ progress-append policy (form_at output) no_progress d.events es ∙ ap (λ (v : JobProgress). apply_events policy (form_at output) v es) d.progress
-            ∙ laws.closed_way policy (form_at output) w (kind_of s'.declared) s'.offset refl ∙ goes;
+            ∙ progress-append policy (form_to names output) no_progress d.events es ∙ ap (λ (v : JobProgress). apply_events policy (form_to names output) v es) d.progress
+            ∙ laws.closed_way policy (form_to names output) w (kind_of s'.declared) s'.offset refl ∙ goes;
         output = final_text;
         passed = passed;
         counted = counted;
@@ -192,10 +192,10 @@ pub comes-broken : (ss : List InputPast) (before : List ℕ) (m : JobState) (rs 
 comes-broken ss before m rs d new input fault offset is same device = record {
   ends = ap (λ (w : JobProgress). w.end) is;
   written =
-      same ∙ drained-text before m.output.names m.output.target d.packets d.reports d.output
+      same ∙ drained-text before m.names m.output d.packets d.reports d.output
       ∙ ap (λ (l : List ℕ). before ++ l) (sym (append-nil (output_text (output_form m) d.packets d.reports)))
       ∙ ap (λ (w : JobProgress). before ++ final_text (output_form m) (first_link rs) w) (sym is);
-  once = once-nothing (first_link rs) (progress_of d) (progress_over m rs) m.output new.output (ap (λ (w : JobProgress). w.packets) is) (ap (λ (w : JobProgress). w.reports) is) same;
+  once = once-nothing (output_form m) (first_link rs) (progress_of d) (progress_over m rs) m.output new.output (ap (λ (w : JobProgress). w.packets) is) (ap (λ (w : JobProgress). w.reports) is) same;
   device = device;
 }
 
@@ -215,19 +215,19 @@ risen s h s' fault at steps is = by_phase h.source.phase refl steps
     by_phase Ended e b = absurd (let w = b.0 in cc)
     by_phase (Failed other) e b = absurd (at.sound other e)
 
-pub broken-ends : (us vs : List InputPast) (s : InputPast) (before : List ℕ) (xs ys : List InputView) (h : InputView) (s' : SourceView) (fault : Fault) (order : PacketOrder) (turn : ℕ) (policy : Policy) (state : SelectorState) (output : JobOutputView) (decided : ℕ)
+pub broken-ends : (us vs : List InputPast) (s : InputPast) (before : List ℕ) (xs ys : List InputView) (h : InputView) (s' : SourceView) (fault : Fault) (order : PacketOrder) (turn : ℕ) (policy : Policy) (state : SelectorState) (names : List (List ℕ)) (output : Target) (decided : ℕ)
     → ReadLaws order turn xs ys h → IsNext (inputs_at order (xs ++ h ∷ ys)) (next.Read turn) → AreInputsAfter us xs → At s h → AreInputsAfter vs ys → Advances h.source.phase h.source (Err fault) s'
     → Steps h.source.phase h.source (Err fault) s'
-    → (d : PacketsDecided (us ++ s ∷ vs) before (mk (xs ++ h ∷ ys) order policy state output decided))
-    → WhyBroken d (mk (xs ++ input_after h (Err fault) s' ∷ ys) order policy state output decided) turn fault s'
-broken-ends us vs s before xs ys h s' fault order turn policy state output decided laws tells front at back advances steps d =
+    → (d : PacketsDecided (us ++ s ∷ vs) before (mk (xs ++ h ∷ ys) order policy state names output decided))
+    → WhyBroken d (mk (xs ++ input_after h (Err fault) s' ∷ ys) order policy state names output decided) turn fault s'
+broken-ends us vs s before xs ys h s' fault order turn policy state names output decided laws tells front at back advances steps d =
     let waits : h.waiting ≡ false = laws.waits in
     let found : FindsFault h.source s' fault = finds s h s' (Err fault) at waits advances in
     let P : Bool → Type 0 = λ b. IsAt s.text s.done s.packets b h.source in
     let here : IsAt s.text s.done s.packets false h.source = subst P waits at in
     elim (IsAt-fault s.text s.done s.packets h.source s' fault here found) [
       | inl faulty ↦ inl (comes-broken (us ++ s ∷ vs) before m (wholes_of (us ++ s ∷ vs)) d new turn fault s'.offset
-          (ap (λ (l : List InputItems). final_progress policy (form_at output) (sequence_of order l))
+          (ap (λ (l : List InputItems). final_progress policy (form_to names output) (sequence_of order l))
           (wholes_of-join us vs s ∙ ap (λ (r : InputItems). wholes_of us ++ r ∷ wholes_of vs) (ap (λ (i : Items). record { greatest = 0; items = i; size = length s.text }) faulty.items))
           ∙ cut-course)
           refl refl)
@@ -245,7 +245,7 @@ broken-ends us vs s before xs ys h s' fault order turn policy state output decid
           | inr full ↦ inr full
         ];
         comes = comes-broken (us ++ s ∷ vs) before m (cut_at (wholes_of (us ++ s ∷ vs)) turn (record { packets = s.packets; declared = s'.declared; ending = FaultAt fault s'.offset })) d new turn fault s'.offset
-            (ap (λ (l : List InputItems). final_progress policy (form_at output) (sequence_of order l))
+            (ap (λ (l : List InputItems). final_progress policy (form_to names output) (sequence_of order l))
             (ap (λ (l : List InputItems). cut_at l turn (record { packets = s.packets; declared = s'.declared; ending = FaultAt fault s'.offset })) (wholes_of-join us vs s)
             ∙ cut-here (wholes_of us) (wholes_of vs) (whole_input s.text) turn (record { packets = s.packets; declared = s'.declared; ending = FaultAt fault s'.offset }) (wholes_of-length us ∙ stands-length us xs front ∙ laws.here))
             ∙ cut-course)
@@ -254,10 +254,10 @@ broken-ends us vs s before xs ys h s' fault order turn policy state output decid
     ]
   where
     m : JobState
-    m = mk (xs ++ h ∷ ys) order policy state output decided
+    m = mk (xs ++ h ∷ ys) order policy state names output decided
 
     new : JobState
-    new = mk (xs ++ input_after h (Err fault) s' ∷ ys) order policy state output decided
+    new = mk (xs ++ input_after h (Err fault) s' ∷ ys) order policy state names output decided
 
     -- the future in which the input ends so
     f : Future
@@ -275,10 +275,10 @@ broken-ends us vs s before xs ys h s' fault order turn policy state output decid
     rest_as : Bool → InputItems
     rest_as b = record { greatest = h.greatest; items = after_packets (waiting_packets b h.source) f.items; size = f.size }
 
-    cut-course : final_progress policy (form_at output) (sequence_of order (wholes_of us ++ record { greatest = 0; items = record { packets = s.packets; declared = s'.declared; ending = FaultAt fault s'.offset }; size = length s.text } ∷ wholes_of vs))
+    cut-course : final_progress policy (form_to names output) (sequence_of order (wholes_of us ++ record { greatest = 0; items = record { packets = s.packets; declared = s'.declared; ending = FaultAt fault s'.offset }; size = length s.text } ∷ wholes_of vs))
         ≡ end_with (progress_at m d.packets d.reports) (FaultIn turn fault s'.offset)
     cut-course =
-        course-close policy (form_at output) _ d.events (progress_at m d.packets d.reports) (FaultIn turn fault s'.offset)
+        course-close policy (form_to names output) _ d.events (progress_at m d.packets d.reports) (FaultIn turn fault s'.offset)
         (ap (sequence_of order)
         (ap (λ (l : List Placed). wholes_of us ++ record { greatest = 0; items = record { packets = l; declared = s'.declared; ending = FaultAt fault s'.offset }; size = length s.text } ∷ wholes_of vs) (sym (append-nil s.packets))
         ∙ ap (λ b. wholes_of us ++ record { greatest = 0; items = after s.packets b; size = length s.text } ∷ wholes_of vs) (sym laws.waits)
@@ -315,22 +315,22 @@ in-turn InTurn policy is = refl
 in-turn ByTime policy is = (cc)
 
 -- the device failed at a report
-report-stops : (us vs : List InputPast) (s : InputPast) (before : List ℕ) (xs ys : List InputView) (h : InputView) (s' : SourceView) (order : PacketOrder) (turn : ℕ) (policy : Policy) (state : SelectorState) (names : List (List ℕ)) (target : Target) (decided : ℕ) (state' : SelectorState) (output' : JobOutputView) (fault : DeviceFault)
+report-stops : (us vs : List InputPast) (s : InputPast) (before : List ℕ) (xs ys : List InputView) (h : InputView) (s' : SourceView) (order : PacketOrder) (turn : ℕ) (policy : Policy) (state : SelectorState) (names : List (List ℕ)) (target : Target) (decided : ℕ) (state' : SelectorState) (output' : Target) (fault : DeviceFault)
     → (laws : ReadLaws order turn xs ys h) → IsNext (inputs_at order (xs ++ h ∷ ys)) (next.Read turn) → AreInputsAfter us xs → At s h → AreInputsAfter vs ys → Advances h.source.phase h.source (Ok false) s' → Steps h.source.phase h.source (Ok false) s'
-    → (d : PacketsDecided (us ++ s ∷ vs) before (mk (xs ++ h ∷ ys) order policy state (record { names = names; target = target }) decided))
+    → (d : PacketsDecided (us ++ s ∷ vs) before (mk (xs ++ h ∷ ys) order policy state names target decided))
     → asks_report order policy ≡ true
-    → Reports (report_text names (report_at turn (input_after h (Ok false) s') state.tally)) target (Err fault) output'.target
-    → StopsWriting d (mk (xs ++ input_after h (Ok false) s' ∷ ys) order policy state' output' decided)
+    → Reports (report_text names (report_at turn (input_after h (Ok false) s') state.tally)) target (Err fault) output'
+    → StopsWriting d (mk (xs ++ input_after h (Ok false) s' ∷ ys) order policy state' names output' decided)
 report-stops us vs s before xs ys h s' order turn policy state names (Capture sink) decided state' output' fault laws tells front at back advances steps d asks reports = absurd (let e = reports.0 in cc)
 report-stops us vs s before xs ys h s' order turn policy state names (Lines options bytes failures room) decided state' output' fault laws tells front at back advances steps d asks reports = absurd (let e = reports.0 in cc)
 report-stops us vs s before xs ys h s' order turn policy state names (Text bytes failures room) decided state' output' fault laws tells front at back advances steps d asks reports =
     let form : Form = AsReports names in
-    let output : JobOutputView = record { names = names; target = Text bytes failures room } in
+    let output : Target = Text bytes failures room in
     let h' : InputView = input_after h (Ok false) s' in
     let report : Report = report_at turn h' state.tally in
     let found : FindsEnd h.source s' = finds s h s' (Ok false) at laws.waits advances in
-    let out = closed-out us vs s before xs ys h s' order turn policy state output decided laws front at back advances found d in
-    let w : JobProgress = progress_at (mk (xs ++ h ∷ ys) order policy state output decided) d.packets d.reports in
+    let out = closed-out us vs s before xs ys h s' order turn policy state names output decided laws front at back advances found d in
+    let w : JobProgress = progress_at (mk (xs ++ h ∷ ys) order policy state names output decided) d.packets d.reports in
     let es : List Event = laws.closed_events (kind_of s'.declared) s'.offset in
     let w' : JobProgress = with_report w report in
     let ss' : List InputPast = us ++ read-out s found.passes.passed ∷ vs in
@@ -354,7 +354,7 @@ report-stops us vs s before xs ys h s' order turn policy state names (Text bytes
       steps = steps;
       is = ap (λ (l : List InputView). record { order = order; cursors = l }) (sym (set-here xs ys h h' turn laws.here));
     } in
-    let told = told-next (us ++ s ∷ vs) before (mk (xs ++ h ∷ ys) order policy state output decided) (mk hs' order policy state' output' decided) own d (
+    let told = told-next (us ++ s ∷ vs) before (mk (xs ++ h ∷ ys) order policy state names output decided) (mk hs' order policy state' names output' decided) own d (
     inr (inl (record {
       input = turn;
       next = next-is-of (inputs_at order (xs ++ h ∷ ys)) (next.Read turn) tells;
@@ -385,34 +385,34 @@ report-stops us vs s before xs ys h s' order turn policy state names (Text bytes
       stops = (let S : Target → Type 0 = λ t. Stops bytes own (written_to t) in subst S (sym reports.is) reports.appends);
     }
 
-closed-core : (us vs : List InputPast) (s : InputPast) (before : List ℕ) (xs ys : List InputView) (h : InputView) (s' : SourceView) (order : PacketOrder) (turn : ℕ) (policy : Policy) (state : SelectorState) (output : JobOutputView) (decided : ℕ) (r : Option JobEnd) (selector' : PolicyState) (output' : JobOutputView)
+closed-core : (us vs : List InputPast) (s : InputPast) (before : List ℕ) (xs ys : List InputView) (h : InputView) (s' : SourceView) (order : PacketOrder) (turn : ℕ) (policy : Policy) (state : SelectorState) (names : List (List ℕ)) (output : Target) (decided : ℕ) (r : Option JobEnd) (selector' : PolicyState) (output' : Target)
     → (laws : ReadLaws order turn xs ys h) → IsNext (inputs_at order (xs ++ h ∷ ys)) (next.Read turn) → AreInputsAfter us xs → At s h → AreInputsAfter vs ys → Advances h.source.phase h.source (Ok false) s' → Steps h.source.phase h.source (Ok false) s'
-    → (d : PacketsDecided (us ++ s ∷ vs) before (mk (xs ++ h ∷ ys) order policy state output decided))
-    → (b : Bool) → asks_report order policy ≡ b → ClosesBy b turn (input_after h (Ok false) s') (sieve (record { policy = policy; state = state }) output) r (sieve selector' output')
-    → StepLeaves d r (mk (xs ++ input_after h (Ok false) s' ∷ ys) order policy selector'.state output' decided)
-closed-core us vs s before xs ys h s' order turn policy state output decided r selector' output' laws tells front at back advances steps d false asks by =
+    → (d : PacketsDecided (us ++ s ∷ vs) before (mk (xs ++ h ∷ ys) order policy state names output decided))
+    → (b : Bool) → asks_report order policy ≡ b → ClosesBy b names turn (input_after h (Ok false) s') (sieve (record { policy = policy; state = state }) output) r (sieve selector' output')
+    → StepLeaves d r (mk (xs ++ input_after h (Ok false) s' ∷ ys) order policy selector'.state names output' decided)
+closed-core us vs s before xs ys h s' order turn policy state names output decided r selector' output' laws tells front at back advances steps d false asks by =
     rw (by.0, by.1, by.2)
-    (closed-goes us vs s before xs ys h s' order turn policy state output decided state output d.reports laws front at back advances (limits-kept h.source s' false steps advances) d
-    (quiet-closed order policy (progress_at (mk (xs ++ h ∷ ys) order policy state output decided) d.packets d.reports) turn (kind_of s'.declared) s'.offset asks)
-    d.output (once-nothing (first_link (wholes_of (us ++ s ∷ vs))) (progress_of d) (progress_of d) output output refl refl refl) refl refl d.passed d.counted)
-closed-core us vs s before xs ys h s' order turn policy state output decided r selector' output' laws tells front at back advances steps d true asks by =
-    rw (by.is, by.selector_is) (by_answer by.answer by.names by.reports)
+    (closed-goes us vs s before xs ys h s' order turn policy state names output decided state output d.reports laws front at back advances (limits-kept h.source s' false steps advances) d
+    (quiet-closed order policy (progress_at (mk (xs ++ h ∷ ys) order policy state names output decided) d.packets d.reports) turn (kind_of s'.declared) s'.offset asks)
+    d.output (once-nothing (form_to names output) (first_link (wholes_of (us ++ s ∷ vs))) (progress_of d) (progress_of d) output output refl refl refl) refl refl d.passed d.counted)
+closed-core us vs s before xs ys h s' order turn policy state names output decided r selector' output' laws tells front at back advances steps d true asks by =
+    rw (by.is, by.selector_is) (by_answer by.answer by.reports)
   where
     old : JobState
-    old = mk (xs ++ h ∷ ys) order policy state output decided
+    old = mk (xs ++ h ∷ ys) order policy state names output decided
 
     report : Report
     report = report_at turn (input_after h (Ok false) s') state.tally
 
-    by_answer : (answer : Result (Unit {0}) DeviceFault) → output'.names ≡ output.names → Reports (report_text output.names report) output.target answer output'.target
-        → StepLeaves d (unless_failed answer) (mk (xs ++ input_after h (Ok false) s' ∷ ys) order policy (with_empty_tally state) output' decided)
-    by_answer (Ok done) names reports =
-        let ok : ReportOk before d.packets d.reports report output.names output'.names output.target output'.target =
-        report-ok before d.packets d.reports report output.names output'.names output.target output'.target names d.output reports in
-        closed-goes us vs s before xs ys h s' order turn policy state output decided (with_empty_tally state) output' (d.reports ++ report ∷ []) laws front at back advances (limits-kept h.source s' false steps advances) d
+    by_answer : (answer : Result (Unit {0}) DeviceFault) → Reports (report_text names report) output answer output'
+        → StepLeaves d (unless_failed answer) (mk (xs ++ input_after h (Ok false) s' ∷ ys) order policy (with_empty_tally state) names output' decided)
+    by_answer (Ok done) reports =
+        let ok : ReportOk before d.packets d.reports report names output output' =
+        report-ok before d.packets d.reports report names output output' d.output reports in
+        closed-goes us vs s before xs ys h s' order turn policy state names output decided (with_empty_tally state) output' (d.reports ++ report ∷ []) laws front at back advances (limits-kept h.source s' false steps advances) d
         (told-closed order policy (progress_at old d.packets d.reports) turn (kind_of s'.declared) s'.offset asks)
-        ok.output (once-report (first_link (wholes_of (us ++ s ∷ vs))) before (progress_of d) (with_report (progress_of d) report) output output' report d.output ok.output ok.form refl refl) ok.form ok.failures d.passed (omega arith, omega arith, omega arith)
-    by_answer (Err fault) names reports = report-stops us vs s before xs ys h s' order turn policy state output.names output.target decided (with_empty_tally state) output' fault laws tells front at back advances steps d asks reports
+        ok.output (once-report (first_link (wholes_of (us ++ s ∷ vs))) before (progress_of d) (with_report (progress_of d) report) names output output' report d.output ok.output ok.form refl refl) ok.form ok.failures d.passed (omega arith, omega arith, omega arith)
+    by_answer (Err fault) reports = report-stops us vs s before xs ys h s' order turn policy state names output decided (with_empty_tally state) output' fault laws tells front at back advances steps d asks reports
 
 -- ---- all of them
 
@@ -422,37 +422,37 @@ FetchLeaves {ss} {before} {old} d i (Ok false) r new = StepLeaves d r new
 FetchLeaves {ss} {before} {old} d i (Err fault) r new = BreaksAt d new i fault
 
 -- what is made of an answer: at its end an input is closed, and else the rest stays
-abbrev pub Follows : Result Bool Fault → InputsView → ℕ → PolicyState → JobOutputView → Option JobEnd → PolicyState → JobOutputView → Type 0
-Follows (Ok true) inputs i selector old r selector' new = (selector' ≡ selector) × (new ≡ old)
-Follows (Ok false) inputs i selector old r selector' new = Closes inputs i (sieve selector old) r (sieve selector' new)
-Follows (Err fault) inputs i selector old r selector' new = (selector' ≡ selector) × (new ≡ old)
+abbrev pub Follows : Result Bool Fault → List (List ℕ) → InputsView → ℕ → PolicyState → Target → Option JobEnd → PolicyState → Target → Type 0
+Follows (Ok true) names inputs i selector old r selector' new = (selector' ≡ selector) × (new ≡ old)
+Follows (Ok false) names inputs i selector old r selector' new = Closes names inputs i (sieve selector old) r (sieve selector' new)
+Follows (Err fault) names inputs i selector old r selector' new = (selector' ≡ selector) × (new ≡ old)
 
-read_input-core : (us vs : List InputPast) (s : InputPast) (before : List ℕ) (xs ys : List InputView) (h : InputView) (s' : SourceView) (a : Result Bool Fault) (order : PacketOrder) (turn : ℕ) (policy : Policy) (state : SelectorState) (output : JobOutputView) (decided : ℕ) (r : Option JobEnd) (selector' : PolicyState) (output' : JobOutputView)
+read_input-core : (us vs : List InputPast) (s : InputPast) (before : List ℕ) (xs ys : List InputView) (h : InputView) (s' : SourceView) (a : Result Bool Fault) (order : PacketOrder) (turn : ℕ) (policy : Policy) (state : SelectorState) (names : List (List ℕ)) (output : Target) (decided : ℕ) (r : Option JobEnd) (selector' : PolicyState) (output' : Target)
     → ReadLaws order turn xs ys h → IsNext (inputs_at order (xs ++ h ∷ ys)) (next.Read turn) → AreInputsAfter us xs → At s h → AreInputsAfter vs ys → Advances h.source.phase h.source a s' → Steps h.source.phase h.source a s'
-    → (d : PacketsDecided (us ++ s ∷ vs) before (mk (xs ++ h ∷ ys) order policy state output decided))
-    → Follows a (record { order = order; cursors = xs ++ input_after h a s' ∷ ys }) turn (record { policy = policy; state = state }) output r selector' output'
-    → FetchLeaves d turn a r (mk (xs ++ input_after h a s' ∷ ys) order policy selector'.state output' decided)
-read_input-core us vs s before xs ys h s' (Ok true) order turn policy state output decided r selector' output' laws tells front at back advances steps d follows =
-    rw (follows.0, follows.1) (found-goes us vs s before xs ys h s' order turn policy state output decided laws front at back advances (limits-kept h.source s' true steps advances) d)
-read_input-core us vs s before xs ys h s' (Ok false) order turn policy state output decided r selector' output' laws tells front at back advances steps d follows =
+    → (d : PacketsDecided (us ++ s ∷ vs) before (mk (xs ++ h ∷ ys) order policy state names output decided))
+    → Follows a names (record { order = order; cursors = xs ++ input_after h a s' ∷ ys }) turn (record { policy = policy; state = state }) output r selector' output'
+    → FetchLeaves d turn a r (mk (xs ++ input_after h a s' ∷ ys) order policy selector'.state names output' decided)
+read_input-core us vs s before xs ys h s' (Ok true) order turn policy state names output decided r selector' output' laws tells front at back advances steps d follows =
+    rw (follows.0, follows.1) (found-goes us vs s before xs ys h s' order turn policy state names output decided laws front at back advances (limits-kept h.source s' true steps advances) d)
+read_input-core us vs s before xs ys h s' (Ok false) order turn policy state names output decided r selector' output' laws tells front at back advances steps d follows =
     let h' : InputView = input_after h (Ok false) s' in
     let same : follows.cursor ≡ h' = (let e = sym follows.among ∙ get-at xs ys h' turn laws.here in cc) in
-    let P : InputView → Type 0 = λ v. ClosesBy (asks_report order policy) turn v (sieve (record { policy = policy; state = state }) output) r (sieve selector' output') in
-    let Q : PacketOrder → Type 0 = λ o. ClosesBy (asks_report o policy) turn h' (sieve (record { policy = policy; state = state }) output) r (sieve selector' output') in
-    closed-core us vs s before xs ys h s' order turn policy state output decided r selector' output' laws tells front at back advances steps d (asks_report order policy) refl
+    let P : InputView → Type 0 = λ v. ClosesBy (asks_report order policy) names turn v (sieve (record { policy = policy; state = state }) output) r (sieve selector' output') in
+    let Q : PacketOrder → Type 0 = λ o. ClosesBy (asks_report o policy) names turn h' (sieve (record { policy = policy; state = state }) output) r (sieve selector' output') in
+    closed-core us vs s before xs ys h s' order turn policy state names output decided r selector' output' laws tells front at back advances steps d (asks_report order policy) refl
     (subst P same follows.by)
-read_input-core us vs s before xs ys h s' (Err fault) order turn policy state output decided r selector' output' laws tells front at back advances steps d follows = rw (follows.0, follows.1) (record {
+read_input-core us vs s before xs ys h s' (Err fault) order turn policy state names output decided r selector' output' laws tells front at back advances steps d follows = rw (follows.0, follows.1) (record {
   cursor = input_after h (Err fault) s';
   among = get-at xs ys (input_after h (Err fault) s') turn laws.here;
-  why = broken-ends us vs s before xs ys h s' fault order turn policy state output decided laws tells front at back advances steps d;
+  why = broken-ends us vs s before xs ys h s' fault order turn policy state names output decided laws tells front at back advances steps d;
 })
 
 -- one input taken out of a step's premises
-pub read_input-leaves : (ss : List InputPast) (before : List ℕ) (cursors : List InputView) (order : PacketOrder) (policy : Policy) (state : SelectorState) (output : JobOutputView) (decided : ℕ) (i : ℕ) (a : Result Bool Fault) (inputs' : InputsView) (r : Option JobEnd) (selector' : PolicyState) (output' : JobOutputView)
-    → IsNext (inputs_at order cursors) (next.Read i) → ReadsInput (record { order = order; cursors = cursors }) i a inputs' → (d : PacketsDecided ss before (mk cursors order policy state output decided))
-    → Follows a inputs' i (record { policy = policy; state = state }) output r selector' output'
-    → FetchLeaves d i a r (mk inputs'.cursors inputs'.order policy selector'.state output' decided)
-read_input-leaves ss before cursors order policy state output decided i a inputs' r selector' output' tells fetches d follows =
+pub read_input-leaves : (ss : List InputPast) (before : List ℕ) (cursors : List InputView) (order : PacketOrder) (policy : Policy) (state : SelectorState) (names : List (List ℕ)) (output : Target) (decided : ℕ) (i : ℕ) (a : Result Bool Fault) (inputs' : InputsView) (r : Option JobEnd) (selector' : PolicyState) (output' : Target)
+    → IsNext (inputs_at order cursors) (next.Read i) → ReadsInput (record { order = order; cursors = cursors }) i a inputs' → (d : PacketsDecided ss before (mk cursors order policy state names output decided))
+    → Follows a names inputs' i (record { policy = policy; state = state }) output r selector' output'
+    → FetchLeaves d i a r (mk inputs'.cursors inputs'.order policy selector'.state names output' decided)
+read_input-leaves ss before cursors order policy state names output decided i a inputs' r selector' output' tells fetches d follows =
     let at : ReadAt order cursors i = read-at order ss cursors i tells d.following in
     let m = at.among in
     let h = at.cursor in
@@ -465,34 +465,34 @@ read_input-leaves ss before cursors order policy state output decided i a inputs
     let feed'_is : inputs' ≡ record { order = order; cursors = m.front ++ h' ∷ m.back } =
     fetches.is ∙ ap (λ (v : InputView). record { order = order; cursors = slice_set cursors i (input_after v a fetches.source) }) same
     ∙ ap (λ (l : List InputView). record { order = order; cursors = l }) cursors' in
-    let F : InputsView → Type 0 = λ f. Follows a f i (record { policy = policy; state = state }) output r selector' output' in
-    let D : List InputView → Type 0 = λ l. PacketsDecided ss before (mk l order policy state output decided) in
+    let F : InputsView → Type 0 = λ f. Follows a names f i (record { policy = policy; state = state }) output r selector' output' in
+    let D : List InputView → Type 0 = λ l. PacketsDecided ss before (mk l order policy state names output decided) in
     let T : List InputView → Type 0 = λ l. IsNext (inputs_at order l) (next.Read i) in
     let d' = subst D m.splits d in
     let st = stands-split ss m.front m.back h d'.following in
-    let new : JobState = mk (m.front ++ h' ∷ m.back) order policy selector'.state output' decided in
-    let core : (e : PacketsDecided (st.front ++ st.here ∷ st.back) before (mk (m.front ++ h ∷ m.back) order policy state output decided)) → FetchLeaves e i a r new = λ e.
-    read_input-core st.front st.back st.here before m.front m.back h fetches.source a order i policy state output decided r selector' output' at.laws (subst T m.splits tells) st.before st.at st.following (subst A same fetches.advances) (subst S same fetches.steps) e (subst F feed'_is follows) in
-    let G : List InputPast → Type 0 = λ l. (e : PacketsDecided l before (mk (m.front ++ h ∷ m.back) order policy state output decided)) → FetchLeaves e i a r new in
-    let H : List InputView → Type 0 = λ l. (e : PacketsDecided ss before (mk l order policy state output decided)) → FetchLeaves e i a r new in
-    let N : InputsView → Type 0 = λ f. FetchLeaves d i a r (mk f.cursors f.order policy selector'.state output' decided) in
+    let new : JobState = mk (m.front ++ h' ∷ m.back) order policy selector'.state names output' decided in
+    let core : (e : PacketsDecided (st.front ++ st.here ∷ st.back) before (mk (m.front ++ h ∷ m.back) order policy state names output decided)) → FetchLeaves e i a r new = λ e.
+    read_input-core st.front st.back st.here before m.front m.back h fetches.source a order i policy state names output decided r selector' output' at.laws (subst T m.splits tells) st.before st.at st.following (subst A same fetches.advances) (subst S same fetches.steps) e (subst F feed'_is follows) in
+    let G : List InputPast → Type 0 = λ l. (e : PacketsDecided l before (mk (m.front ++ h ∷ m.back) order policy state names output decided)) → FetchLeaves e i a r new in
+    let H : List InputView → Type 0 = λ l. (e : PacketsDecided ss before (mk l order policy state names output decided)) → FetchLeaves e i a r new in
+    let N : InputsView → Type 0 = λ f. FetchLeaves d i a r (mk f.cursors f.order policy selector'.state names output' decided) in
     let whole_input : H cursors = subst H (sym m.splits) (subst G (sym st.is) core) in
     subst N (sym feed'_is) (whole_input d)
 
 -- ---- an input is closed
 
-pub closes-by : (order : PacketOrder) (input : ℕ) (cursor : InputView) (selector selector' : PolicyState) (output output' : JobOutputView) (r : Option JobEnd) (tally : Tally) (report : Report) (answer : Result (Unit {0}) DeviceFault) → is_in_turn order ≡ true
-    → selecting_inside.TakesTally (is_count selector.policy) selector (Some tally) selector' → report ≡ report_at input cursor tally → Reports (report_text output.names report) output.target answer output'.target → output'.names ≡ output.names → r ≡ unless_failed answer
-    → ClosesBy (asks_report order selector.policy) input cursor (sieve selector output) r (sieve selector' output')
-closes-by ByTime input cursor selector selector' output output' r tally report answer turn taken is reports names ends = (cc)
-closes-by InTurn input cursor selector selector' output output' r tally report answer here taken is reports names ends = by_count (is_count selector.policy) taken
+pub closes-by : (order : PacketOrder) (input : ℕ) (cursor : InputView) (selector selector' : PolicyState) (names : List (List ℕ)) (output output' : Target) (r : Option JobEnd) (tally : Tally) (report : Report) (answer : Result (Unit {0}) DeviceFault) → is_in_turn order ≡ true
+    → selecting_inside.TakesTally (is_count selector.policy) selector (Some tally) selector' → report ≡ report_at input cursor tally → Reports (report_text names report) output answer output' → r ≡ unless_failed answer
+    → ClosesBy (asks_report order selector.policy) names input cursor (sieve selector output) r (sieve selector' output')
+closes-by ByTime input cursor selector selector' names output output' r tally report answer turn taken is reports ends = (cc)
+closes-by InTurn input cursor selector selector' names output output' r tally report answer here taken is reports ends = by_count (is_count selector.policy) taken
   where
-    by_count : (b : Bool) → selecting_inside.TakesTally b selector (Some tally) selector' → ClosesBy b input cursor (sieve selector output) r (sieve selector' output')
+    by_count : (b : Bool) → selecting_inside.TakesTally b selector (Some tally) selector' → ClosesBy b names input cursor (sieve selector output) r (sieve selector' output')
     by_count false taken = absurd (let e = taken.0 in cc)
     by_count true taken =
         let same : tally ≡ selector.state.tally = (let e = taken.0 in cc) in
-        let P : Report → Type 0 = λ v. Reports (report_text output.names v) output.target answer output'.target in
-        record { answer = answer; reports = subst P (is ∙ ap (report_at input cursor) same) reports; names = names; is = ends; selector_is = taken.1 }
+        let P : Report → Type 0 = λ v. Reports (report_text names v) output answer output' in
+        record { answer = answer; reports = subst P (is ∙ ap (report_at input cursor) same) reports; is = ends; selector_is = taken.1 }
 
 -- what was counted is taken of an input that is reported alone
 pub counted : (order : PacketOrder) (policy : Policy) (selector selector' : PolicyState) (tally : Tally) → is_in_turn order ≡ true → selecting_inside.TakesTally (is_count policy) selector (Some tally) selector' → asks_report order policy ≡ false → ⊥
@@ -502,15 +502,15 @@ counted InTurn policy selector selector' tally here taken none =
     let e = (subst C none taken).0 in cc
 
 -- where the inputs are merged, or packets aren't counted, nothing is reported
-pub unreported : (order : PacketOrder) (input : ℕ) (cursor : InputView) (selector : PolicyState) (output : JobOutputView) → is_in_turn order ≡ false → ClosesBy (asks_report order selector.policy) input cursor (sieve selector output) None (sieve selector output)
-unreported InTurn input cursor selector output merged = (cc)
-unreported ByTime input cursor selector output merged = (refl, refl, refl)
+pub unreported : (order : PacketOrder) (input : ℕ) (cursor : InputView) (selector : PolicyState) (names : List (List ℕ)) (output : Target) → is_in_turn order ≡ false → ClosesBy (asks_report order selector.policy) names input cursor (sieve selector output) None (sieve selector output)
+unreported InTurn input cursor selector names output merged = (cc)
+unreported ByTime input cursor selector names output merged = (refl, refl, refl)
 
-pub uncounted : (order : PacketOrder) (input : ℕ) (cursor : InputView) (selector selector' : PolicyState) (output : JobOutputView) → is_in_turn order ≡ true → selecting_inside.TakesTally (is_count selector.policy) selector None selector'
-    → ClosesBy (asks_report order selector.policy) input cursor (sieve selector output) None (sieve selector' output)
-uncounted ByTime input cursor selector selector' output turn taken = (cc)
-uncounted InTurn input cursor selector selector' output turn taken = by_count (is_count selector.policy) taken
+pub uncounted : (order : PacketOrder) (input : ℕ) (cursor : InputView) (selector selector' : PolicyState) (names : List (List ℕ)) (output : Target) → is_in_turn order ≡ true → selecting_inside.TakesTally (is_count selector.policy) selector None selector'
+    → ClosesBy (asks_report order selector.policy) names input cursor (sieve selector output) None (sieve selector' output)
+uncounted ByTime input cursor selector selector' names output turn taken = (cc)
+uncounted InTurn input cursor selector selector' names output turn taken = by_count (is_count selector.policy) taken
   where
-    by_count : (b : Bool) → selecting_inside.TakesTally b selector None selector' → ClosesBy b input cursor (sieve selector output) None (sieve selector' output)
+    by_count : (b : Bool) → selecting_inside.TakesTally b selector None selector' → ClosesBy b names input cursor (sieve selector output) None (sieve selector' output)
     by_count false taken = (refl, taken.1, refl)
     by_count true taken = absurd (let e = taken.0 in cc)

@@ -17,8 +17,8 @@ use Rattle.cap_process.specs.Reports.{Report}
 use Rattle.cap_io.specs.Sequence.{Event, InputItems, Complete, sequence_of, with_front, PacketOrder}
 use Rattle.cap_process.specs.Verdict.{Policy, SelectorState}
 use Rattle.cap_process.specs.Outcome.{Form, AsCapture, JobProgress, closing_text, final_progress, lines_text, end_with, final_text, first_link}
-use Rattle.cap_process.specs.Output.{JobOutputView, Target, Capture, Text, Lines, HasWrittenTo, form_to, written_to, failures_to}
-use Rattle.cap_process.specs.inside.Output.{form_at, EndsOutput, FinishesInto}
+use Rattle.cap_process.specs.Output.{Target, Capture, Text, Lines, HasWrittenTo, form_to, written_to, failures_to}
+use Rattle.cap_process.specs.inside.Output.{EndsOutput, FinishesInto}
 use Rattle.cap_inputs.specs.Inputs.{InputView, Future, InputPast, AreInputsAfter}
 use Rattle.cap_inputs.specs.inside.Inputs.{IsNext, AllEnded, actual_future, first_declared_link}
 use Rattle.cap_inputs.proofs.Nexts.{next-is-of}
@@ -32,20 +32,20 @@ use Rattle.cap_tools.proofs.Laws.{OverAt, over-at}
 use Rattle.cap_tools.proofs.Fetches.{mk, inputs_at}
 use Rattle.cap_tools.proofs.Once.{once-closing}
 
-pub over-course : (ss : List InputPast) (before : List ℕ) (cursors : List InputView) (order : PacketOrder) (policy : Policy) (state : SelectorState) (output : JobOutputView) (decided : ℕ) → OverAt order cursors → (d : PacketsDecided ss before (mk cursors order policy state output decided))
-    → final_progress policy (form_at output) (sequence_of order (wholes_of ss)) ≡ end_with (progress_at (mk cursors order policy state output decided) d.packets d.reports) Complete
-over-course ss before cursors order policy state output decided at d =
+pub over-course : (ss : List InputPast) (before : List ℕ) (cursors : List InputView) (order : PacketOrder) (policy : Policy) (state : SelectorState) (names : List (List ℕ)) (output : Target) (decided : ℕ) → OverAt order cursors → (d : PacketsDecided ss before (mk cursors order policy state names output decided))
+    → final_progress policy (form_to names output) (sequence_of order (wholes_of ss)) ≡ end_with (progress_at (mk cursors order policy state names output decided) d.packets d.reports) Complete
+over-course ss before cursors order policy state names output decided at d =
     let fits = true-fits ss cursors d.following in
-    course-close policy (form_at output) (sequence_of order (wholes_of ss)) d.events (progress_at (mk cursors order policy state output decided) d.packets d.reports) Complete
+    course-close policy (form_to names output) (sequence_of order (wholes_of ss)) d.events (progress_at (mk cursors order policy state names output decided) d.packets d.reports) Complete
     (ap (sequence_of order) (sym (true-wholes ss cursors d.following))
     ∙ d.come (map (λ (h : InputView). actual_future h.source) cursors) fits
     ∙ ap (with_front d.events) (at.over_left (map (λ (h : InputView). actual_future h.source) cursors) fits))
     d.progress refl
 
 -- all events came
-over-all : (ss : List InputPast) (before : List ℕ) (cursors : List InputView) (order : PacketOrder) (policy : Policy) (state : SelectorState) (output : JobOutputView) (decided : ℕ) → OverAt order cursors → (d : PacketsDecided ss before (mk cursors order policy state output decided))
+over-all : (ss : List InputPast) (before : List ℕ) (cursors : List InputView) (order : PacketOrder) (policy : Policy) (state : SelectorState) (names : List (List ℕ)) (output : Target) (decided : ℕ) → OverAt order cursors → (d : PacketsDecided ss before (mk cursors order policy state names output decided))
     → sequence_of order (wholes_of ss) ≡ record { events = d.events; end = Complete }
-over-all ss before cursors order policy state output decided at d =
+over-all ss before cursors order policy state names output decided at d =
     let fits = true-fits ss cursors d.following in
     ap (sequence_of order) (sym (true-wholes ss cursors d.following))
     ∙ d.come (map (λ (h : InputView). actual_future h.source) cursors) fits
@@ -121,20 +121,20 @@ finish-empty before sink [] link fault new has finishes =
     }
 
 finish-stops : (ss : List InputPast) (before : List ℕ) (names : List (List ℕ)) (target : Target) (cursors : List InputView) (order : PacketOrder) (policy : Policy) (state : SelectorState) (decided : ℕ) (fault : DeviceFault) (new : JobState)
-    → (d : PacketsDecided ss before (mk cursors order policy state (record { names = names; target = target }) decided))
-    → final_progress policy (form_to names target) (sequence_of order (wholes_of ss)) ≡ over (mk cursors order policy state (record { names = names; target = target }) decided) d.packets d.reports
+    → (d : PacketsDecided ss before (mk cursors order policy state names target decided))
+    → final_progress policy (form_to names target) (sequence_of order (wholes_of ss)) ≡ over (mk cursors order policy state names target decided) d.packets d.reports
     → sequence_of order (wholes_of ss) ≡ record { events = d.events; end = Complete }
-    → first_link (wholes_of ss) ≡ first_declared_link cursors → IsNext (inputs_at order cursors) next.Finish → new.inputs ≡ record { order = order; cursors = cursors } → EndsOutput (first_declared_link cursors) target (Err fault) new.output.target
+    → first_link (wholes_of ss) ≡ first_declared_link cursors → IsNext (inputs_at order cursors) next.Finish → new.inputs ≡ record { order = order; cursors = cursors } → EndsOutput (first_declared_link cursors) target (Err fault) new.output
     → StopsWriting d new
 finish-stops ss before names (Text bytes failures room) cursors order policy state decided fault new d stop all link tells inputs finishes = absurd (let e = finishes.0 in cc)
 finish-stops ss before names (Lines options bytes failures room) cursors order policy state decided fault new d stop all link tells inputs finishes = absurd (let e = finishes.0 in cc)
 finish-stops ss before names (Capture sink) cursors order policy state decided fault new d stop all link tells inputs finishes =
     let form : Form = AsCapture sink.format in
-    let empty : StopsEmpty before sink d.packets (first_declared_link cursors) new.output.target = finish-empty before sink d.packets (first_declared_link cursors) finishes.0 new.output.target d.output finishes.1 in
+    let empty : StopsEmpty before sink d.packets (first_declared_link cursors) new.output = finish-empty before sink d.packets (first_declared_link cursors) finishes.0 new.output d.output finishes.1 in
     let bytes : List ℕ = file_start sink.format (link_or_ethernet (first_declared_link cursors)) in
     let closing_is : bytes ≡ closing_text form (first_link (wholes_of ss)) d.packets =
     ap (λ (o : Option ℕ). file_start sink.format (link_or_ethernet o)) (sym link) ∙ ap (closing_text form (first_link (wholes_of ss))) (sym empty.none) in
-    let told = told-next ss before (mk cursors order policy state (record { names = names; target = Capture sink }) decided) new bytes d (inr (inr (record { next = next-is-of (inputs_at order cursors) next.Finish tells; comes = record { is = all; goes = ap (λ (w : JobProgress). w.end) d.progress }; bytes_are = closing_is; inputs = inputs }))) in
+    let told = told-next ss before (mk cursors order policy state names (Capture sink) decided) new bytes d (inr (inr (record { next = next-is-of (inputs_at order cursors) next.Finish tells; comes = record { is = all; goes = ap (λ (w : JobProgress). w.end) d.progress }; bytes_are = closing_is; inputs = inputs }))) in
     record {
       failures = empty.failures;
       event = told.event;
@@ -149,25 +149,25 @@ finish-stops ss before names (Capture sink) cursors order policy state decided f
       stops = empty.stops;
     }
 
-pub finish-leaves : (ss : List InputPast) (before : List ℕ) (cursors : List InputView) (order : PacketOrder) (policy : Policy) (state : SelectorState) (output : JobOutputView) (decided : ℕ) (r : Result (Unit {0}) DeviceFault) (new : JobState)
-    → IsNext (inputs_at order cursors) next.Finish → new.inputs ≡ record { order = order; cursors = cursors } → EndsOutput (first_declared_link cursors) output.target r new.output.target → (d : PacketsDecided ss before (mk cursors order policy state output decided))
+pub finish-leaves : (ss : List InputPast) (before : List ℕ) (cursors : List InputView) (order : PacketOrder) (policy : Policy) (state : SelectorState) (names : List (List ℕ)) (output : Target) (decided : ℕ) (r : Result (Unit {0}) DeviceFault) (new : JobState)
+    → IsNext (inputs_at order cursors) next.Finish → new.inputs ≡ record { order = order; cursors = cursors } → EndsOutput (first_declared_link cursors) output r new.output → (d : PacketsDecided ss before (mk cursors order policy state names output decided))
     → FinishLeaves d r new
-finish-leaves ss before cursors order policy state output decided (Ok done) new tells inputs finishes d =
+finish-leaves ss before cursors order policy state names output decided (Ok done) new tells inputs finishes d =
     let at : OverAt order cursors = over-at order cursors tells in
-    let m : JobState = mk cursors order policy state output decided in
-    let stop = over-course ss before cursors order policy state output decided at d in
+    let m : JobState = mk cursors order policy state names output decided in
+    let stop = over-course ss before cursors order policy state names output decided at d in
     let link = links ss cursors d.following at.ended in
-    let text_is : written_to new.output.target ≡ before ++ final_text (form_at output) (first_link (wholes_of ss)) (over m d.packets d.reports) =
-    finish-text before output.names d.packets d.reports decided state output.target new.output.target (first_declared_link cursors) d.output finishes
-    ∙ ap (λ (o : Option ℕ). before ++ final_text (form_at output) o (over m d.packets d.reports)) (sym link) in
+    let text_is : written_to new.output ≡ before ++ final_text (form_to names output) (first_link (wholes_of ss)) (over m d.packets d.reports) =
+    finish-text before names d.packets d.reports decided state output new.output (first_declared_link cursors) d.output finishes
+    ∙ ap (λ (o : Option ℕ). before ++ final_text (form_to names output) o (over m d.packets d.reports)) (sym link) in
     record {
       ends = ap (λ (w : JobProgress). w.end) stop;
-      written = text_is ∙ ap (λ (w : JobProgress). before ++ final_text (form_at output) (first_link (wholes_of ss)) w) (sym stop);
-      once = once-closing (first_link (wholes_of ss)) before (progress_of d) (progress_over m (wholes_of ss)) output new.output d.output text_is
+      written = text_is ∙ ap (λ (w : JobProgress). before ++ final_text (form_to names output) (first_link (wholes_of ss)) w) (sym stop);
+      once = once-closing (first_link (wholes_of ss)) before (progress_of d) (progress_over m (wholes_of ss)) names output new.output d.output text_is
           (ap (λ (w : JobProgress). w.packets) stop) (ap (λ (w : JobProgress). w.reports) stop) (ap (λ (w : JobProgress). w.end) stop);
-      device = finish-device before output.names d.packets d.reports output.target new.output.target (first_declared_link cursors) d.output finishes;
+      device = finish-device before names d.packets d.reports output new.output (first_declared_link cursors) d.output finishes;
     }
-finish-leaves ss before cursors order policy state output decided (Err fault) new tells inputs finishes d =
+finish-leaves ss before cursors order policy state names output decided (Err fault) new tells inputs finishes d =
     let at : OverAt order cursors = over-at order cursors tells in
-    finish-stops ss before output.names output.target cursors order policy state decided fault new d
-    (over-course ss before cursors order policy state output decided at d) (over-all ss before cursors order policy state output decided at d) (links ss cursors d.following at.ended) tells inputs finishes
+    finish-stops ss before names output cursors order policy state decided fault new d
+    (over-course ss before cursors order policy state names output decided at d) (over-all ss before cursors order policy state names output decided at d) (links ss cursors d.following at.ended) tells inputs finishes

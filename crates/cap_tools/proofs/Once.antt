@@ -7,23 +7,22 @@ use Rattle.cap_io.specs.Text.{added_text, text}
 use Rattle.cap_io.specs.Sequence.{Complete}
 use Rattle.cap_process.specs.Reports.{Report, report_text, reports_text}
 use Rattle.cap_process.specs.Outcome.{Form, AsCapture, AsReports, AsLines, JobProgress, closing_text, packet_bytes, report_bytes, output_text}
-use Rattle.cap_process.specs.Output.{JobOutputView, written_to}
-use Rattle.cap_process.specs.inside.Output.{HasWritten, form_at}
+use Rattle.cap_process.specs.Output.{Target, HasWrittenTo, form_to, written_to}
 use Rattle.cap_tools.specs.Packets.{AppendsOnce, nothing, packet, report, closes}
 use Rattle.cap_process.proofs.Outputs.{drained-text, lines-one, reports-more}
 
-pub once-nothing : (link : Option ℕ) (far next : JobProgress) (old new : JobOutputView) → next.packets ≡ far.packets → next.reports ≡ far.reports → written_to new.target ≡ written_to old.target → AppendsOnce link far next old new
-once-nothing link far next old new packets reports same = record {
+pub once-nothing : (form : Form) (link : Option ℕ) (far next : JobProgress) (old new : Target) → next.packets ≡ far.packets → next.reports ≡ far.reports → written_to new ≡ written_to old → AppendsOnce form link far next old new
+once-nothing form link far next old new packets reports same = record {
   bytes = [];
-  appended = same ∙ sym (append-nil (written_to old.target));
+  appended = same ∙ sym (append-nil (written_to old));
   one = nothing packets reports refl;
 }
 
 -- what is written after the text of these packets and reports is appended
-appended : (before : List ℕ) (old new : JobOutputView) (ps : List Captured) (rs : List Report) (bytes : List ℕ) → HasWritten before old ps rs
-    → written_to new.target ≡ before ++ (output_text (form_at old) ps rs ++ bytes) → written_to new.target ≡ written_to old.target ++ bytes
-appended before old new ps rs bytes has is =
-    is ∙ sym (append_assoc before (output_text (form_at old) ps rs) bytes) ∙ ap (λ (l : List ℕ). l ++ bytes) (sym (drained-text before old.names old.target ps rs has))
+appended : (before : List ℕ) (names : List (List ℕ)) (old new : Target) (ps : List Captured) (rs : List Report) (bytes : List ℕ) → HasWrittenTo before names old ps rs
+    → written_to new ≡ before ++ (output_text (form_to names old) ps rs ++ bytes) → written_to new ≡ written_to old ++ bytes
+appended before names old new ps rs bytes has is =
+    is ∙ sym (append_assoc before (output_text (form_to names old) ps rs) bytes) ∙ ap (λ (l : List ℕ). l ++ bytes) (sym (drained-text before names old ps rs has))
 
 -- ---- a packet more, and a report more
 
@@ -40,34 +39,34 @@ report-more (AsReports names) ps rs r =
     ∙ ap (λ (l : List ℕ). reports_text names rs ++ l) (append-nil (report_text names r))
 report-more (AsLines options) ps rs r = sym (append-nil (output_text (AsLines options) ps rs))
 
-pub once-packet : (link : Option ℕ) (before : List ℕ) (far next : JobProgress) (old new : JobOutputView) (q : Captured) → HasWritten before old far.packets far.reports → HasWritten before new (far.packets ++ q ∷ []) far.reports → form_at new ≡ form_at old
-    → next.packets ≡ far.packets ++ q ∷ [] → next.reports ≡ far.reports → AppendsOnce link far next old new
-once-packet link before far next old new q has after same packets reports = record {
-  bytes = packet_bytes (form_at old) far.packets q;
-  appended = appended before old new far.packets far.reports (packet_bytes (form_at old) far.packets q) has
-      (drained-text before new.names new.target (far.packets ++ q ∷ []) far.reports after
+pub once-packet : (link : Option ℕ) (before : List ℕ) (far next : JobProgress) (names : List (List ℕ)) (old new : Target) (q : Captured) → HasWrittenTo before names old far.packets far.reports → HasWrittenTo before names new (far.packets ++ q ∷ []) far.reports → form_to names new ≡ form_to names old
+    → next.packets ≡ far.packets ++ q ∷ [] → next.reports ≡ far.reports → AppendsOnce (form_to names old) link far next old new
+once-packet link before far next names old new q has after same packets reports = record {
+  bytes = packet_bytes (form_to names old) far.packets q;
+  appended = appended before names old new far.packets far.reports (packet_bytes (form_to names old) far.packets q) has
+      (drained-text before names new (far.packets ++ q ∷ []) far.reports after
       ∙ ap (λ (f : Form). before ++ output_text f (far.packets ++ q ∷ []) far.reports) same
-      ∙ ap (λ (l : List ℕ). before ++ l) (packet-more (form_at old) far.packets q far.reports));
+      ∙ ap (λ (l : List ℕ). before ++ l) (packet-more (form_to names old) far.packets q far.reports));
   one = packet q packets reports refl;
 }
 
-pub once-report : (link : Option ℕ) (before : List ℕ) (far next : JobProgress) (old new : JobOutputView) (r : Report) → HasWritten before old far.packets far.reports → HasWritten before new far.packets (far.reports ++ r ∷ []) → form_at new ≡ form_at old
-    → next.packets ≡ far.packets → next.reports ≡ far.reports ++ r ∷ [] → AppendsOnce link far next old new
-once-report link before far next old new r has after same packets reports = record {
-  bytes = report_bytes (form_at old) r;
-  appended = appended before old new far.packets far.reports (report_bytes (form_at old) r) has
-      (drained-text before new.names new.target far.packets (far.reports ++ r ∷ []) after
+pub once-report : (link : Option ℕ) (before : List ℕ) (far next : JobProgress) (names : List (List ℕ)) (old new : Target) (r : Report) → HasWrittenTo before names old far.packets far.reports → HasWrittenTo before names new far.packets (far.reports ++ r ∷ []) → form_to names new ≡ form_to names old
+    → next.packets ≡ far.packets → next.reports ≡ far.reports ++ r ∷ [] → AppendsOnce (form_to names old) link far next old new
+once-report link before far next names old new r has after same packets reports = record {
+  bytes = report_bytes (form_to names old) r;
+  appended = appended before names old new far.packets far.reports (report_bytes (form_to names old) r) has
+      (drained-text before names new far.packets (far.reports ++ r ∷ []) after
       ∙ ap (λ (f : Form). before ++ output_text f far.packets (far.reports ++ r ∷ [])) same
-      ∙ ap (λ (l : List ℕ). before ++ l) (report-more (form_at old) far.packets far.reports r));
+      ∙ ap (λ (l : List ℕ). before ++ l) (report-more (form_to names old) far.packets far.reports r));
   one = report r packets reports refl;
 }
 
 -- a clean end
-pub once-closing : (link : Option ℕ) (before : List ℕ) (far next : JobProgress) (old new : JobOutputView) → HasWritten before old far.packets far.reports
-    → written_to new.target ≡ before ++ (output_text (form_at old) far.packets far.reports ++ closing_text (form_at old) link far.packets)
-    → next.packets ≡ far.packets → next.reports ≡ far.reports → next.end ≡ Some Complete → AppendsOnce link far next old new
-once-closing link before far next old new has is packets reports ends = record {
-  bytes = closing_text (form_at old) link far.packets;
-  appended = appended before old new far.packets far.reports (closing_text (form_at old) link far.packets) has is;
+pub once-closing : (link : Option ℕ) (before : List ℕ) (far next : JobProgress) (names : List (List ℕ)) (old new : Target) → HasWrittenTo before names old far.packets far.reports
+    → written_to new ≡ before ++ (output_text (form_to names old) far.packets far.reports ++ closing_text (form_to names old) link far.packets)
+    → next.packets ≡ far.packets → next.reports ≡ far.reports → next.end ≡ Some Complete → AppendsOnce (form_to names old) link far next old new
+once-closing link before far next names old new has is packets reports ends = record {
+  bytes = closing_text (form_to names old) link far.packets;
+  appended = appended before names old new far.packets far.reports (closing_text (form_to names old) link far.packets) has is;
   one = closes packets reports ends refl;
 }

@@ -34,7 +34,7 @@ pub record JobRuns (ss : List InputPast) (before : List ℕ) (tells : Bool) (fir
   pub written : r.output.written ≡ written_by last
   pub failures : r.output.failures ≡ failures_by last
   pub exact : IsTold tells first.err
-      (end_message first.state.output.names last.inputs.cursors end) r.messages
+      (end_message first.state.names last.inputs.cursors end) r.messages
   pub quiet : r.status ≡ 0 → r.messages ≡ first.err
   pub status_is : r.status ≡ end_status end
 

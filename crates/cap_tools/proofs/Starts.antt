@@ -52,7 +52,7 @@ start-greatest [] = tt
 start-greatest (o ∷ os) = (refl, start-greatest os)
 
 pub nothing-decided : (order : PacketOrder) (os : List FreshInput) (before : List ℕ) (policy : Policy) (names : List (List ℕ)) (w : Writing) (failures room : ℕ)
-    → PacketsDecided (map nothing_done os) before (mk (map fresh_view os) order policy (state_with 0 nothing_counted) (record { names = names; target = target_at w before failures room }) 0)
+    → PacketsDecided (map nothing_done os) before (mk (map fresh_view os) order policy (state_with 0 nothing_counted) names (target_at w before failures room) 0)
 nothing-decided order os before policy names w failures room = record {
   following = start-following os;
   greatest = start-greatest os;

@@ -97,8 +97,8 @@ target-light (Capture sink) upper_bound =
 target-light (Text written failures room) upper_bound = omega arith
 target-light (Lines options written failures room) upper_bound = omega arith
 
-pub is-light : (m : JobState) → IsBounded m.inputs m.output.target → HasFewMarks m.policy m.state → IsLight m
+pub is-light : (m : JobState) → IsBounded m.inputs m.output → HasFewMarks m.policy m.state → IsLight m
 is-light m bounded upper_bound =
     let cursors = cursors-light m.inputs.cursors bounded.0 in
-    let target = target-light m.output.target bounded.1 in
+    let target = target-light m.output bounded.1 in
     record { each = bounded; all = omega (arith, cursors, target, upper_bound) }

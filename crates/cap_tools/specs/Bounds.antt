@@ -100,7 +100,7 @@ target_weight target = 0
 -- 128 for its counters
 abbrev pub weight : JobState → ℕ
 weight m =
-    inputs_weight m.inputs.cursors + target_weight m.output.target + 20 * length m.state.window
+    inputs_weight m.inputs.cursors + target_weight m.output + 20 * length m.state.window
     + 128
 
 -- a unit for each input, 280 bytes for each interface that inputs and output may have, these
@@ -122,5 +122,5 @@ IsBounded inputs target = All IsSmall inputs.cursors × HasFewOutputInterfaces t
 -- What a job holds of each input is bounded, and of all of them; a window of n packets has n - 1
 -- marks, and there is none where no duplicates are searched for.
 pub record IsLight (m : JobState) : Type 0 where
-  pub each : IsBounded m.inputs m.output.target
+  pub each : IsBounded m.inputs m.output
   pub all : weight m ≤ most_weight (length m.inputs.cursors) (places (window_of m.policy))

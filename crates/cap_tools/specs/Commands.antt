@@ -87,7 +87,7 @@ pub record StepKeeps (old : JobView) (r : Turn) (new : JobView) : Type 0 where
   pub light : IsLight new.state
   pub sound : HavePrograms new.state.policy new.programs
   pub left : r ≡ turn.More → job_left new < job_left old
-  pub names : new.state.output.names ≡ old.state.output.names
+  pub names : new.state.names ≡ old.state.names
   pub room : room_by new.state ≡ room_by old.state
   -- a step that goes on sends no message
   pub quiet : r ≡ turn.More → new.err ≡ old.err

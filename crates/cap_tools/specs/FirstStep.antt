@@ -50,6 +50,6 @@ pub record StopsListing (insns : List Insn) (tells : Bool) (old : JobView) (stat
   pub stops : Stops (written_by old.state) (listing insns) (written_by new.state)
   pub failures : failures_by new.state ≡ failures_by old.state + 1
   pub exact : IsTold tells old.err
-      (write_failed_message (name_at old.state.output.names (length old.state.inputs.cursors)))
+      (write_failed_message (name_at old.state.names (length old.state.inputs.cursors)))
       new.err
   pub status_is : status ≡ 1

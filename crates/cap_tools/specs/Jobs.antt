@@ -7,7 +7,7 @@ use Rattle.cap_tools.specs.declared.step.JobEnd.{JobEnd}
 use Rattle.cap_tools.specs.declared.step.JobEnd.TheVariants as end
 use Rattle.cap_tools.specs.declared.job.Turn.{Turn}
 use Rattle.cap_tools.specs.declared.job.Turn.TheVariants as turn
-use Rattle.cap_process.specs.Output.{JobOutputView, output_at, target_at}
+use Rattle.cap_process.specs.Output.{Target, target_at}
 use Rattle.cap_tools.specs.Start.{Assignment, Preparing}
 use Rattle.cap_process.specs.Verdict.{initial_state}
 use Rattle.cap_process.specs.Selector.{HavePrograms, SelectorView}
@@ -32,9 +32,10 @@ pub record JobView : Type 0 where
   pub done : Option ℕ
 
 -- of the parts of a job
-abbrev pub state_at : InputsView → SelectorView → JobOutputView → ℕ → JobState
-state_at inputs selector output decided =
+abbrev pub state_at : List (List ℕ) → InputsView → SelectorView → Target → ℕ → JobState
+state_at names inputs selector output decided =
     record {
+      names = names;
       inputs = inputs;
       policy = selector.policy;
       state = selector.state;
@@ -47,11 +48,11 @@ abbrev pub first_job : Assignment → Call → JobView
 first_job a call = record {
   preparing = a.preparing;
   state = record {
+    names = call.names;
     inputs = fresh_inputs a.order call.inputs;
     policy = a.policy;
     state = initial_state;
-    output = output_at call.names
-        (target_at a.writing call.output.written call.output.failures call.room);
+    output = target_at a.writing call.output.written call.output.failures call.room;
     decided = 0;
   };
   programs = [];
@@ -84,7 +85,7 @@ pub record EndsJob (tells : Bool) (old : JobView) (status : ℕ) (new : JobView)
   pub end : JobEnd
   pub leaves : StepGives old.state (Some end) new.state
   pub exact : IsTold tells old.err
-      (end_message old.state.output.names new.state.inputs.cursors end) new.err
+      (end_message old.state.names new.state.inputs.cursors end) new.err
   -- where all went well nothing is reported
   pub quiet : status ≡ 0 → new.err ≡ old.err
   pub status_is : status ≡ end_status end

@@ -12,7 +12,7 @@ use Rattle.cap_inputs.specs.declared.inputs.Next.TheVariants as next
 use Rattle.cap_tools.specs.declared.step.JobEnd.{JobEnd}
 use Rattle.cap_tools.specs.declared.step.JobEnd.TheVariants as end
 use Rattle.cap_process.specs.Reports.{Report}
-use Rattle.cap_process.specs.Output.{JobOutputView, HasWrittenTo, form_to, written_to, failures_to, room_to}
+use Rattle.cap_process.specs.Output.{Target, HasWrittenTo, form_to, written_to, failures_to, room_to}
 use Rattle.cap_io.specs.Sequence.{Event, Packet, InputEnd, SequenceEnd, Complete, FaultIn, InputItems, PacketOrder, InTurn, ByTime, sequence_of, whole_input}
 use Rattle.cap_process.specs.Verdict.{Policy, SelectorState}
 use Rattle.cap_process.specs.Selector.{IsWithin, is_count}
@@ -21,28 +21,30 @@ use Rattle.cap_inputs.specs.Inputs.{InputsView, InputView, InputPast, AreInputsA
 
 -- the state of a job, whatever its programs cost so far
 pub record JobState : Type 0 where
+  -- of its files: of the inputs, then of the output
+  pub names : List (List ℕ)
   pub inputs : InputsView
   pub policy : Policy
   pub state : SelectorState
-  pub output : JobOutputView
+  pub output : Target
   -- how many packets are decided
   pub decided : ℕ
 
 abbrev pub output_form : JobState → Form
-output_form m = form_to m.output.names m.output.target
+output_form m = form_to m.names m.output
 
 -- in which order its packets come, how they are judged, and in which form they are written
 abbrev pub work_of : JobState → Work
 work_of m = record { order = m.inputs.order; policy = m.policy; form = output_form m }
 
 abbrev pub written_by : JobState → List ℕ
-written_by m = written_to m.output.target
+written_by m = written_to m.output
 
 abbrev pub failures_by : JobState → ℕ
-failures_by m = failures_to m.output.target
+failures_by m = failures_to m.output
 
 abbrev pub room_by : JobState → ℕ
-room_by m = room_to m.output.target
+room_by m = room_to m.output
 
 abbrev pub wholes_of : List InputPast → List InputItems
 wholes_of ss = map whole_input (map (λ (s : InputPast). s.text) ss)
@@ -74,7 +76,7 @@ pub record PacketsDecided (ss : List InputPast) (before : List ℕ) (m : JobStat
   pub reports : List Report
   pub progress : apply_events m.policy (output_form m) no_progress events
       ≡ progress_at m packets reports
-  pub output : HasWrittenTo before m.output.names m.output.target packets reports
+  pub output : HasWrittenTo before m.names m.output packets reports
   pub passed : m.state.passed ≤ m.decided
   pub counted : IsWithin m.decided m.state.tally
 
@@ -105,11 +107,11 @@ pub data OneAnswer (form : Form) (link : Option ℕ) (far next : JobProgress)
       → bytes ≡ closing_text form link far.packets → OneAnswer form link far next bytes
 
 -- What a step appends to the output is one answer, or nothing.
-pub record AppendsOnce (link : Option ℕ) (far next : JobProgress)
-    (old new : JobOutputView) : Type 0 where
+pub record AppendsOnce (form : Form) (link : Option ℕ) (far next : JobProgress)
+    (old new : Target) : Type 0 where
   pub bytes : List ℕ
-  pub appended : written_to new.target ≡ written_to old.target ++ bytes
-  pub one : OneAnswer (form_to old.names old.target) link far next bytes
+  pub appended : written_to new ≡ written_to old ++ bytes
+  pub one : OneAnswer form link far next bytes
 
 -- how far the job is
 abbrev pub progress_of : {ss : List InputPast} {before : List ℕ} {m : JobState}
@@ -127,7 +129,7 @@ pub record GoesOn {ss : List InputPast} {before : List ℕ} {old : JobState}
   pub decided : PacketsDecided past before new
   pub at_most_one : new.decided ≤ old.decided + 1
   pub form : output_form new ≡ output_form old
-  pub once : AppendsOnce (first_link (wholes_of ss)) (progress_of d)
+  pub once : AppendsOnce (output_form old) (first_link (wholes_of ss)) (progress_of d)
       (progress_of decided) old.output new.output
   -- the output's device didn't fail
   pub output : failures_by new ≡ failures_by old
@@ -145,7 +147,7 @@ pub record CompletesOutput {ss : List InputPast} {before : List ℕ} {old : JobS
   pub ends : (progress_over old rs).end ≡ Some close
   pub written : written_by new ≡ before
       ++ final_text (output_form old) (first_link rs) (progress_over old rs)
-  pub once : AppendsOnce (first_link rs) (progress_of d)
+  pub once : AppendsOnce (output_form old) (first_link rs) (progress_of d)
       (progress_over old rs) old.output new.output
   -- the output's device didn't fail
   pub device : failures_by new ≡ failures_by old

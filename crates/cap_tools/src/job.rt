@@ -66,7 +66,6 @@ impl<I: Input, O: Output, E: Output, A: Allocator> Model for Job<I, O, E, A> {
     ghost use Rattle.cap_inputs.specs.inside.Inputs.{most_steps};
     ghost use Rattle.cap_tools.specs.Jobs.{JobView, state_at};
     ghost use Rattle.cap_tools.specs.inside.Jobs.{IsCounted};
-    ghost use Rattle.cap_process.specs.Output.{output_at};
     ghost use Rattle.cap_process.specs.Selector.{HavePrograms};
     ghost use Rattle.cap_process.specs.inside.Selector.{HasFewMarks};
     ghost use Rattle.cap_tools.specs.Start.{preparing_of};
@@ -77,7 +76,7 @@ impl<I: Input, O: Output, E: Output, A: Allocator> Model for Job<I, O, E, A> {
 
     ghost view = { λ j. record {
       preparing = option_map preparing_of j.preparation;
-      state = state_at j.inputs j.selector (output_at j.messages.names j.output) j.decided;
+      state = state_at j.messages.names j.inputs j.selector j.output j.decided;
       programs = j.selector.programs;
       err = j.messages.device;
       turns = j.turns;
@@ -92,7 +91,7 @@ impl<I: Input, O: Output, E: Output, A: Allocator> Model for Job<I, O, E, A> {
         × HasFewTurns j.done j.turns j.inputs
         × IsReadyIf (option_map preparing_of j.preparation) (record {
           preparing = option_map preparing_of j.preparation;
-          state = state_at j.inputs j.selector (output_at j.messages.names j.output) j.decided;
+          state = state_at j.messages.names j.inputs j.selector j.output j.decided;
           programs = j.selector.programs;
           err = j.messages.device;
           turns = j.turns;
@@ -219,7 +218,7 @@ impl<I: Input, O: Output, E: Output, A: Allocator + Copy + Drop> Job<I, O, E, A>
     fn compile(&mut self, compile: &Compile<A>) -> Turn
         requires fresh { IsFresh self.old }
         requires taken { self.old.preparing ≡ None }
-        requires text { is_text self.old.state.output.target ≡ true }
+        requires text { is_text self.old.state.output ≡ true }
         ensures gives { IsTrue O.tells → CompileGives (string_bytes compile.now.expr)
             compile.now.link E.tells self.old result self.new }
         ensures keeps { KeepsFirst self.old result self.new }
@@ -364,7 +363,7 @@ impl<I: Input, O: Output, E: Output, A: Allocator + Copy + Drop> Job<I, O, E, A>
         requires upper_bound { self.old.turns ≤ most_steps }
         ensures done { result ≡ Turn.Done (end_status end) }
         ensures ended { self.new ≡ ending end self.new.err self.old }
-        ensures exact { IsTold E.tells self.old.err (end_message self.old.state.output.names
+        ensures exact { IsTold E.tells self.old.err (end_message self.old.state.names
             self.old.state.inputs.cursors end) self.new.err }
         ensures quiet { end ≡ JobEnd.Complete → self.new.err ≡ self.old.err }
     {
@@ -409,7 +408,7 @@ impl<I: Input, O: Output, E: Output, A: Allocator + Copy + Drop> Job<I, O, E, A>
     fn list(&mut self, program: &Program<A>) -> Turn
         requires fresh { IsFresh self.old }
         requires taken { self.old.preparing ≡ None }
-        requires text { is_text self.old.state.output.target ≡ true }
+        requires text { is_text self.old.state.output ≡ true }
         ensures exact { IsTrue O.tells → EndsList program.now.insns E.tells self.old result
             self.new }
         ensures keeps { KeepsFirst self.old result self.new }

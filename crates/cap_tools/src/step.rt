@@ -1,7 +1,7 @@
 //! The parts of a step: a packet is decided, or an input that was read to its end is reported.
 ghost use Rattle.std.specs.Prelude.{◌≡◌, ◌<◌, ◌≤◌, IsTrue, false, length, true};
 ghost use Rattle.cap_octet.specs.Packet.{captured};
-ghost use Rattle.cap_process.specs.Output.{HasFewOutputInterfaces, output_at, room_to};
+ghost use Rattle.cap_process.specs.Output.{HasFewOutputInterfaces, room_to};
 ghost use Rattle.cap_process.specs.inside.Reports.{FitsTally};
 ghost use Rattle.cap_process.specs.inside.Selector.{GrowsByOne, HasFewMarks, policy_state};
 ghost use Rattle.cap_tools.specs.Packets.{asks_report};
@@ -92,9 +92,9 @@ pub(crate) fn close<I: Input, O: Output, E: Output, A: Allocator>(
     messages: &Messages<E, A>,
 ) -> Option<JobEnd>
     requires { input < length inputs.now.cursors }
-    ensures exact { IsTrue O.tells → Closes inputs.now input
-        (sieve (policy_state selector.old) (output_at messages.now.names output.old)) result
-        (sieve (policy_state selector.new) (output_at messages.now.names output.new)) }
+    ensures exact { IsTrue O.tells → Closes messages.now.names inputs.now input
+        (sieve (policy_state selector.old) output.old) result
+        (sieve (policy_state selector.new) output.new) }
     ensures programs { selector.new.programs ≡ selector.old.programs }
     ensures policy { selector.new.policy ≡ selector.old.policy }
     ensures marks { HasFewMarks selector.old.policy selector.old.state

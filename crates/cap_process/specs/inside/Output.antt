@@ -8,9 +8,7 @@ use Rattle.cap_octet.specs.declared.fault.Fault.TheVariants.{WriteFailed}
 use Rattle.cap_print.specs.Rendering.{printed_text}
 use Rattle.cap_io.specs.Sink as sinks
 use Rattle.cap_io.specs.Sink.{SinkView, PutWrites, FinishWrites}
-use Rattle.cap_process.specs.Output.{Target, JobOutputView, Capture, Text, Lines, HasWrittenTo, form_to}
-use Rattle.cap_process.specs.Outcome.{Form}
-use Rattle.cap_process.specs.Reports.{Report}
+use Rattle.cap_process.specs.Output.{Target, Capture, Text, Lines}
 
 -- a packet is put into a capture
 pub record PutsInto (p : Captured) (old : SinkView) (r : Result (Unit {0}) Fault)
@@ -73,9 +71,3 @@ EndsOutput first (Text written failures room) r new =
     (r ≡ Ok tt) × (new ≡ Text written failures room)
 EndsOutput first (Lines options written failures room) r new =
     (r ≡ Ok tt) × (new ≡ Lines options written failures room)
-
-abbrev pub form_at : JobOutputView → Form
-form_at d = form_to d.names d.target
-
-abbrev pub HasWritten : List ℕ → JobOutputView → List Captured → List Report → Type 0
-HasWritten before d packets reports = HasWrittenTo before d.names d.target packets reports

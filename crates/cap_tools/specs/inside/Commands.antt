@@ -10,7 +10,7 @@ use Rattle.cap_tools.specs.inside.FirstStep.{IsFresh}
 -- a job that still prepares made no step; what is compiled is written as text
 abbrev pub HasMadeNoStep : Preparing → JobView → Type 0
 HasMadeNoStep (ReadsFilter asked) j = IsFresh j
-HasMadeNoStep (Compiles words link) j = IsFresh j × (is_text j.state.output.target ≡ true)
+HasMadeNoStep (Compiles words link) j = IsFresh j × (is_text j.state.output ≡ true)
 
 abbrev pub IsReadyIf : Option Preparing → JobView → Type 0
 IsReadyIf None j = Unit {0}

@@ -47,4 +47,4 @@ output_of j = output_by j.state
 
 -- the name of its output
 abbrev pub output_name : JobView → List ℕ
-output_name j = name_at j.state.output.names (length j.state.inputs.cursors)
+output_name j = name_at j.state.names (length j.state.inputs.cursors)

@@ -11,7 +11,7 @@ use Rattle.cap_process.specs.declared.selector.Verdict.TheVariants as code_verdi
 use Rattle.cap_tools.specs.declared.step.JobEnd.{JobEnd}
 use Rattle.cap_tools.specs.declared.step.JobEnd.TheVariants as end
 use Rattle.cap_process.specs.Reports.{Report, Tally, report_text}
-use Rattle.cap_process.specs.Output.{JobOutputView, Target}
+use Rattle.cap_process.specs.Output.{Target}
 use Rattle.cap_process.specs.inside.Output.{PutsIntoOutput, Reports}
 use Rattle.cap_process.specs.Verdict.{PassesAs, judge}
 use Rattle.cap_process.specs.Outcome.{AreAllEvents, IsNextEvent, closing_text, first_link, form_refuses, packet_bytes, report_bytes}
@@ -40,16 +40,16 @@ Offers code_verdict.Skip p old r new = (r ≡ Ok tt) × (new ≡ old)
 Offers verdict p old r new = PutsIntoOutput p old r new
 
 -- what judges, and where what passes goes
-pub record Sieve (T : Type 0) : Type 0 where
+pub record Sieve : Type 0 where
   pub selector : PolicyState
-  pub output : T
+  pub output : Target
 
-abbrev pub sieve : {T : Type 0} → PolicyState → T → Sieve T
+abbrev pub sieve : PolicyState → Target → Sieve
 sieve selector output = record { selector = selector; output = output }
 
 -- the verdict on a packet, and what putting it answers where it passes
-pub record Judges (p : Captured) (number : ℕ) (old : Sieve Target) (verdict : code.Verdict)
-    (put : Result (Unit {0}) Fault) (new : Sieve Target) : Type 0 where
+pub record Judges (p : Captured) (number : ℕ) (old : Sieve) (verdict : code.Verdict)
+    (put : Result (Unit {0}) Fault) (new : Sieve) : Type 0 where
   -- as it passes
   pub packet : Captured
   pub exact : selecting_inside.IsVerdict (judge old.selector.policy old.selector.state number p)
@@ -57,15 +57,15 @@ pub record Judges (p : Captured) (number : ℕ) (old : Sieve Target) (verdict : 
   pub offers : Offers verdict packet old.output put new.output
 
 -- it is refused, and nothing is written
-pub record Rejects (p : Captured) (number : ℕ) (old : Sieve Target) (fault : Fault)
-    (new : Sieve Target) : Type 0 where
+pub record Rejects (p : Captured) (number : ℕ) (old : Sieve) (fault : Fault)
+    (new : Sieve) : Type 0 where
   pub exact : selecting_inside.IsVerdict (judge old.selector.policy old.selector.state number p)
       (Err fault) p new.selector.state
   pub same : new.output ≡ old.output
 
 -- a packet is judged, and put where it passes; or it isn't put, or it is refused
-abbrev pub DecidesPacket : Option Captured → ℕ → Sieve Target → Result code.Verdict Fault
-    → Sieve Target → Type 0
+abbrev pub DecidesPacket : Option Captured → ℕ → Sieve → Result code.Verdict Fault → Sieve
+    → Type 0
 DecidesPacket None number old r new = ⊥
 DecidesPacket (Some p) number old (Ok verdict) new = Judges p number old verdict (Ok tt) new
 DecidesPacket (Some p) number old (Err fault) new =
@@ -89,29 +89,27 @@ unless_failed (Ok done) = None
 unless_failed (Err fault) = Some end.OutputFailed
 
 -- an input is reported, and the count begins anew
-pub record ReportsOn (input : ℕ) (cursor : InputView) (old : Sieve JobOutputView)
-    (r : Option JobEnd) (new : Sieve JobOutputView) : Type 0 where
+pub record ReportsOn (names : List (List ℕ)) (input : ℕ) (cursor : InputView) (old : Sieve)
+    (r : Option JobEnd) (new : Sieve) : Type 0 where
   pub answer : Result (Unit {0}) DeviceFault
-  pub reports : Reports
-      (report_text old.output.names
-      (report_at input cursor old.selector.state.tally)) old.output.target answer new.output.target
-  pub names : new.output.names ≡ old.output.names
+  pub reports : Reports (report_text names (report_at input cursor old.selector.state.tally))
+      old.output answer new.output
   pub is : r ≡ unless_failed answer
   pub selector_is : new.selector
       ≡ record { policy = old.selector.policy; state = with_empty_tally old.selector.state }
 
-abbrev pub ClosesBy : Bool → ℕ → InputView → Sieve JobOutputView → Option JobEnd
-    → Sieve JobOutputView → Type 0
-ClosesBy false input cursor old r new =
+abbrev pub ClosesBy : Bool → List (List ℕ) → ℕ → InputView → Sieve → Option JobEnd → Sieve
+    → Type 0
+ClosesBy false names input cursor old r new =
     (r ≡ None) × (new.selector ≡ old.selector) × (new.output ≡ old.output)
-ClosesBy true input cursor old r new = ReportsOn input cursor old r new
+ClosesBy true names input cursor old r new = ReportsOn names input cursor old r new
 
 -- an input was read to its end
-pub record Closes (inputs : InputsView) (input : ℕ) (old : Sieve JobOutputView) (r : Option JobEnd)
-    (new : Sieve JobOutputView) : Type 0 where
+pub record Closes (names : List (List ℕ)) (inputs : InputsView) (input : ℕ) (old : Sieve)
+    (r : Option JobEnd) (new : Sieve) : Type 0 where
   pub cursor : InputView
   pub among : slice_get inputs.cursors input ≡ Some cursor
-  pub by : ClosesBy (asks_report inputs.order old.selector.policy) input cursor old r new
+  pub by : ClosesBy (asks_report inputs.order old.selector.policy) names input cursor old r new
 
 abbrev pub end_of_failed_write : ℕ → Fault → JobEnd
 end_of_failed_write input WriteFailed = end.OutputFailed

@@ -20,7 +20,7 @@ pub record IsStep (inputs_tell output_tells : Bool) (old : JobView) (r : Option 
   pub light : IsLight new.state
   pub sound : HavePrograms new.state.policy new.programs
   pub policy : new.state.policy ≡ old.state.policy
-  pub names : new.state.output.names ≡ old.state.output.names
+  pub names : new.state.names ≡ old.state.names
   pub room : room_by new.state ≡ room_by old.state
   pub preparing : new.preparing ≡ old.preparing
   pub err : new.err ≡ old.err

@@ -1,7 +1,6 @@
 use Rattle.std.proofs.Common.{◌≡◌, ℕ, List, Option, true, Ok, Err, refl, sym, ◌∙◌, ap₂, subst, None, Some}
 use Rattle.cap_tools.specs.declared.step.JobEnd.TheVariants as end
 use Rattle.cap_inputs.specs.inside.Inputs.{is_in_turn}
-use Rattle.cap_process.specs.Output.{output_at}
 use Rattle.cap_process.specs.inside.Output.{Reports}
 use Rattle.cap_process.specs.Reports.{Tally, file_report}
 use Rattle.cap_process.specs.Selector.{is_count}
@@ -17,8 +16,8 @@ returns-in-Ok-clause-exact g c = λ to.
     record {
       cursor = c.cursor-cursor.result.now;
       among = get-input c.args.inputs.now.cursors c.args.input c.cursor-cursor.result.now c.cursor-cursor.ensures;
-      by = closes-by c.args.inputs.now.order c.args.input c.cursor-cursor.result.now (policy_state c.args.selector.now) (policy_state c.close.new.self) (output_at c.args.messages.now.names c.args.output.now) (output_at c.args.messages.now.names c.report.new.self) None c.in-Some.tally
-          _ (Ok tt) turn c.in-Some.ensures.closes (ap₂ (λ k n. record { input = c.args.input; kind = k; size = n; tally = c.in-Some.tally }) c.kind.ensures c.offset.ensures) (let F : List ℕ → Type 0 = λ n. Reports (file_report n c.kind.result c.offset.result c.in-Some.tally) c.args.output.now (Ok tt) c.report.new.self in subst F c.name.ensures (c.in-Ok.ensures.exact to)) refl refl;
+      by = closes-by c.args.inputs.now.order c.args.input c.cursor-cursor.result.now (policy_state c.args.selector.now) (policy_state c.close.new.self) c.args.messages.now.names c.args.output.now c.report.new.self None c.in-Some.tally
+          _ (Ok tt) turn c.in-Some.ensures.closes (ap₂ (λ k n. record { input = c.args.input; kind = k; size = n; tally = c.in-Some.tally }) c.kind.ensures c.offset.ensures) (let F : List ℕ → Type 0 = λ n. Reports (file_report n c.kind.result c.offset.result c.in-Some.tally) c.args.output.now (Ok tt) c.report.new.self in subst F c.name.ensures (c.in-Ok.ensures.exact to)) refl;
     }
 
 pub returns-in-Ok-clause-policy : goal.returns-in-Ok-clause-policy
@@ -30,8 +29,8 @@ returns-in-Err-clause-exact g c = λ to.
     record {
       cursor = c.cursor-cursor.result.now;
       among = get-input c.args.inputs.now.cursors c.args.input c.cursor-cursor.result.now c.cursor-cursor.ensures;
-      by = closes-by c.args.inputs.now.order c.args.input c.cursor-cursor.result.now (policy_state c.args.selector.now) (policy_state c.close.new.self) (output_at c.args.messages.now.names c.args.output.now) (output_at c.args.messages.now.names c.report.new.self) (Some end.OutputFailed) c.in-Some.tally
-          _ (Err c.in-Err.field-0) turn c.in-Some.ensures.closes (ap₂ (λ k n. record { input = c.args.input; kind = k; size = n; tally = c.in-Some.tally }) c.kind.ensures c.offset.ensures) (let F : List ℕ → Type 0 = λ n. Reports (file_report n c.kind.result c.offset.result c.in-Some.tally) c.args.output.now (Err c.in-Err.field-0) c.report.new.self in subst F c.name.ensures (c.in-Err.ensures.exact to)) refl refl;
+      by = closes-by c.args.inputs.now.order c.args.input c.cursor-cursor.result.now (policy_state c.args.selector.now) (policy_state c.close.new.self) c.args.messages.now.names c.args.output.now c.report.new.self (Some end.OutputFailed) c.in-Some.tally
+          _ (Err c.in-Err.field-0) turn c.in-Some.ensures.closes (ap₂ (λ k n. record { input = c.args.input; kind = k; size = n; tally = c.in-Some.tally }) c.kind.ensures c.offset.ensures) (let F : List ℕ → Type 0 = λ n. Reports (file_report n c.kind.result c.offset.result c.in-Some.tally) c.args.output.now (Err c.in-Err.field-0) c.report.new.self in subst F c.name.ensures (c.in-Err.ensures.exact to)) refl;
     }
 
 pub returns-in-Err-clause-policy : goal.returns-in-Err-clause-policy
@@ -52,7 +51,7 @@ returns-then-not-is_in_turn-clause-exact g c = λ to.
     record {
       cursor = c.cursor-cursor.result.now;
       among = get-input c.args.inputs.now.cursors c.args.input c.cursor-cursor.result.now c.cursor-cursor.ensures;
-      by = unreported c.args.inputs.now.order c.args.input c.cursor-cursor.result.now (policy_state c.args.selector.now) (output_at c.args.messages.now.names c.args.output.now) (sym c.is_in_turn.ensures ∙ c.if-not-is_in_turn.true);
+      by = unreported c.args.inputs.now.order c.args.input c.cursor-cursor.result.now (policy_state c.args.selector.now) c.args.messages.now.names c.args.output.now (sym c.is_in_turn.ensures ∙ c.if-not-is_in_turn.true);
     }
 
 pub returns-in_default-clause-exact : goal.returns-in_default-clause-exact
@@ -62,5 +61,5 @@ returns-in_default-clause-exact g c = λ to.
     record {
       cursor = c.cursor-cursor.result.now;
       among = get-input c.args.inputs.now.cursors c.args.input c.cursor-cursor.result.now c.cursor-cursor.ensures;
-      by = uncounted c.args.inputs.now.order c.args.input c.cursor-cursor.result.now (policy_state c.args.selector.now) (policy_state c.close.new.self) (output_at c.args.messages.now.names c.args.output.now) turn (subst T c.in_default.is c.close.ensures.closes);
+      by = uncounted c.args.inputs.now.order c.args.input c.cursor-cursor.result.now (policy_state c.args.selector.now) (policy_state c.close.new.self) c.args.messages.now.names c.args.output.now turn (subst T c.in_default.is c.close.ensures.closes);
     }

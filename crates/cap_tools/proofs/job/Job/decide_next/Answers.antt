@@ -1,7 +1,6 @@
 use Rattle.std.proofs.Common.{◌≡◌, ◌+◌, Ok, Err, IsTrue, List, ℕ, subst, sym, ◌∙◌, ap, arith, refl, Option, Some}
 use Rattle.cap_octet.specs.Views.{OutputView}
 use Rattle.cap_tools.specs.declared.step.JobEnd.{JobEnd}
-use Rattle.cap_process.specs.Output.{output_at}
 use Rattle.cap_inputs.specs.declared.inputs.Next.TheVariants as next
 use Rattle.cap_inputs.specs.Inputs.{InputsView, InputView, InputPast, input_after_decided, with_cursor}
 use Rattle.cap_inputs.specs.inside.Inputs as input_spec
@@ -63,9 +62,9 @@ pub returns-in-Err : goal.returns-in-Err
 returns-in-Err g c =
     let preparing : Option Preparing = option_map preparing_of c.self.inside.preparation in
     let j : SelectorView = c.decide.new.selector in
-    let m : JobState = state_at c.self.inside.inputs c.self.inside.selector (output_at c.self.inside.messages.names c.self.inside.output) c.self.inside.decided in
+    let m : JobState = state_at c.self.inside.messages.names c.self.inside.inputs c.self.inside.selector c.self.inside.output c.self.inside.decided in
     let err : OutputView = c.self.inside.messages.device in
-    let left : Policy → JobState = λ k. record { inputs = c.self.inside.inputs; policy = k; state = j.state; output = output_at c.self.inside.messages.names c.decide.new.output; decided = c.self.inside.decided } in
+    let left : Policy → JobState = λ k. record { inputs = c.self.inside.inputs; policy = k; state = j.state; names = c.self.inside.messages.names; output = c.decide.new.output; decided = c.self.inside.decided } in
     let new : JobView = record { preparing = preparing; state = left j.policy; programs = j.programs; err = err; turns = c.self.inside.turns; done = c.self.inside.done } in
     let N : JobView → Type 0 = λ v. input_spec.IsNext v.state.inputs (next.Decide c.args.input) in
     let tells = subst N (sym c.self.view_is) c.requires.next in
@@ -75,7 +74,7 @@ returns-in-Err g c =
       exact = λ ti to ss before d.
           let K : Policy → Type 0 = λ k. EndLeaves d (end_of_failed_write c.args.input c.in-Err.fault) (left k) in
           subst K (sym c.in-Err.ensures.policy)
-          (answer-leaves ss before m.inputs.cursors m.inputs.order m.policy m.state m.output m.decided c.args.input (Err c.in-Err.fault) c.cursor.result.now (policy_state j) (output_at c.self.inside.messages.names c.decide.new.output) refl tells c.cursor.ensures c.in-Err.ensures.policy c.in-Err.ensures.passed c.in-Err.ensures.counted (let i = c.self.invariant.0 in omega (arith, i)) (c.in-Err.ensures.exact to) d);
+          (answer-leaves ss before m.inputs.cursors m.inputs.order m.policy m.state m.names m.output m.decided c.args.input (Err c.in-Err.fault) c.cursor.result.now (policy_state j) c.decide.new.output tells c.cursor.ensures c.in-Err.ensures.policy c.in-Err.ensures.passed c.in-Err.ensures.counted (let i = c.self.invariant.0 in omega (arith, i)) (c.in-Err.ensures.exact to) d);
       reads = leaves_one c.args.input refl (record {
         next = next-is-of m.inputs (next.Decide c.args.input) tells;
         cursor = c.cursor.result.now;
@@ -102,9 +101,9 @@ pub returns-in-Ok : goal.returns-in-Ok
 returns-in-Ok g c =
     let preparing : Option Preparing = option_map preparing_of c.self.inside.preparation in
     let j : SelectorView = c.decide.new.selector in
-    let m : JobState = state_at c.self.inside.inputs c.self.inside.selector (output_at c.self.inside.messages.names c.self.inside.output) c.self.inside.decided in
+    let m : JobState = state_at c.self.inside.messages.names c.self.inside.inputs c.self.inside.selector c.self.inside.output c.self.inside.decided in
     let err : OutputView = c.self.inside.messages.device in
-    let left : InputsView → Policy → JobState = λ f k. record { inputs = f; policy = k; state = j.state; output = output_at c.self.inside.messages.names c.decide.new.output; decided = c.self.inside.decided + 1 } in
+    let left : InputsView → Policy → JobState = λ f k. record { inputs = f; policy = k; state = j.state; names = c.self.inside.messages.names; output = c.decide.new.output; decided = c.self.inside.decided + 1 } in
     let new : JobView = record { preparing = preparing; state = left c.mark_decided.new.self j.policy; programs = j.programs; err = err; turns = c.self.inside.turns; done = c.self.inside.done } in
     let N : JobView → Type 0 = λ v. input_spec.IsNext v.state.inputs (next.Decide c.args.input) in
     let tells = subst N (sym c.self.view_is) c.requires.next in
@@ -116,7 +115,7 @@ returns-in-Ok g c =
     let NF : InputsView → Type 0 = λ f. StepLeaves d r (left f m.policy) in
     let NK : Policy → Type 0 = λ k. StepLeaves d r (left c.mark_decided.new.self k) in
     subst NK (sym c.in-Ok.ensures.policy) (subst NF (sym inputs)
-    (answer-leaves ss before m.inputs.cursors m.inputs.order m.policy m.state m.output m.decided c.args.input (Ok c.in-Ok.verdict) c.cursor.result.now (policy_state j) (output_at c.self.inside.messages.names c.decide.new.output) refl tells c.cursor.ensures c.in-Ok.ensures.policy c.in-Ok.ensures.passed c.in-Ok.ensures.counted (let i = c.self.invariant.0 in omega (arith, i)) (c.in-Ok.ensures.exact to) d)) in
+    (answer-leaves ss before m.inputs.cursors m.inputs.order m.policy m.state m.names m.output m.decided c.args.input (Ok c.in-Ok.verdict) c.cursor.result.now (policy_state j) c.decide.new.output tells c.cursor.ensures c.in-Ok.ensures.policy c.in-Ok.ensures.passed c.in-Ok.ensures.counted (let i = c.self.invariant.0 in omega (arith, i)) (c.in-Ok.ensures.exact to) d)) in
     let h = held c.cursor.result.now.source.packet c.self.inside.selector (c.self.inside.decided + 1) c.decide.new.selector c.decide.ensures.spends in
     let S : JobView → Type 0 = λ v. IsStep g.I.Input.tells g.O.Output.tells v r new in
     rw c.end_after.ensures (subst S c.self.view_is (record {

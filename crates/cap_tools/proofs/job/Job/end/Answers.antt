@@ -1,6 +1,5 @@
 use Rattle.std.proofs.Common.{◌≡◌, ℕ, ◌+◌, List, Some, ap, ap₂, subst, Option}
 use Rattle.cap_process.specs.Messages.{IsTold}
-use Rattle.cap_process.specs.Output.{output_at}
 use Rattle.cap_tools.specs.Messages.{MessagesView}
 use Rattle.cap_tools.specs.Start.{Preparing, preparing_of}
 use Rattle.std.specs.Option.{option_map}
@@ -13,7 +12,7 @@ returns-clause-ended g c =
     let preparing : Option Preparing = option_map preparing_of c.self.inside.preparation in
     let with : List (List ℕ) → ℕ → JobView = λ names status. record {
       preparing = preparing;
-      state = record { inputs = c.self.inside.inputs; policy = c.self.inside.selector.policy; state = c.self.inside.selector.state; output = output_at names c.self.inside.output; decided = c.self.inside.decided };
+      state = record { inputs = c.self.inside.inputs; policy = c.self.inside.selector.policy; state = c.self.inside.selector.state; names = names; output = c.self.inside.output; decided = c.self.inside.decided };
       programs = c.self.inside.selector.programs;
       err = c.end.new.self.device;
       turns = c.self.inside.turns + 1;
@@ -24,7 +23,7 @@ returns-clause-ended g c =
 
 pub returns-clause-exact : goal.returns-clause-exact
 returns-clause-exact g c =
-    let P : JobView → Type 0 = λ v. IsTold g.E.Output.tells v.err (end_message v.state.output.names v.state.inputs.cursors c.args.end) c.end.new.self.device in
+    let P : JobView → Type 0 = λ v. IsTold g.E.Output.tells v.err (end_message v.state.names v.state.inputs.cursors c.args.end) c.end.new.self.device in
     subst P c.self.view_is c.end.ensures.exact
 
 pub returns-clause-quiet : goal.returns-clause-quiet

@@ -1,6 +1,5 @@
 use Rattle.std.proofs.Common.{arith, subst, sym}
 use Rattle.std.proofs.lemmas.Grind.{common_steps}
-use Rattle.cap_process.specs.Output.{output_at}
 use Rattle.cap_process.specs.Selector.{SelectorView}
 use Rattle.cap_process.specs.inside.Selector.{HasFewMarks}
 use Rattle.cap_tools.proofs.Weights.{is-light}
@@ -9,6 +8,6 @@ use Rattle.cap_tools.proofs.job.Job.filter.Goals as goal
 pub returns-clause-keeps : goal.returns-clause-keeps
 returns-clause-keeps g c = λ p.
     let upper_bound : HasFewMarks c.filtering.result.policy c.filtering.result.state = (let P : SelectorView → Type 0 = λ v. HasFewMarks v.policy v.state in subst P (sym c.filtering.ensures) (omega arith)) in
-    let light = is-light (record { inputs = c.self.inside.inputs; policy = c.filtering.result.policy; state = c.filtering.result.state; output = output_at c.self.inside.messages.names c.self.inside.output; decided = c.self.inside.decided })
+    let light = is-light (record { inputs = c.self.inside.inputs; policy = c.filtering.result.policy; state = c.filtering.result.state; names = c.self.inside.messages.names; output = c.self.inside.output; decided = c.self.inside.decided })
     c.self.invariant.1 upper_bound in
     grind (arith, common_steps, light)

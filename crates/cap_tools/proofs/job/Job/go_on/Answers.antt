@@ -1,7 +1,6 @@
 -- Where an answer is `grind` alone, the search that the check tries before it takes most of the time.
 use Rattle.std.proofs.Common.{◌≡◌, ◌+◌, ℕ, List, true, false, subst, sym, Some, arith}
 use Rattle.std.proofs.lemmas.Grind.{common_steps}
-use Rattle.cap_process.specs.Output.{output_at}
 use Rattle.cap_inputs.specs.Inputs.{InputPast}
 use Rattle.cap_tools.specs.Packets.{GoesOn}
 use Rattle.cap_process.specs.Selector.{HavePrograms}
@@ -43,7 +42,7 @@ returns-in-Some-clause-exact g c = grind (arith, common_steps)
 pub returns-in-Some-clause-keeps : goal.returns-in-Some-clause-keeps
 returns-in-Some-clause-keeps g c =
     let L : JobView → Type 0 = λ v. IsLight v.state in
-    let light = subst L c.self.view_is (is-light (state_at c.self.inside.inputs c.self.inside.selector (output_at c.self.inside.messages.names c.self.inside.output) c.self.inside.decided) c.self.invariant.1 c.self.invariant.2) in
+    let light = subst L c.self.view_is (is-light (state_at c.self.inside.messages.names c.self.inside.inputs c.self.inside.selector c.self.inside.output c.self.inside.decided) c.self.invariant.1 c.self.invariant.2) in
     grind (arith, common_steps, light)
 
 pub returns-in-None-clause-keeps : goal.returns-in-None-clause-keeps

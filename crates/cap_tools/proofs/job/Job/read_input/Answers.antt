@@ -1,7 +1,6 @@
 use Rattle.std.proofs.Common.{◌≡◌, ◌∙◌, ◌&&◌, Bool, true, false, Result, Ok, Some, refl, sym, ap, arith, subst, Option, None}
 use Rattle.cap_octet.specs.declared.fault.Fault.{Fault}
 use Rattle.cap_octet.specs.Views.{OutputView}
-use Rattle.cap_process.specs.Output.{output_at}
 use Rattle.cap_inputs.specs.declared.inputs.Next.TheVariants as next
 use Rattle.cap_tools.specs.declared.step.JobEnd.TheVariants as end
 use Rattle.cap_inputs.specs.Inputs.{InputsView, is_clean_end}
@@ -75,20 +74,20 @@ pub returns-in-Ok-true : goal.returns-in-Ok-true
 returns-in-Ok-true g c =
     let preparing : Option Preparing = option_map preparing_of c.self.inside.preparation in
     let j : SelectorView = c.self.inside.selector in
-    let m : JobState = state_at c.self.inside.inputs c.self.inside.selector (output_at c.self.inside.messages.names c.self.inside.output) c.self.inside.decided in
+    let m : JobState = state_at c.self.inside.messages.names c.self.inside.inputs c.self.inside.selector c.self.inside.output c.self.inside.decided in
     let err : OutputView = c.self.inside.messages.device in
-    let left : JobState = record { inputs = c.read_input.new.self; policy = j.policy; state = j.state; output = output_at c.self.inside.messages.names c.self.inside.output; decided = c.self.inside.decided } in
+    let left : JobState = record { inputs = c.read_input.new.self; policy = j.policy; state = j.state; names = c.self.inside.messages.names; output = c.self.inside.output; decided = c.self.inside.decided } in
     let new : JobView = record { preparing = preparing; state = left; programs = j.programs; err = err; turns = c.self.inside.turns; done = c.self.inside.done } in
     let N : JobView → Type 0 = λ v. input_spec.IsNext v.state.inputs (next.Read c.args.input) in
     let tells = subst N (sym c.self.view_is) c.requires.next in
     let found : c.read_input.result ≡ Ok true = c.in-Ok-true.is ∙ ap Ok c.in-Ok-true.field-0-test in
-    let F : Result Bool Fault → Type 0 = λ a. Follows a c.read_input.new.self c.args.input (policy_state j) m.output None (policy_state j) m.output in
+    let F : Result Bool Fault → Type 0 = λ a. Follows a m.names c.read_input.new.self c.args.input (policy_state j) m.output None (policy_state j) m.output in
     let P : JobView → Type 0 = λ v. IsStep g.I.Input.tells g.O.Output.tells v None new in
     subst P c.self.view_is (record {
       exact = λ ti to ss before d.
           let L : Result Bool Fault → Type 0 = λ a. FetchLeaves d c.args.input a None left in
           subst L found
-          (read_input-leaves ss before m.inputs.cursors m.inputs.order m.policy m.state m.output m.decided c.args.input c.read_input.result c.read_input.new.self None (policy_state j) m.output tells (c.read_input.ensures.exact ti) d (subst F (sym found) (refl, refl)));
+          (read_input-leaves ss before m.inputs.cursors m.inputs.order m.policy m.state m.names m.output m.decided c.args.input c.read_input.result c.read_input.new.self None (policy_state j) m.output tells (c.read_input.ensures.exact ti) d (subst F (sym found) (refl, refl)));
       reads = reads_on c.args.input c.read_input.result (λ on. ap is_fault c.in-Ok-true.is) (record { next = next-is-of m.inputs (next.Read c.args.input) tells; fetches = c.read_input.ensures.steps; exact = c.read_input.ensures.exact; decided = refl; programs = refl; output = λ on. refl });
       progress = λ more. read_input-less c.self.inside.inputs c.read_input.new.self c.args.input c.read_input.result tells c.read_input.ensures.steps (subst Goes (sym c.in-Ok-true.is) tt);
       paid = λ more. read_input-paid c.self.inside.inputs c.read_input.new.self c.args.input c.read_input.result tells c.read_input.ensures.steps (subst Goes (sym c.in-Ok-true.is) tt);
@@ -108,21 +107,21 @@ returns-in-Ok-false g c =
     let preparing : Option Preparing = option_map preparing_of c.self.inside.preparation in
     let j : SelectorView = c.self.inside.selector in
     let j' : SelectorView = c.close.new.selector in
-    let m : JobState = state_at c.self.inside.inputs c.self.inside.selector (output_at c.self.inside.messages.names c.self.inside.output) c.self.inside.decided in
+    let m : JobState = state_at c.self.inside.messages.names c.self.inside.inputs c.self.inside.selector c.self.inside.output c.self.inside.decided in
     let err : OutputView = c.self.inside.messages.device in
-    let left : Policy → JobState = λ k. record { inputs = c.read_input.new.self; policy = k; state = j'.state; output = output_at c.self.inside.messages.names c.close.new.output; decided = c.self.inside.decided } in
+    let left : Policy → JobState = λ k. record { inputs = c.read_input.new.self; policy = k; state = j'.state; names = c.self.inside.messages.names; output = c.close.new.output; decided = c.self.inside.decided } in
     let new : JobView = record { preparing = preparing; state = left j'.policy; programs = j'.programs; err = err; turns = c.self.inside.turns; done = c.self.inside.done } in
     let N : JobView → Type 0 = λ v. input_spec.IsNext v.state.inputs (next.Read c.args.input) in
     let tells = subst N (sym c.self.view_is) c.requires.next in
     let found : c.read_input.result ≡ Ok false = c.in-Ok-false.is ∙ ap Ok c.in-Ok-false.field-0-test in
-    let F : Result Bool Fault → Type 0 = λ a. Follows a c.read_input.new.self c.args.input (policy_state j) m.output c.close.result (policy_state j') (output_at c.self.inside.messages.names c.close.new.output) in
+    let F : Result Bool Fault → Type 0 = λ a. Follows a m.names c.read_input.new.self c.args.input (policy_state j) m.output c.close.result (policy_state j') c.close.new.output in
     let P : JobView → Type 0 = λ v. IsStep g.I.Input.tells g.O.Output.tells v c.close.result new in
     subst P c.self.view_is (record {
       exact = λ ti to ss before d.
           let L : Result Bool Fault → Type 0 = λ a. FetchLeaves d c.args.input a c.close.result (left m.policy) in
           let K : Policy → Type 0 = λ k. StepLeaves d c.close.result (left k) in
           subst K (sym c.close.ensures.policy) (subst L found
-          (read_input-leaves ss before m.inputs.cursors m.inputs.order m.policy m.state m.output m.decided c.args.input c.read_input.result c.read_input.new.self c.close.result (policy_state j') (output_at c.self.inside.messages.names c.close.new.output) tells (c.read_input.ensures.exact ti) d (subst F (sym found) (c.close.ensures.exact to))));
+          (read_input-leaves ss before m.inputs.cursors m.inputs.order m.policy m.state m.names m.output m.decided c.args.input c.read_input.result c.read_input.new.self c.close.result (policy_state j') c.close.new.output tells (c.read_input.ensures.exact ti) d (subst F (sym found) (c.close.ensures.exact to))));
       reads = reads_on c.args.input c.read_input.result (λ on. ap is_fault c.in-Ok-false.is) (record {
         next = next-is-of m.inputs (next.Read c.args.input) tells;
         fetches = c.read_input.ensures.steps;
@@ -132,8 +131,8 @@ returns-in-Ok-false g c =
         output = λ none.
             let closed : is_clean_end c.read_input.result ≡ true = ap is_clean_end found in
             let K : Bool → Type 0 = λ b. (b && asks_report c.self.inside.inputs.order c.self.inside.selector.policy) ≡ false in
-            ap (output_at c.self.inside.messages.names) (c.close.ensures.kept (ap (λ (f : InputsView). asks_report f.order c.self.inside.selector.policy) c.read_input.ensures.steps.is
-            ∙ subst K closed none));
+            c.close.ensures.kept (ap (λ (f : InputsView). asks_report f.order c.self.inside.selector.policy) c.read_input.ensures.steps.is
+            ∙ subst K closed none);
       });
       progress = λ more. read_input-less c.self.inside.inputs c.read_input.new.self c.args.input c.read_input.result tells c.read_input.ensures.steps (subst Goes (sym c.in-Ok-false.is) tt);
       paid = λ more. read_input-paid c.self.inside.inputs c.read_input.new.self c.args.input c.read_input.result tells c.read_input.ensures.steps (subst Goes (sym c.in-Ok-false.is) tt);
@@ -152,19 +151,19 @@ pub returns-in-Err : goal.returns-in-Err
 returns-in-Err g c =
     let preparing : Option Preparing = option_map preparing_of c.self.inside.preparation in
     let j : SelectorView = c.self.inside.selector in
-    let m : JobState = state_at c.self.inside.inputs c.self.inside.selector (output_at c.self.inside.messages.names c.self.inside.output) c.self.inside.decided in
+    let m : JobState = state_at c.self.inside.messages.names c.self.inside.inputs c.self.inside.selector c.self.inside.output c.self.inside.decided in
     let err : OutputView = c.self.inside.messages.device in
-    let left : JobState = record { inputs = c.read_input.new.self; policy = j.policy; state = j.state; output = output_at c.self.inside.messages.names c.self.inside.output; decided = c.self.inside.decided } in
+    let left : JobState = record { inputs = c.read_input.new.self; policy = j.policy; state = j.state; names = c.self.inside.messages.names; output = c.self.inside.output; decided = c.self.inside.decided } in
     let new : JobView = record { preparing = preparing; state = left; programs = j.programs; err = err; turns = c.self.inside.turns; done = Some 1 } in
     let N : JobView → Type 0 = λ v. input_spec.IsNext v.state.inputs (next.Read c.args.input) in
     let tells = subst N (sym c.self.view_is) c.requires.next in
-    let F : Result Bool Fault → Type 0 = λ a. Follows a c.read_input.new.self c.args.input (policy_state j) m.output None (policy_state j) m.output in
+    let F : Result Bool Fault → Type 0 = λ a. Follows a m.names c.read_input.new.self c.args.input (policy_state j) m.output None (policy_state j) m.output in
     let P : JobView → Type 0 = λ v. IsStep g.I.Input.tells g.O.Output.tells v (Some (end.FaultIn c.args.input c.in-Err.fault)) new in
     subst P c.self.view_is (record {
       exact = λ ti to ss before d.
           let L : Result Bool Fault → Type 0 = λ a. FetchLeaves d c.args.input a None left in
           subst L c.in-Err.is
-          (read_input-leaves ss before m.inputs.cursors m.inputs.order m.policy m.state m.output m.decided c.args.input c.read_input.result c.read_input.new.self None (policy_state j) m.output tells (c.read_input.ensures.exact ti) d (subst F (sym c.in-Err.is) (refl, refl)));
+          (read_input-leaves ss before m.inputs.cursors m.inputs.order m.policy m.state m.names m.output m.decided c.args.input c.read_input.result c.read_input.new.self None (policy_state j) m.output tells (c.read_input.ensures.exact ti) d (subst F (sym c.in-Err.is) (refl, refl)));
       reads = reads_on c.args.input c.read_input.result (λ on. (cc)) (record { next = next-is-of m.inputs (next.Read c.args.input) tells; fetches = c.read_input.ensures.steps; exact = c.read_input.ensures.exact; decided = refl; programs = refl; output = λ on. refl });
       progress = λ more. (cc);
       paid = λ more. (cc);

@@ -1,7 +1,6 @@
 use Rattle.std.proofs.Common.{Option, Some, refl, subst, sym}
 use Rattle.std.specs.Option.{option_map}
 use Rattle.cap_octet.specs.Views.{OutputView}
-use Rattle.cap_process.specs.Output.{output_at}
 use Rattle.cap_tools.specs.declared.step.JobEnd.TheVariants as end
 use Rattle.cap_tools.specs.Bounds.{reads_nothing}
 use Rattle.cap_tools.specs.Jobs.{JobView, state_at}
@@ -14,7 +13,7 @@ use Rattle.cap_tools.proofs.job.Job.read_next.Goals as goal
 pub returns-then-not-release_before : goal.returns-then-not-release_before
 returns-then-not-release_before g c =
     let preparing : Option Preparing = option_map preparing_of c.self.inside.preparation in
-    let m : JobState = state_at c.self.inside.inputs c.self.inside.selector (output_at c.self.inside.messages.names c.self.inside.output) c.self.inside.decided in
+    let m : JobState = state_at c.self.inside.messages.names c.self.inside.inputs c.self.inside.selector c.self.inside.output c.self.inside.decided in
     let err : OutputView = c.self.inside.messages.device in
     let now : JobView = record { preparing = preparing; state = m; programs = c.self.inside.selector.programs; err = err; turns = c.self.inside.turns; done = c.self.inside.done } in
     let S : JobView → Type 0 = λ v. IsStep g.I.Input.tells g.O.Output.tells v (Some end.OutputFailed) v in

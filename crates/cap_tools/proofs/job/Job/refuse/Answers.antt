@@ -2,7 +2,6 @@ use Rattle.std.proofs.Common.{◌≡◌, ◌∙◌, ℕ, ◌+◌, List, Option, 
 use Rattle.std.proofs.lemmas.Grind.{common_steps}
 use Rattle.std.specs.Option.{option_map}
 use Rattle.cap_filter.specs.Refusals.{refusal_status}
-use Rattle.cap_process.specs.Output.{output_at}
 use Rattle.cap_tools.specs.Start.{Preparing, preparing_of}
 use Rattle.cap_tools.specs.Jobs.{JobView, state_at}
 use Rattle.cap_tools.specs.FirstStep.{RefusesStart}
@@ -15,7 +14,7 @@ returns-clause-refused g c =
     let none : preparing ≡ None = ap (λ (v : JobView). v.preparing) c.self.view_is ∙ c.requires.taken in
     let with : Option Preparing → List (List ℕ) → ℕ → JobView = λ p names status. record {
       preparing = p;
-      state = state_at c.self.inside.inputs c.self.inside.selector (output_at names c.self.inside.output) c.self.inside.decided;
+      state = state_at names c.self.inside.inputs c.self.inside.selector c.self.inside.output c.self.inside.decided;
       programs = c.self.inside.selector.programs;
       err = c.refuse.new.self.device;
       turns = c.self.inside.turns + 1;
@@ -27,5 +26,5 @@ returns-clause-refused g c =
 
 pub returns-clause-keeps : goal.returns-clause-keeps
 returns-clause-keeps g c = λ p.
-    let light = is-light (state_at c.self.inside.inputs c.self.inside.selector (output_at c.refuse.new.self.names c.self.inside.output) c.self.inside.decided) c.self.invariant.1 c.self.invariant.2 in
+    let light = is-light (state_at c.refuse.new.self.names c.self.inside.inputs c.self.inside.selector c.self.inside.output c.self.inside.decided) c.self.invariant.1 c.self.invariant.2 in
     grind (arith, common_steps, light)

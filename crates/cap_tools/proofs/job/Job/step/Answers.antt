@@ -1,6 +1,5 @@
 use Rattle.std.proofs.Common.{◌≡◌, Option, None, Some, string_bytes, sym, ◌∙◌, ap, subst}
 use Rattle.std.specs.Option.{option_map}
-use Rattle.cap_process.specs.Output.{output_at}
 use Rattle.cap_tools.specs.Start.{Preparing, ReadsFilter, Compiles, asked_by, preparing_of}
 use Rattle.cap_tools.specs.Jobs.{JobView, state_at, turn_goes_on}
 use Rattle.cap_tools.specs.Commands.{PreparesBy, StepKeeps, StepReadsBy}
@@ -46,7 +45,7 @@ returns-in-None-clause-exact g c =
 pub returns-in-Some-Filter-clause-keeps : goal.returns-in-Some-Filter-clause-keeps
 returns-in-Some-Filter-clause-keeps g c =
     let preparing : Option Preparing = option_map preparing_of c.self.inside.preparation in
-    let was : JobView = record { preparing = preparing; state = state_at c.self.inside.inputs c.self.inside.selector (output_at c.self.inside.messages.names c.self.inside.output) c.self.inside.decided; programs = c.self.inside.selector.programs; err = c.self.inside.messages.device; turns = c.self.inside.turns; done = c.self.inside.done } in
+    let was : JobView = record { preparing = preparing; state = state_at c.self.inside.messages.names c.self.inside.inputs c.self.inside.selector c.self.inside.output c.self.inside.decided; programs = c.self.inside.selector.programs; err = c.self.inside.messages.device; turns = c.self.inside.turns; done = c.self.inside.done } in
     let some : preparing ≡ Some (ReadsFilter (asked_by c.in-Some-Filter.print)) = ap (option_map preparing_of) (sym c.take.ensures.value ∙ c.in-Some-Filter.is ∙ ap Some c.in-Some-Filter.field-0-is) in
     let P : JobView → Type 0 = λ v. StepKeeps v c.read_filter.result c.read_filter.new.self in
     let Q : Option Preparing → Type 0 = λ p. StepKeeps (with_preparing p was) c.read_filter.result c.read_filter.new.self in
@@ -62,7 +61,7 @@ returns-in-Some-Filter-clause-exact g c = λ ti to undone none.
 pub returns-in-Some-Filter-clause-prepares : goal.returns-in-Some-Filter-clause-prepares
 returns-in-Some-Filter-clause-prepares g c =
     let preparing : Option Preparing = option_map preparing_of c.self.inside.preparation in
-    let was : JobView = record { preparing = preparing; state = state_at c.self.inside.inputs c.self.inside.selector (output_at c.self.inside.messages.names c.self.inside.output) c.self.inside.decided; programs = c.self.inside.selector.programs; err = c.self.inside.messages.device; turns = c.self.inside.turns; done = c.self.inside.done } in
+    let was : JobView = record { preparing = preparing; state = state_at c.self.inside.messages.names c.self.inside.inputs c.self.inside.selector c.self.inside.output c.self.inside.decided; programs = c.self.inside.selector.programs; err = c.self.inside.messages.device; turns = c.self.inside.turns; done = c.self.inside.done } in
     let some : preparing ≡ Some (ReadsFilter (asked_by c.in-Some-Filter.print)) = ap (option_map preparing_of) (sym c.take.ensures.value ∙ c.in-Some-Filter.is ∙ ap Some c.in-Some-Filter.field-0-is) in
     let P : JobView → Type 0 = λ v. PreparesBy v.preparing g.O.Output.tells g.E.Output.tells v c.read_filter.result c.read_filter.new.self in
     let Q : Option Preparing → Type 0 = λ p. PreparesBy p g.O.Output.tells g.E.Output.tells was c.read_filter.result c.read_filter.new.self in
@@ -71,7 +70,7 @@ returns-in-Some-Filter-clause-prepares g c =
 pub returns-in-Some-Filter-clause-reads : goal.returns-in-Some-Filter-clause-reads
 returns-in-Some-Filter-clause-reads g c =
     let preparing : Option Preparing = option_map preparing_of c.self.inside.preparation in
-    let was : JobView = record { preparing = preparing; state = state_at c.self.inside.inputs c.self.inside.selector (output_at c.self.inside.messages.names c.self.inside.output) c.self.inside.decided; programs = c.self.inside.selector.programs; err = c.self.inside.messages.device; turns = c.self.inside.turns; done = c.self.inside.done } in
+    let was : JobView = record { preparing = preparing; state = state_at c.self.inside.messages.names c.self.inside.inputs c.self.inside.selector c.self.inside.output c.self.inside.decided; programs = c.self.inside.selector.programs; err = c.self.inside.messages.device; turns = c.self.inside.turns; done = c.self.inside.done } in
     let some : preparing ≡ Some (ReadsFilter (asked_by c.in-Some-Filter.print)) = ap (option_map preparing_of) (sym c.take.ensures.value ∙ c.in-Some-Filter.is ∙ ap Some c.in-Some-Filter.field-0-is) in
     let P : JobView → Type 0 = λ v. StepReadsBy v.preparing g.I.Input.tells (turn_goes_on c.read_filter.result) v c.read_filter.new.self in
     let Q : Option Preparing → Type 0 = λ p. StepReadsBy p g.I.Input.tells (turn_goes_on c.read_filter.result) was c.read_filter.new.self in
@@ -80,7 +79,7 @@ returns-in-Some-Filter-clause-reads g c =
 pub returns-in-Some-Listing-clause-keeps : goal.returns-in-Some-Listing-clause-keeps
 returns-in-Some-Listing-clause-keeps g c =
     let preparing : Option Preparing = option_map preparing_of c.self.inside.preparation in
-    let was : JobView = record { preparing = preparing; state = state_at c.self.inside.inputs c.self.inside.selector (output_at c.self.inside.messages.names c.self.inside.output) c.self.inside.decided; programs = c.self.inside.selector.programs; err = c.self.inside.messages.device; turns = c.self.inside.turns; done = c.self.inside.done } in
+    let was : JobView = record { preparing = preparing; state = state_at c.self.inside.messages.names c.self.inside.inputs c.self.inside.selector c.self.inside.output c.self.inside.decided; programs = c.self.inside.selector.programs; err = c.self.inside.messages.device; turns = c.self.inside.turns; done = c.self.inside.done } in
     let some : preparing ≡ Some (Compiles (string_bytes c.in-Some-Listing.compile.expr) c.in-Some-Listing.compile.link) = ap (option_map preparing_of) (sym c.take.ensures.value ∙ c.in-Some-Listing.is ∙ ap Some c.in-Some-Listing.field-0-is) in
     let P : JobView → Type 0 = λ v. StepKeeps v c.compile.result c.compile.new.self in
     let Q : Option Preparing → Type 0 = λ p. StepKeeps (with_preparing p was) c.compile.result c.compile.new.self in
@@ -96,7 +95,7 @@ returns-in-Some-Listing-clause-exact g c = λ ti to undone none.
 pub returns-in-Some-Listing-clause-prepares : goal.returns-in-Some-Listing-clause-prepares
 returns-in-Some-Listing-clause-prepares g c =
     let preparing : Option Preparing = option_map preparing_of c.self.inside.preparation in
-    let was : JobView = record { preparing = preparing; state = state_at c.self.inside.inputs c.self.inside.selector (output_at c.self.inside.messages.names c.self.inside.output) c.self.inside.decided; programs = c.self.inside.selector.programs; err = c.self.inside.messages.device; turns = c.self.inside.turns; done = c.self.inside.done } in
+    let was : JobView = record { preparing = preparing; state = state_at c.self.inside.messages.names c.self.inside.inputs c.self.inside.selector c.self.inside.output c.self.inside.decided; programs = c.self.inside.selector.programs; err = c.self.inside.messages.device; turns = c.self.inside.turns; done = c.self.inside.done } in
     let some : preparing ≡ Some (Compiles (string_bytes c.in-Some-Listing.compile.expr) c.in-Some-Listing.compile.link) = ap (option_map preparing_of) (sym c.take.ensures.value ∙ c.in-Some-Listing.is ∙ ap Some c.in-Some-Listing.field-0-is) in
     let P : JobView → Type 0 = λ v. PreparesBy v.preparing g.O.Output.tells g.E.Output.tells v c.compile.result c.compile.new.self in
     let Q : Option Preparing → Type 0 = λ p. PreparesBy p g.O.Output.tells g.E.Output.tells was c.compile.result c.compile.new.self in
@@ -105,7 +104,7 @@ returns-in-Some-Listing-clause-prepares g c =
 pub returns-in-Some-Listing-clause-reads : goal.returns-in-Some-Listing-clause-reads
 returns-in-Some-Listing-clause-reads g c =
     let preparing : Option Preparing = option_map preparing_of c.self.inside.preparation in
-    let was : JobView = record { preparing = preparing; state = state_at c.self.inside.inputs c.self.inside.selector (output_at c.self.inside.messages.names c.self.inside.output) c.self.inside.decided; programs = c.self.inside.selector.programs; err = c.self.inside.messages.device; turns = c.self.inside.turns; done = c.self.inside.done } in
+    let was : JobView = record { preparing = preparing; state = state_at c.self.inside.messages.names c.self.inside.inputs c.self.inside.selector c.self.inside.output c.self.inside.decided; programs = c.self.inside.selector.programs; err = c.self.inside.messages.device; turns = c.self.inside.turns; done = c.self.inside.done } in
     let some : preparing ≡ Some (Compiles (string_bytes c.in-Some-Listing.compile.expr) c.in-Some-Listing.compile.link) = ap (option_map preparing_of) (sym c.take.ensures.value ∙ c.in-Some-Listing.is ∙ ap Some c.in-Some-Listing.field-0-is) in
     let P : JobView → Type 0 = λ v. StepReadsBy v.preparing g.I.Input.tells (turn_goes_on c.compile.result) v c.compile.new.self in
     let Q : Option Preparing → Type 0 = λ p. StepReadsBy p g.I.Input.tells (turn_goes_on c.compile.result) was c.compile.new.self in
@@ -121,7 +120,7 @@ returns-in-None-clause-after g c =
 pub returns-in-Some-Filter-clause-after : goal.returns-in-Some-Filter-clause-after
 returns-in-Some-Filter-clause-after g c = λ status is.
     let preparing : Option Preparing = option_map preparing_of c.self.inside.preparation in
-    let was : JobView = record { preparing = preparing; state = state_at c.self.inside.inputs c.self.inside.selector (output_at c.self.inside.messages.names c.self.inside.output) c.self.inside.decided; programs = c.self.inside.selector.programs; err = c.self.inside.messages.device; turns = c.self.inside.turns; done = c.self.inside.done } in
+    let was : JobView = record { preparing = preparing; state = state_at c.self.inside.messages.names c.self.inside.inputs c.self.inside.selector c.self.inside.output c.self.inside.decided; programs = c.self.inside.selector.programs; err = c.self.inside.messages.device; turns = c.self.inside.turns; done = c.self.inside.done } in
     let some : preparing ≡ Some (ReadsFilter (asked_by c.in-Some-Filter.print)) = ap (option_map preparing_of) (sym c.take.ensures.value ∙ c.in-Some-Filter.is ∙ ap Some c.in-Some-Filter.field-0-is) in
     let R : Option Preparing → Type 0 = λ p. IsReadyIf p was in
     let ready = subst R some c.self.invariant.6 in
@@ -131,7 +130,7 @@ returns-in-Some-Filter-clause-after g c = λ status is.
 pub read_filter-requires-clause-fresh : goal.read_filter-requires-clause-fresh
 read_filter-requires-clause-fresh g c =
     let preparing : Option Preparing = option_map preparing_of c.self.inside.preparation in
-    let was : JobView = record { preparing = preparing; state = state_at c.self.inside.inputs c.self.inside.selector (output_at c.self.inside.messages.names c.self.inside.output) c.self.inside.decided; programs = c.self.inside.selector.programs; err = c.self.inside.messages.device; turns = c.self.inside.turns; done = c.self.inside.done } in
+    let was : JobView = record { preparing = preparing; state = state_at c.self.inside.messages.names c.self.inside.inputs c.self.inside.selector c.self.inside.output c.self.inside.decided; programs = c.self.inside.selector.programs; err = c.self.inside.messages.device; turns = c.self.inside.turns; done = c.self.inside.done } in
     let some : preparing ≡ Some (ReadsFilter (asked_by c.in-Some-Filter.print)) = ap (option_map preparing_of) (sym c.take.ensures.value ∙ c.in-Some-Filter.is ∙ ap Some c.in-Some-Filter.field-0-is) in
     let R : Option Preparing → Type 0 = λ p. IsReadyIf p was in
     let ready = subst R some c.self.invariant.6 in
@@ -141,7 +140,7 @@ read_filter-requires-clause-fresh g c =
 pub returns-in-Some-Listing-clause-after : goal.returns-in-Some-Listing-clause-after
 returns-in-Some-Listing-clause-after g c = λ status is.
     let preparing : Option Preparing = option_map preparing_of c.self.inside.preparation in
-    let was : JobView = record { preparing = preparing; state = state_at c.self.inside.inputs c.self.inside.selector (output_at c.self.inside.messages.names c.self.inside.output) c.self.inside.decided; programs = c.self.inside.selector.programs; err = c.self.inside.messages.device; turns = c.self.inside.turns; done = c.self.inside.done } in
+    let was : JobView = record { preparing = preparing; state = state_at c.self.inside.messages.names c.self.inside.inputs c.self.inside.selector c.self.inside.output c.self.inside.decided; programs = c.self.inside.selector.programs; err = c.self.inside.messages.device; turns = c.self.inside.turns; done = c.self.inside.done } in
     let some : preparing ≡ Some (Compiles (string_bytes c.in-Some-Listing.compile.expr) c.in-Some-Listing.compile.link) = ap (option_map preparing_of) (sym c.take.ensures.value ∙ c.in-Some-Listing.is ∙ ap Some c.in-Some-Listing.field-0-is) in
     let R : Option Preparing → Type 0 = λ p. IsReadyIf p was in
     let ready = subst R some c.self.invariant.6 in
@@ -151,7 +150,7 @@ returns-in-Some-Listing-clause-after g c = λ status is.
 pub compile-requires-clause-fresh : goal.compile-requires-clause-fresh
 compile-requires-clause-fresh g c =
     let preparing : Option Preparing = option_map preparing_of c.self.inside.preparation in
-    let was : JobView = record { preparing = preparing; state = state_at c.self.inside.inputs c.self.inside.selector (output_at c.self.inside.messages.names c.self.inside.output) c.self.inside.decided; programs = c.self.inside.selector.programs; err = c.self.inside.messages.device; turns = c.self.inside.turns; done = c.self.inside.done } in
+    let was : JobView = record { preparing = preparing; state = state_at c.self.inside.messages.names c.self.inside.inputs c.self.inside.selector c.self.inside.output c.self.inside.decided; programs = c.self.inside.selector.programs; err = c.self.inside.messages.device; turns = c.self.inside.turns; done = c.self.inside.done } in
     let some : preparing ≡ Some (Compiles (string_bytes c.in-Some-Listing.compile.expr) c.in-Some-Listing.compile.link) = ap (option_map preparing_of) (sym c.take.ensures.value ∙ c.in-Some-Listing.is ∙ ap Some c.in-Some-Listing.field-0-is) in
     let R : Option Preparing → Type 0 = λ p. IsReadyIf p was in
     let ready = subst R some c.self.invariant.6 in
@@ -161,7 +160,7 @@ compile-requires-clause-fresh g c =
 pub compile-requires-clause-text : goal.compile-requires-clause-text
 compile-requires-clause-text g c =
     let preparing : Option Preparing = option_map preparing_of c.self.inside.preparation in
-    let was : JobView = record { preparing = preparing; state = state_at c.self.inside.inputs c.self.inside.selector (output_at c.self.inside.messages.names c.self.inside.output) c.self.inside.decided; programs = c.self.inside.selector.programs; err = c.self.inside.messages.device; turns = c.self.inside.turns; done = c.self.inside.done } in
+    let was : JobView = record { preparing = preparing; state = state_at c.self.inside.messages.names c.self.inside.inputs c.self.inside.selector c.self.inside.output c.self.inside.decided; programs = c.self.inside.selector.programs; err = c.self.inside.messages.device; turns = c.self.inside.turns; done = c.self.inside.done } in
     let some : preparing ≡ Some (Compiles (string_bytes c.in-Some-Listing.compile.expr) c.in-Some-Listing.compile.link) = ap (option_map preparing_of) (sym c.take.ensures.value ∙ c.in-Some-Listing.is ∙ ap Some c.in-Some-Listing.field-0-is) in
     let R : Option Preparing → Type 0 = λ p. IsReadyIf p was in
     let ready = subst R some c.self.invariant.6 in
