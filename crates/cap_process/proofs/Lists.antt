@@ -75,7 +75,7 @@ least-following [] p = refl
 least-following (q ∷ ps) p = rw (not-none (length ps)) (sym (least-next q.time (times ps) p.time))
 
 tally : ℕ → ℕ → ℕ → ℕ → ℕ → ℕ → Bool → Tally
-tally a b c d e f g = record { count = a; data_size = b; captured_size = c; least = d; greatest = e; last = f; strict = g }
+tally a b c d e f g = record { count = a; data_size = b; captured_size = c; least = d; greatest = e; last = f; ascends = g }
 
 pub counted-next : (ps : List Captured) (p : Captured) → tally_with (tally_of ps) p ≡ tally_of (ps ++ p ∷ [])
 counted-next ps p =

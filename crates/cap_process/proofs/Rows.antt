@@ -134,7 +134,7 @@ infos-report : (final_progress reports.policy reports.form (sequence_of reports.
       input = 0;
       kind = Some kind.Pcap;
       size = 64;
-      tally = record { count = 2; data_size = 8; captured_size = 8; least = 1250000000; greatest = 1500000000; last = 1250000000; strict = false };
+      tally = record { count = 2; data_size = 8; captured_size = 8; least = 1250000000; greatest = 1500000000; last = 1250000000; ascends = false };
     } ∷ []
 unfolding reports items_from items_within number_in
 infos-report = refl

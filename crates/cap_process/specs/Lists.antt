@@ -53,7 +53,7 @@ tally_of ps = record {
   least = least (times ps);
   greatest = greatest (times ps);
   last = final (times ps);
-  strict = ascends (times ps);
+  ascends = ascends (times ps);
 }
 
 -- what is counted of packets is their tally, however many they are

@@ -19,7 +19,7 @@ pub record Tally : Type 0 where
   pub greatest : ℕ
   pub last : ℕ
   -- no time is less than the one before it; equal times are in order
-  pub strict : Bool
+  pub ascends : Bool
 
 abbrev pub nothing_counted : Tally
 nothing_counted =
@@ -30,7 +30,7 @@ nothing_counted =
       least = 0;
       greatest = 0;
       last = 0;
-      strict = true;
+      ascends = true;
     }
 
 abbrev pub tally_with : Tally → Captured → Tally
@@ -41,7 +41,7 @@ tally_with t p = record {
   least = if t.count == 0 then p.time else min t.least p.time;
   greatest = max t.greatest p.time;
   last = p.time;
-  strict = t.strict && nat_le t.last p.time;
+  ascends = t.ascends && nat_le t.last p.time;
 }
 
 pub record Report : Type 0 where
@@ -89,7 +89,7 @@ time_lines t =
     (codes "Earliest", date_or_none t.count t.least)
     ∷ (codes "Latest", date_or_none t.count t.greatest)
     ∷ (codes "Duration", seconds (t.greatest - t.least))
-    ∷ (codes "Strict order", yes_or_no t.strict)
+    ∷ (codes "Strict order", yes_or_no t.ascends)
     ∷ []
 
 -- the report of a file of this name, and an empty line after it

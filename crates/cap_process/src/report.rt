@@ -124,7 +124,7 @@ fn write_times<O: Output>(output: &mut O, tally: Tally) -> Result<(), DeviceFaul
         b".",
         &nanos,
         b"\nStrict order: ",
-        yes_or_no(tally.strict),
+        yes_or_no(tally.ascends),
         b"\n\n",
     ];
     write_parts(output, &parts)

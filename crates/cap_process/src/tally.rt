@@ -17,7 +17,7 @@ pub struct Tally {
     /// The time of the last packet.
     pub(crate) last: u64,
     /// Whether no time is less than the one before it.
-    pub(crate) strict: bool,
+    pub(crate) ascends: bool,
 }
 
 impl Model for Tally {
@@ -33,7 +33,7 @@ impl Model for Tally {
       least = t.least;
       greatest = t.greatest;
       last = t.last;
-      strict = t.strict;
+      ascends = t.ascends;
     } };
 
     ghost inverse = { λ v. record {
@@ -43,7 +43,7 @@ impl Model for Tally {
       least = v.least;
       greatest = v.greatest;
       last = v.last;
-      strict = v.strict;
+      ascends = v.ascends;
     } };
 
     ghost invariant = { λ t. (t.least ≤ t.greatest) × (t.greatest < 2 ^ 63) };
@@ -66,7 +66,7 @@ impl Tally {
             least: 0,
             greatest: 0,
             last: 0,
-            strict: true,
+            ascends: true,
         }
     }
 
@@ -91,7 +91,7 @@ impl Tally {
             },
             greatest: self.greatest.max(packet.time),
             last: packet.time,
-            strict: self.strict && self.last <= packet.time,
+            ascends: self.ascends && self.last <= packet.time,
         }
     }
 }
