@@ -9,7 +9,7 @@
 //! `put_..` adds the steps of the formula that its clause names. The walk emits their code, from
 //! the last one to the first.
 
-ghost use Rattle.std.specs.Prelude.{◌≡◌, [], OnOk, IfOk, MatchOption};
+ghost use Rattle.std.specs.Prelude.{◌≡◌, [], OnOk, MatchOption};
 ghost use Rattle.flt_emit.specs.Formula.{Single, Among, all_of, sides, any_sides, remaining};
 
 use crate::waiting::Stack;
@@ -47,7 +47,16 @@ impl<A: Allocator> Model for Steps<A> {
 }
 
 impl<A: Allocator> Steps<A> {
-    ghost use Rattle.flt_gen.specs.inside.Steps.{with_step, IsPut, IsJoined};
+    ghost use Rattle.flt_gen.specs.inside.Steps.{with_step, no_steps, IsPut, IsJoined};
+
+    /// No step is there yet, and these numbers are looked for.
+    pub fn begin(&mut self, numbers: &[u32]) -> Result<(), AllocError>
+        ensures { OnOk result (self.new ≡ no_steps numbers.now) }
+    {
+        self.steps.clear();
+        self.numbers.clear();
+        self.numbers.extend_from_slice(numbers)
+    }
 
     /// The numbers that are looked for.
     pub fn numbers(&self) -> &[u32]
@@ -161,16 +170,10 @@ impl<A: Allocator> Steps<A> {
 }
 
 impl<A: Allocator + Clone> Steps<A> {
-    ghost use Rattle.flt_gen.specs.inside.Steps.{no_steps};
-
-    /// No step is there yet. These numbers are looked for.
-    pub fn new(alloc: A, numbers: &[u32]) -> Result<Self, AllocError>
-        ensures { IfOk result (λ steps. steps ≡ no_steps numbers.now) }
-    {
-        let mut copied = Vec::new(alloc.clone()?);
-        copied.extend_from_slice(numbers)?;
+    /// Room for the steps of one formula after the other.
+    pub fn new(alloc: A) -> Result<Self, AllocError> {
         Ok(Steps {
-            numbers: copied,
+            numbers: Vec::new(alloc.clone()?),
             steps: Stack::new(alloc),
         })
     }

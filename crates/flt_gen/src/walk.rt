@@ -58,8 +58,6 @@ pub struct Walk<A: Allocator> {
     /// Hosts or ports that are tested in front of the code, and whose code isn't there yet.
     group: Group<A>,
     pending: Pending,
-    /// For the steps of formulas.
-    alloc: A,
 }
 
 impl<A: Allocator> Model for Walk<A> {
@@ -94,14 +92,19 @@ impl<A: Allocator + Clone> Walk<A> {
             truths: Stack::new(alloc.clone()?),
             numbers: Stack::new(alloc.clone()?),
             accessors: Stack::new(alloc.clone()?),
-            group: Group::new(alloc.clone()?),
+            group: Group::new(alloc),
             pending: Pending::Nothing,
-            alloc,
         })
     }
 
-    /// Emits the code of all nodes of a tree, from the last to the first.
-    pub fn emit_nodes(&mut self, link: Link, nodes: &[Node]) -> Result<(), AllocError>
+    /// Emits the code of all nodes of a tree, from the last to the first. In `steps` each primitive is
+    /// put and emitted, one after the other.
+    pub fn emit_nodes(
+        &mut self,
+        link: Link,
+        nodes: &[Node],
+        steps: &mut Steps<A>,
+    ) -> Result<(), AllocError>
         ensures { OnOk result (self.new ≡ emit_nodes link self.old (reverse nodes.now)) }
     {
         let mut left = nodes.len();
@@ -109,11 +112,11 @@ impl<A: Allocator + Clone> Walk<A> {
         'nodes: while left > 0 {
             left -= 1;
             if left == 0 {
-                self.emit_node(link, &nodes[left])?;
-            } else if self.emit_both_nodes(link, &nodes[left], &nodes[left - 1])? {
+                self.emit_node(link, &nodes[left], steps)?;
+            } else if self.emit_both_nodes(link, &nodes[left], &nodes[left - 1], steps)? {
                 left -= 1;
             } else {
-                self.emit_node(link, &nodes[left])?;
+                self.emit_node(link, &nodes[left], steps)?;
             }
         }
         Ok(())
@@ -121,7 +124,13 @@ impl<A: Allocator + Clone> Walk<A> {
 
     /// Emits a node and the one before it at once, where that is its right operand and a constant
     /// that its instruction may have. `false`: it isn't, and nothing is emitted.
-    fn emit_both_nodes(&mut self, link: Link, node: &Node, right: &Node) -> Result<bool, AllocError>
+    fn emit_both_nodes(
+        &mut self,
+        link: Link,
+        node: &Node,
+        right: &Node,
+        steps: &mut Steps<A>,
+    ) -> Result<bool, AllocError>
         ensures emits { IfOk result (λ fits. emit_both_nodes link self.old node.now right.now
             ≡ (if fits then Some self.new else None)) }
         ensures same { IfOk result (λ fits. self.new ≡ (if fits then self.new else self.old)) }
@@ -131,7 +140,7 @@ impl<A: Allocator + Clone> Walk<A> {
                 self.emit_applied(*operator, *n)
             }
             (Node::Compare(comparison), Node::Literal(n) | Node::Named(n)) => {
-                self.emit_compared(link, *comparison, *n)?;
+                self.emit_compared(link, *comparison, *n, steps)?;
                 Ok(true)
             }
             _ => Ok(false),
@@ -159,22 +168,25 @@ impl<A: Allocator + Clone> Walk<A> {
         link: Link,
         comparison: Comparison,
         constant: u32,
+        steps: &mut Steps<A>,
     ) -> Result<(), AllocError>
         ensures { OnOk result
             (emit_compared comparison constant (flush_group link self.old) ≡ Some self.new) }
     {
-        self.flush_group(link)?;
+        self.flush_group(link, steps)?;
         self.code
             .emit_comparison(comparison, Operand::Constant, constant, self.to)
     }
 
     /// Emits one more node, the one before those that were emitted.
-    fn emit_node(&mut self, link: Link, node: &Node) -> Result<(), AllocError>
+    fn emit_node(&mut self, link: Link, node: &Node, steps: &mut Steps<A>) -> Result<(), AllocError>
         ensures { OnOk result (self.new ≡ emit_node link self.old node.now) }
     {
         match node {
-            Node::Join(join) => self.emit_join(link, *join),
-            Node::Qualified(qualifiers, value) => self.emit_value(link, *qualifiers, *value),
+            Node::Join(join) => self.emit_join(link, *join, steps),
+            Node::Qualified(qualifiers, value) => {
+                self.emit_value(link, *qualifiers, *value, steps)
+            }
             Node::Literal(_)
             | Node::Named(_)
             | Node::Len
@@ -182,14 +194,14 @@ impl<A: Allocator + Clone> Walk<A> {
             | Node::Negate
             | Node::Apply(_) => { self.emit_number_node(link, node) }
             _ => {
-                self.flush_group(link)?;
-                self.emit_truth_node(link, node)
+                self.flush_group(link, steps)?;
+                self.emit_truth_node(link, node, steps)
             }
         }
     }
 
     /// Reads `and` or `or`: it has no code of its own, but targets for its operands.
-    fn emit_join(&mut self, link: Link, join: Join) -> Result<(), AllocError>
+    fn emit_join(&mut self, link: Link, join: Join, steps: &mut Steps<A>) -> Result<(), AllocError>
         ensures { OnOk result (self.new ≡ emit_join link join self.old) }
     {
         match join {
@@ -199,7 +211,7 @@ impl<A: Allocator + Clone> Walk<A> {
                 Ok(())
             }
             Join::And => {
-                self.flush_group(link)?;
+                self.flush_group(link, steps)?;
                 let to = self.to;
                 self.truths.push(LeftTruth { join, to })
             }
@@ -213,6 +225,7 @@ impl<A: Allocator + Clone> Walk<A> {
         link: Link,
         qualifiers: CompleteQualifiers,
         value: Value,
+        steps: &mut Steps<A>,
     ) -> Result<(), AllocError>
         ensures { OnOk result (self.new ≡ emit_value link qualifiers value self.old
             (larger_group qualifiers value self.old.group)) }
@@ -222,27 +235,32 @@ impl<A: Allocator + Clone> Walk<A> {
                 self.pending = Pending::Nothing;
                 return Ok(());
             }
-            return self.emit_group(link);
+            return self.emit_group(link, steps);
         }
-        self.flush_group(link)?;
-        let mut steps = Steps::new(self.alloc.clone()?, &[])?;
+        self.flush_group(link, steps)?;
+        steps.begin(&[])?;
         steps.put_qualified(link, qualifiers, value)?;
         self.emit_steps(steps)
     }
 
     /// Emits a primitive or a negation. A value whose qualifiers aren't filled in yet is no.
-    fn emit_truth_node(&mut self, link: Link, node: &Node) -> Result<(), AllocError>
+    fn emit_truth_node(
+        &mut self,
+        link: Link,
+        node: &Node,
+        steps: &mut Steps<A>,
+    ) -> Result<(), AllocError>
         requires truth { is_truth_node node.now ≡ true }
         ensures { OnOk result (self.new ≡ emit_truth_node link self.old node.now) }
     {
         match node {
             Node::Check(protocol) => {
-                let mut steps = Steps::new(self.alloc.clone()?, &[])?;
+                steps.begin(&[])?;
                 steps.put_check(link, *protocol)?;
                 self.emit_steps(steps)
             }
             Node::Cast(protocol, cast) => {
-                let mut steps = Steps::new(self.alloc.clone()?, &[])?;
+                steps.begin(&[])?;
                 steps.put_cast(link, *protocol, *cast)?;
                 self.emit_steps(steps)
             }
@@ -299,7 +317,7 @@ impl<A: Allocator + Clone> Walk<A> {
 
     /// Emits the code of the group that waits, if it has members: another operand of an `or` stands
     /// in front of it.
-    fn flush_group(&mut self, link: Link) -> Result<(), AllocError>
+    fn flush_group(&mut self, link: Link, steps: &mut Steps<A>) -> Result<(), AllocError>
         ensures { OnOk result (self.new ≡ flush_group link self.old) }
     {
         self.begin_right()?;
@@ -309,25 +327,25 @@ impl<A: Allocator + Clone> Walk<A> {
         }
         let to = self.to;
         self.truths.push(LeftTruth { join: Join::Or, to })?;
-        self.emit_group(link)
+        self.emit_group(link, steps)
     }
 
     /// Emits the code of the group, which has members, and leaves it empty.
-    fn emit_group(&mut self, link: Link) -> Result<(), AllocError>
+    fn emit_group(&mut self, link: Link, steps: &mut Steps<A>) -> Result<(), AllocError>
         ensures { OnOk result (self.new ≡ finish_formula link (group_formula link self.old.group)
             (record self.old { group = no_group })) }
     {
-        let mut steps = Steps::new(self.alloc.clone()?, self.group.numbers())?;
-        self.group.put(link, &mut steps)?;
+        steps.begin(self.group.numbers())?;
+        self.group.put(link, steps)?;
         self.group.clear();
         self.emit_steps(steps)
     }
 
     /// Emits the code of a formula's steps, from the last one to the first. An operator's right
     /// operand comes first, and its left one waits.
-    fn emit_steps(&mut self, mut steps: Steps<A>) -> Result<(), AllocError>
+    fn emit_steps(&mut self, steps: &mut Steps<A>) -> Result<(), AllocError>
         ensures { OnOk result
-            ((link : Link) → self.new ≡ emit_parts link self.old (meaning steps).parts) }
+            ((link : Link) → self.new ≡ emit_parts link self.old (meaning steps.old).parts) }
     {
         while let Some(step) = steps.pop() {
             let to = self.to;

@@ -15,7 +15,7 @@ returns-in_ok-put_check-in-Check g c =
     let r = c.emit_steps in
     let f = check_formula link c.in-Check.protocol in
     let s = c.put_check.new.self in
-    let put : IsPut f (no_steps []) s = subst (λ (s0 : Steps). IsPut f s0 s) c.in_ok-steps-in-Check.ensures c.in_ok-put_check-in-Check.ensures in
+    let put : IsPut f (no_steps []) s = subst (λ (s0 : Steps). IsPut f s0 s) c.in_ok-begin-in-Check.ensures c.in_ok-put_check-in-Check.ensures in
     subst (λ (n : Node). OnOk r.result (r.new.self ≡ emit_truth_node link w n)) (sym c.in-Check.is)
     (steps_emitted r.result link f [] s w r.new.self put r.ensures)
 
@@ -26,6 +26,6 @@ returns-in_ok-put_cast-in-Cast g c =
     let r = c.emit_steps-in-Cast in
     let f = cast_formula link c.in-Cast.protocol c.in-Cast.cast in
     let s = c.put_cast.new.self in
-    let put : IsPut f (no_steps []) s = subst (λ (s0 : Steps). IsPut f s0 s) c.in_ok-steps-in-Cast.ensures c.in_ok-put_cast-in-Cast.ensures in
+    let put : IsPut f (no_steps []) s = subst (λ (s0 : Steps). IsPut f s0 s) c.in_ok-begin-in-Cast.ensures c.in_ok-put_cast-in-Cast.ensures in
     subst (λ (n : Node). OnOk r.result (r.new.self ≡ emit_truth_node link w n)) (sym c.in-Cast.is)
     (steps_emitted r.result link f [] s w r.new.self put r.ensures)
