@@ -89,7 +89,8 @@ abbrev pub held_length : (before after : Declared) → ℕ → ℕ
 held_length Nothing (PcapFile head) size = 0
 held_length before after size = size
 
--- These bytes are whole units, and a block of this size has room for each of them.
+-- These bytes are whole units, and a block of this size has room for each of them, but for the file
+-- header of pcap, which it doesn't hold.
 pub data FitUnits (room : ℕ) : Declared → List ℕ → Declared → Type 0 where
   no_unit_fits : {d : Declared} → FitUnits room d [] d
   unit_fits : {b c d : Declared} {u more : List ℕ} {qs : List Captured} → IsUnit b u qs c

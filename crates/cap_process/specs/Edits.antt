@@ -23,7 +23,8 @@ abbrev pub is_repeated : Option ℕ → List Mark → Mark → Bool
 is_repeated None before m = false
 is_repeated (Some n) before m = has_same (last (n - 1) before) m
 
--- the packets that have no equal among the n - 1 just before them, where these marks came before
+-- the packets whose mark (length and digest) none of the n - 1 just before them has, where these
+-- marks came before
 abbrev pub unique_after : Option ℕ → List Mark → List Captured → List Captured
 unique_after n before [] = []
 unique_after n before (p ∷ ps) =

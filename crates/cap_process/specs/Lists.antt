@@ -128,8 +128,9 @@ abbrev pub end_at_time : Option ℕ → Option SequenceEnd
 end_at_time None = None
 end_at_time (Some offset) = Some (FaultIn 0 TimeOutOfRange offset)
 
--- An edit of fewer than 2^63 packets ends at the first that is selected and whose moved time is
--- below 0 or above 2^63 - 1 nanoseconds; what passes is what is unique of what is selected before it.
+-- The selection of an edit of fewer than 2^63 packets ends at the first that is selected and whose
+-- moved time is below 0 or above 2^63 - 1 nanoseconds; what passes is what is unique of what is
+-- selected before it.
 abbrev pub EndsWithoutTime : Type 0
 EndsWithoutTime = (s : EditRule) (ps : List Placed) → length ps < 2 ^ 63
     → ((apply_events (Edit s) (AsReports []) no_progress (arriving ps)).end

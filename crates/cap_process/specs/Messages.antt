@@ -26,7 +26,7 @@ fault_message name offset fault =
 abbrev pub write_failed_message : List ℕ → List ℕ
 write_failed_message name = codes "capkit: " ++ name ++ codes ": write failed" ++ line_feed
 
--- out of memory, with no current packet or block
+-- out of memory to begin, or for a filter or an expression
 abbrev pub no_memory_message : List ℕ
 no_memory_message = codes "capkit: no memory" ++ line_feed
 

@@ -55,7 +55,9 @@ file_packets file = packets_of (items file).packets
 abbrev pub edit_work : EditRule → Format → Work
 edit_work s format = record { order = InTurn; policy = Edit s; form = AsCapture format }
 
--- An edit of a file with fewer than 2^63 packets writes what is unique of what is selected of them.
+-- An edit of a file with fewer than 2^63 packets writes what is unique of what is selected of them,
+-- up to the first whose moved time is out of range or that the format refuses; of none, where it ends
+-- with status 0, the start of a file.
 abbrev pub EditWrites : Type 0
 EditWrites =
     (s : EditRule) (format : Format) (names : List (List ℕ)) (file : List ℕ)
@@ -73,7 +75,8 @@ abbrev pub print_work : Rule → Option ℕ → Form → Work
 print_work rule count form = record { order = InTurn; policy = Filter rule count; form = form }
 
 -- A print of a file with fewer than 2^63 packets as a capture writes those that the rule keeps, the
--- first of them where a count is given.
+-- first of them where a count is given, up to the first that the rule or the format refuses; of none,
+-- where it ends with status 0, the start of a file.
 abbrev pub PrintWrites : Type 0
 PrintWrites =
     (rule : Rule) (count : Option ℕ) (format : Format) (names : List (List ℕ)) (file : List ℕ)
@@ -107,7 +110,8 @@ event_packets (InputEnd input kind size ∷ es) = event_packets es
 abbrev pub packets_in_order : PacketOrder → List InputItems → List Captured
 packets_in_order order rs = event_packets (sequence_of order rs).events
 
--- A merge of inputs with fewer than 2^63 packets in all writes all of them in its order.
+-- A merge of inputs of which fewer than 2^63 packets come before the first fault writes these in its
+-- order, up to the first that its format refuses.
 abbrev pub MergeWrites : Type 0
 MergeWrites =
     (order : PacketOrder) (format : Format) (names : List (List ℕ)) (rs : List InputItems)
@@ -178,13 +182,14 @@ pub record HasCarried (format : Format) (file : List ℕ) (p : Captured) (ps : L
 abbrev pub copy_of : Format → List (List ℕ) → List ℕ → List ℕ
 copy_of format names file = (outcome (edit_work no_options format) names (whole_input file ∷ [])).output
 
--- An edit without options keeps all packets that its format carries, as they are.
+-- Where the format carries all packets of a file, which has some, an edit without options keeps them,
+-- as they are.
 abbrev pub EditKeeps : Type 0
 EditKeeps =
     (format : Format) (names : List (List ℕ)) (file : List ℕ) (p : Captured) (ps : List Captured)
     → HasCarried format file p ps → file_packets (copy_of format names file) ≡ file_packets file
 
--- An edit without options of what such an edit wrote writes the same bytes.
+-- There an edit without options of what such an edit wrote writes the same bytes.
 abbrev pub EditsAlike : Type 0
 EditsAlike =
     (format : Format) (names : List (List ℕ)) (file : List ℕ) (p : Captured) (ps : List Captured)
@@ -213,8 +218,8 @@ abbrev pub AreRead : List Captured → Type 0
 AreRead [] = Unit {0}
 AreRead (p ∷ ps) = (is_some (link_of p.link) ≡ true) × AreRead ps
 
--- An expression, its negation and rejection part packets: each of them is in one of three lists, once,
--- whatever is summed of it.
+-- Of packets with link types that expressions are read on, an expression, its negation and rejection
+-- make three lists; each packet is in one of them, once, whatever is summed of it.
 abbrev pub NegationParts : Type 0
 NegationParts =
     (a : TruthTree) (ps : List Captured) (f : Captured → ℕ) → AreRead ps

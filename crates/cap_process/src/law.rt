@@ -24,30 +24,33 @@ pub fn window_has_last_marks()
     ensures { HasLastMarks }
 {}
 
-/// An edit ends at the first packet that is selected and whose time, once moved, is out of range,
-/// and only there. What passes is what is unique of what is selected in front of it.
+/// The selection of an edit ends at the first packet that is selected and whose time, once moved, is
+/// out of range, and for a time nowhere else. What passes is what is unique of what is selected
+/// before it.
 pub fn edit_ends_without_time()
     ensures { EndsWithoutTime }
 {}
 
 /// An edit writes what is unique of what is selected of the packets of its input, up to the first
-/// that its format refuses.
+/// whose moved time is out of range or that its format refuses.
 pub fn edit_writes_unique()
     ensures { EditWrites }
 {}
 
 /// A print that writes a capture writes the packets that match, or the first `count` of them, up to
-/// the first that its format refuses.
+/// the first that its filter or its format refuses.
 pub fn print_writes_matching()
     ensures { PrintWrites }
 {}
 
-/// A print of lines writes the lines of the packets that match, or of the first `count` of them.
+/// A print of lines writes the lines of the packets that match, or of the first `count` of them, up
+/// to the first that its filter refuses.
 pub fn print_has_their_lines()
     ensures { PrintLines }
 {}
 
-/// A merge writes all packets of its inputs in its order, up to the first that its format refuses.
+/// A merge writes the packets of its inputs in its order, up to the first fault of an input, or the
+/// first packet that its format refuses.
 pub fn merge_writes_all()
     ensures { MergeWrites }
 {}
@@ -62,21 +65,23 @@ pub fn merge_of_one_is_its_edit()
     ensures { MergesOne }
 {}
 
-/// An edit without options keeps all packets that its format carries, as they are.
+/// Where its format carries all packets of a file, which has some, an edit without options keeps
+/// them, as they are.
 pub fn edit_keeps_what_is_carried()
     ensures { EditKeeps }
 {
     items_back();
 }
 
-/// An edit without options of what such an edit wrote writes the same bytes.
+/// There an edit without options of what such an edit wrote writes the same bytes.
 pub fn edit_again_is_alike()
     ensures { EditsAlike }
 {
     items_back();
 }
 
-/// An expression, its negation and rejection part packets: each is in one of three lists, once.
+/// Of packets with link types that expressions are read on, an expression, its negation and
+/// rejection make three lists; each packet is in one of them, once.
 pub fn negation_parts_packets()
     ensures { NegationParts }
 {}

@@ -54,7 +54,8 @@ whole_inputs call = map (λ (input : FreshInput). whole_input input.text) call.i
 
 -- ---- the outcome of a command
 
--- why the filter of a print, or the expression of a compilation, is refused
+-- why the filter of a print, or the expression of a compilation, is refused; that there was no
+-- memory for it may always be why
 abbrev pub IsWhyRefused : Option Preparing → Refusal → Type 0
 IsWhyRefused None why = ⊥
 IsWhyRefused (Some (ReadsFilter filter)) why = IsWhy filter.words filter.code why
@@ -74,8 +75,8 @@ fault_outcome output messages = record { output = output; messages = messages; s
 -- ---- what a run leaves
 
 -- Why an input is cut short after these whole units: a read failed, and the device wasn't sure of
--- the last of the bytes that decide what follows; or there was no memory for its next unit, which is
--- longer than each that the block held, or describes an interface.
+-- the last of the bytes that decide what follows; or there was no memory for its next unit, whose
+-- header states more bytes than each that the block held, or which describes an interface.
 abbrev pub IsWhyCut : Fault → FreshInput → (done rest : List ℕ) → Declared → Type 0
 IsWhyCut fault input done rest declared =
     ((fault ≡ ReadFailed)
@@ -91,8 +92,8 @@ pub record IsCutInput (call : Call) (place : ℕ) (held : Items) : Type 0 where
   pub why : IsWhyCut fault input cut.done cut.rest held.declared
 
 -- What a run may leave where its output doesn't fail:
--- what the command defines of its inputs, the message on a filter or an expression that is refused,
--- or a listing;
+-- what the command defines of its inputs; the message on a filter or an expression that is refused,
+-- or for which there was no memory; or a listing;
 -- what it defines where an input is cut short;
 -- what is written of some events, where there was no memory to write the next packet;
 -- nothing but a message, where there was no memory to begin. No clause can say that an allocation
@@ -121,7 +122,7 @@ pub record HasLeft (call : Call) (o : Outcome) (r : RunResult) : Type 0 where
   pub output : r.output.written ≡ call.output.written ++ o.output
   pub failures : r.output.failures ≡ call.output.failures
   pub message : IsTold call.tells call.messages o.messages r.messages
-  -- where all went well the messages' device isn't called
+  -- where the status is 0 the messages' device has the bytes and the failures that it had
   pub quiet : r.status ≡ 0 → r.messages ≡ call.messages
   pub status : r.status ≡ o.status
 
@@ -144,7 +145,7 @@ pub record HasLostOutput (asked : Assignment) (call : Call) (r : RunResult) : Ty
   pub answer : IsAnswer asked call written bytes
   pub stops : Stops (call.output.written ++ written) bytes r.output.written
   pub failures : r.output.failures ≡ call.output.failures + 1
-  -- it failed only after as many bytes as it has room for
+  -- it failed only once it had as many bytes in all as it has room for, those before the call too
   pub filled : call.room ≤ length r.output.written
   pub message : IsTold call.tells call.messages
       (write_failed_message (name_at call.names (length call.inputs))) r.messages
