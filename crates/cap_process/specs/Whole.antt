@@ -56,8 +56,8 @@ abbrev pub edit_work : EditRule → Format → Work
 edit_work s format = record { order = InTurn; policy = Edit s; form = AsCapture format }
 
 -- An edit of a file with fewer than 2^63 packets writes what is unique of what is selected of them,
--- up to the first whose moved time is out of range or that the format refuses; of none, where it ends
--- with status 0, the start of a file.
+-- up to the first whose moved time is out of range or that the format refuses; of none, where it
+-- ends with status 0, the start of a file.
 abbrev pub EditWrites : Type 0
 EditWrites =
     (s : EditRule) (format : Format) (names : List (List ℕ)) (file : List ℕ)
@@ -75,8 +75,8 @@ abbrev pub print_work : Rule → Option ℕ → Form → Work
 print_work rule count form = record { order = InTurn; policy = Filter rule count; form = form }
 
 -- A print of a file with fewer than 2^63 packets as a capture writes those that the rule keeps, the
--- first of them where a count is given, up to the first that the rule or the format refuses; of none,
--- where it ends with status 0, the start of a file.
+-- first of them where a count is given, up to the first that the rule or the format refuses; of
+-- none, where it ends with status 0, the start of a file.
 abbrev pub PrintWrites : Type 0
 PrintWrites =
     (rule : Rule) (count : Option ℕ) (format : Format) (names : List (List ℕ)) (file : List ℕ)
@@ -110,8 +110,8 @@ event_packets (InputEnd input kind size ∷ es) = event_packets es
 abbrev pub packets_in_order : PacketOrder → List InputItems → List Captured
 packets_in_order order rs = event_packets (sequence_of order rs).events
 
--- A merge of inputs of which fewer than 2^63 packets come before the first fault writes these in its
--- order, up to the first that its format refuses.
+-- A merge of inputs of which fewer than 2^63 packets come before the first fault writes these in
+-- its order, up to the first that its format refuses.
 abbrev pub MergeWrites : Type 0
 MergeWrites =
     (order : PacketOrder) (format : Format) (names : List (List ℕ)) (rs : List InputItems)
