@@ -45,7 +45,7 @@ fn is_selected<A: Allocator>(edit: &Edit<A>, number: u64, packet: &Packet<'_>) -
     edit.keeps(number) && in_time
 }
 
-/// What follows the first `count` bytes; nothing of fewer.
+/// What follows the first `count` bytes; nothing where there are no more than these.
 fn without_first(count: u32, bytes: &[u8]) -> &[u8]
     ensures { result.now ≡ without_first count bytes.now }
 {

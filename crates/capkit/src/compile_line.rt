@@ -1,4 +1,4 @@
-//! The line of a compilation.
+//! The command line of `compile`.
 ghost use Rattle.std.specs.Prelude.{◌≡◌, IfOk, IfErr, true};
 ghost use Rattle.clap.specs.Words.{found_of, rows_of};
 ghost use Rattle.capkit.specs.Line.{is_ready, IsCompileOf};

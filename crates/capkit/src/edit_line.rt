@@ -1,4 +1,4 @@
-//! The line of an edit: its options, its ranges and its names, or the first fault of them.
+//! The command line of `edit`: its options, its ranges and its names, or the first fault of them.
 ghost use Rattle.std.specs.Prelude.{◌≡◌, ◌⊎◌, IfOk, IfErr, OnOk, Some, None, map, true};
 ghost use Rattle.cap_command.specs.Command.{has_proper_ranges, is_proper_edit, is_proper_shift};
 ghost use Rattle.clap.specs.Words.{found_of, rows_of};

@@ -1,4 +1,4 @@
-//! The line of a merge.
+//! The command line of `merge`.
 ghost use Rattle.std.specs.Prelude.{◌≡◌, IfOk, IfErr, OnOk, None, true};
 ghost use Rattle.clap.specs.Words.{found_of, rows_of};
 ghost use Rattle.capkit.specs.Line.{is_ready, merge_fault, IsUsageOf, IsMergeOf};

@@ -1,5 +1,5 @@
-//! The line of a print: its expression or its listing, its options and its names, or the first
-//! fault of them.
+//! The command line of `print`: its expression or its listing, its options and its names, or the
+//! first fault of them.
 ghost use Rattle.std.specs.Prelude.{◌≡◌, ◌∷◌, ◌≤◌, IfOk, IfErr, IfSome, OnOk, Some, None};
 ghost use Rattle.std.specs.Prelude.{option_map, string_bytes, true};
 ghost use Rattle.std.specs.Option.{option_map_or, option_to_list};

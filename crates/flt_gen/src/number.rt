@@ -124,6 +124,7 @@ fn emit_protocol_tests<A: Allocator>(
     match protocol {
         Protocol::Ether => code.emit_all(&[kind_test(link, FrameKind::Ethernet)], to),
         Protocol::Ip => code.emit_all(&[ip], to),
+        // There is no `icmp6[..]` in the grammar.
         Protocol::Ip6 | Protocol::Icmp6 => code.emit_all(&[kind_test(link, FrameKind::Ip6)], to),
         Protocol::Arp => code.emit_all(&[kind_test(link, FrameKind::Arp)], to),
         Protocol::Rarp => code.emit_all(&[kind_test(link, FrameKind::Rarp)], to),

@@ -547,7 +547,9 @@ impl<A: Allocator> Reader<A> {
         }
     }
 
-    /// Reads the tokens of a whole expression, where nothing is read yet. No tokens have no nodes.
+    /// Reads the tokens of a whole expression into a reader that has read nothing. It has the nodes
+    /// of their tree then, and none where there are no tokens. `NotAnExpression` where they have no
+    /// tree.
     pub fn read(&mut self, tokens: &[Token]) -> Result<(), ExprFault>
         requires frames { self.old.frames ≡ [] }
         requires nodes { self.old.nodes ≡ [] }

@@ -1,5 +1,6 @@
 //! Whether a program does what an old one does: instruction by instruction, with what is read. What
 //! an operation reads and sets `flt_opt` has too, which compares by notes; this crate stands alone.
+//! `after` are the old instructions after `old`, and `following` are their landings.
 
 ghost use Rattle.std.specs.Prelude.{◌≡◌, ◌≢◌, ◌↔◌, ◌-◌, ◌==◌, ◌&&◌, nat_lt, length, IsTrue, All};
 ghost use Rattle.flt_bpf.specs.Instructions.{operation_of};
@@ -232,8 +233,9 @@ fn is_direct(indirect: u16, code: u16) -> bool
     }
 }
 
-/// Whether the new program has one load for a number that goes to X by A, and a load at X, after
-/// which X isn't read.
+/// Whether one load of the new program, at a fixed place, replaces three instructions of the old
+/// one: a number into A, A into X, a load at X (as `40 i + k` for `0 i`, `7`, `72 k`). X isn't read
+/// after them.
 #[tactic(auto, unfolding(crate::specs::inside::Alike::direct_load))]
 fn direct_load(
     new: Wide,

@@ -179,7 +179,7 @@ impl Shortening<'_> {
         }
     }
 
-    /// The instructions from a place on.
+    /// The instructions of the old code from `at` on.
     fn insns_from(&self, at: usize) -> &[Wide] {
         match self.insns.get(at..) {
             Some(insns) => insns,
@@ -187,7 +187,8 @@ impl Shortening<'_> {
         }
     }
 
-    /// One test of bits for the mask at a place, if a test for 0 is next and A isn't read after.
+    /// One test of bits in place of the mask at `at` and the test for 0 after it, if these are
+    /// there and A isn't read after them.
     fn bits_at(&self, at: usize) -> Option<Wide> {
         let [mask, test, ..] = self.insns_from(at) else {
             return None;
@@ -208,7 +209,8 @@ impl Shortening<'_> {
         })
     }
 
-    /// One load for the number at a place, if it is only added to the place of a load.
+    /// One load at a fixed place in place of the number at `at` and of what puts it into X and loads
+    /// at X, if these are there and X isn't read after them.
     fn load_at(&self, at: usize) -> Option<Wide> {
         let [number, copy, load, ..] = self.insns_from(at) else {
             return None;
@@ -221,8 +223,8 @@ impl Shortening<'_> {
         Some(Wide { code, k, ..*load })
     }
 
-    /// The header length and a load after it for the number at a place, if it is only added to the
-    /// header length for the place of a load.
+    /// A header length in X and a load at X in place of the number at `at` and of what adds it to
+    /// that length and loads there, if these are there and X isn't read after them.
     fn header_load_at(&self, at: usize) -> Option<(Wide, Wide)> {
         let [number, length, add, copy, load, ..] = self.insns_from(at) else {
             return None;
@@ -253,7 +255,8 @@ impl Shortening<'_> {
                 || self.header_load_at(number).is_some())
     }
 
-    /// Whether what an instruction in front is joined to replaces this one too.
+    /// Whether an instruction in front is joined with this one, so that this one isn't emitted and
+    /// lands nowhere. If a run jumps here, the new code isn't taken.
     fn is_joined(&self, at: usize) -> bool {
         at >= 1 && self.bits_at(at - 1).is_some()
             || (1..=4).any(|before| self.is_joined_by(at, before))

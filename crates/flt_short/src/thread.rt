@@ -297,8 +297,9 @@ fn target_if(known: &Known, field: Field, number: u32, code: &[Wide], from: usiz
     walked(&known, code, from).best
 }
 
-/// Where a run may go on in place of a place. Where a field is one of two numbers, it is where the
-/// run goes on for each. Places are indices into the code after the test.
+/// How far on a run may skip from a place. Where the walk ends at a test of a field that is one of
+/// two numbers, it is where both numbers lead, if that is one place. Places are indices into the
+/// code after the test.
 fn target(known: &Known, code: &[Wide], from: usize) -> usize
     ensures { result ≡ target known.now code.now from }
 {

@@ -172,8 +172,8 @@ impl Reader {
 }
 
 impl Interface {
-    /// An interface that was read, with its name copied, which has 255 bytes at most; the bytes
-    /// after the name are 0.
+    /// The entry of the caller's table for an interface that `cap_pcapng` read. Its name, of 255
+    /// bytes at most, is copied, and the rest of `name` is 0, which no clause says.
     pub(crate) fn of_read(read: &ReadInterface<'_>) -> Self
         ensures { described_of result ≡ description_of read.now }
     {

@@ -64,8 +64,10 @@ fn is_pcapng(text: &[u8]) -> bool
     }
 }
 
-/// The first link type of a file after a block: the one known before it, else that of the first of
-/// `count` interfaces, which the section has after it; `None` if there are none.
+/// The first link type that a file has declared once a block is read: `first`, if one was known
+/// before the block, else that of the first of the `count` interfaces that the section has then;
+/// `None` where there is neither. The section's byte order doesn't matter, so the clause holds for
+/// each. `cap_io` has the same over its `Table`.
 fn first_link_type(first: Option<u16>, table: &[Interface], count: usize) -> Option<u16>
     requires { count ≤ length table.now }
     ensures { (order : Order) → result ≡ first_link_after first

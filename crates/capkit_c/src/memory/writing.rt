@@ -170,10 +170,11 @@ fn put_interface(packet: &Packet<'_>, buffer: &mut [u8]) -> Written
     put_parts(&[&head, option, name, &end[3 - padding..]], size, buffer)
 }
 
-/// Puts the block of a packet of this interface, after its section and the descriptions of its
-/// interfaces. It is refused where its time is 2^63 nanoseconds or more (`TimeOutOfRange`), its
-/// comment has over 65,535 bytes (`BadOption`), as `cap_pcapng::check_block_fits` says, and where
-/// the interface isn't among the first 4,096 (`TooManyOutputInterfaces`).
+/// Puts the enhanced packet block of a packet of the interface with this number; that its section
+/// and its interface were written before is the caller's to see to. It is refused where its time is
+/// 2^63 nanoseconds or more (`TimeOutOfRange`), its comment has over 65,535 bytes (`BadOption`), as
+/// `cap_pcapng::check_block_fits` says, and where the interface isn't among the first 4,096
+/// (`TooManyOutputInterfaces`).
 pub fn write_packet(
     interface: u32,
     time: u64,
