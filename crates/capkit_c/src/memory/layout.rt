@@ -173,7 +173,7 @@ impl Reader {
 
 impl Interface {
     /// The entry of the caller's table for an interface that `cap_pcapng` read. Its name, of 255
-    /// bytes at most, is copied, and the rest of `name` is 0, which no clause says.
+    /// bytes at most, is copied, and the rest of `name` is 0, which no clause states.
     pub(crate) fn of_read(read: &ReadInterface<'_>) -> Self
         ensures { described_of result ≡ description_of read.now }
     {
