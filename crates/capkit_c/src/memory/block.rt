@@ -11,7 +11,7 @@ ghost use Rattle.capkit_c.specs.inside.Blocks.{spans_of};
 use crate::memory::layout::Interface;
 use cap_octet::{Fault, Order};
 use cap_pcapng::{
-    BlockEffect as Effect, Frame, Interface as ReadInterface, Interfaces, PacketSpans,
+    BlockEffect as Effect, Frame, Interface as PcapngInterface, Interfaces, PacketSpans,
     block_effect, read_frame,
 };
 
@@ -64,13 +64,13 @@ fn interface_by_number(table: &[Interface], count: usize, number: u32) -> Option
 }
 
 /// Puts an interface after the first `count` of a table.
-fn append_interface(table: &mut [Interface], count: usize, interface: &ReadInterface<'_>)
+fn append_interface(table: &mut [Interface], count: usize, interface: &PcapngInterface<'_>)
     requires { count < length table.old }
     ensures put { first_interfaces (count + 1) table.new
         ≡ first_interfaces count table.old ++ description_of interface.now ∷ [] }
     ensures same { length table.new ≡ length table.old }
 {
-    table[count] = Interface::of_read(interface);
+    table[count] = Interface::of_pcapng(interface);
 }
 
 /// The first `count` interfaces of a table, as blocks look them up.
@@ -89,11 +89,11 @@ impl Interfaces for KnownInterfaces<'_> {
     }
 
     /// The interface with this number, from 0, with its name lent; `None` where there is none.
-    fn get(&self, number: u32) -> Option<ReadInterface<'_>> {
+    fn get(&self, number: u32) -> Option<PcapngInterface<'_>> {
         if number as usize >= self.count {
             return None;
         }
-        self.entries.get(number as usize).map(Interface::as_read)
+        self.entries.get(number as usize).map(Interface::as_pcapng)
     }
 }
 

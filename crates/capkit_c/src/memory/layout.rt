@@ -6,7 +6,7 @@ ghost use Rattle.capkit_c.specs.Layout.{described_of, reader_form, most_known, o
 use cap_io::FileState;
 use cap_octet::Order;
 use cap_pcap::{Head, Resolution};
-use cap_pcapng::{Clock, Interface as ReadInterface, MOST_INTERFACES};
+use cap_pcapng::{Clock, Interface as PcapngInterface, MOST_INTERFACES};
 
 /// The most bytes of an interface's name, as `Interface::name` has room for them.
 const MOST_NAME: usize = 255;
@@ -174,7 +174,7 @@ impl Reader {
 impl Interface {
     /// The entry of the caller's table for an interface that `cap_pcapng` read. Its name, of 255
     /// bytes at most, is copied, and the rest of `name` is 0, which no clause states.
-    pub(crate) fn of_read(read: &ReadInterface<'_>) -> Self
+    pub(crate) fn of_pcapng(read: &PcapngInterface<'_>) -> Self
         ensures { described_of result ≡ description_of read.now }
     {
         let mut name = [0; MOST_NAME];
@@ -190,10 +190,10 @@ impl Interface {
     }
 
     /// The interface as blocks know it, with its name lent.
-    pub(crate) fn as_read(&self) -> ReadInterface<'_>
+    pub(crate) fn as_pcapng(&self) -> PcapngInterface<'_>
         ensures { description_of result ≡ described_of self.now }
     {
-        ReadInterface {
+        PcapngInterface {
             link: self.link_type,
             snap: self.snap,
             name: &self.name[..self.name_length as usize],

@@ -32,7 +32,7 @@ const MOST_COMMENT: usize = 65535;
 const MOST_NAME: usize = 255;
 
 /// The most interfaces that a file is given.
-const MOST_INTERFACES: u32 = cap_io::MOST_OUTPUT_INTERFACES as u32;
+const MOST_OUTPUT_INTERFACES: u32 = cap_io::MOST_OUTPUT_INTERFACES as u32;
 
 /// What became of bytes that were to be put into a buffer.
 #[derive(Clone, Copy)]
@@ -205,7 +205,7 @@ pub fn write_packet(
         comment,
     };
     match cap_pcapng::check_block_fits(&packet) {
-        Ok(()) if interface < MOST_INTERFACES => put_packet(interface, &packet, buffer),
+        Ok(()) if interface < MOST_OUTPUT_INTERFACES => put_packet(interface, &packet, buffer),
         Ok(()) => Written::Refused(Fault::TooManyOutputInterfaces),
         Err(fault) => Written::Refused(fault),
     }
