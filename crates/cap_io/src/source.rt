@@ -238,7 +238,7 @@ impl<I: Input, A: Allocator> Source<I, A> {
         ensures err { IfErr result (λ _. self.new.block ≡ []) }
     {
         loop {
-            match self.read_next()? {
+            match self.read_unit()? {
                 NextUnit::Packet => return Ok(true),
                 NextUnit::End => return Ok(false),
                 NextUnit::Other(_) => {}
@@ -259,7 +259,7 @@ impl<I: Input, A: Allocator> Source<I, A> {
 
     /// Reads one unit: one with a packet becomes the current one, another is skipped, and at the
     /// clean end the source ends. A fault leaves it between units; `advance` notes the fault.
-    fn read_next(&mut self) -> Result<NextUnit, Fault>
+    fn read_unit(&mut self) -> Result<NextUnit, Fault>
         requires between { IsBetween self.old }
         ensures packets { IsTrue I.tells → FindsNext self.old result self.new }
         ensures bounds { NextBounds self.old result self.new }

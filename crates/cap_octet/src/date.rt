@@ -12,7 +12,7 @@ pub const NANOS_PER_SECOND: u64 = 1_000_000_000;
 pub const TIME_END: u64 = 1 << 63;
 
 /// Seconds in a day.
-const SECONDS_PER_DAY: u64 = 86_400;
+pub const SECONDS_PER_DAY: u64 = 86_400;
 
 /// The two digits of each number below 100, in ASCII.
 static PAIRS: [u8; 200] = *b"\

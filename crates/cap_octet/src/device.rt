@@ -151,7 +151,7 @@ pub fn read_full<I: Input>(input: &mut I, buf: &mut [u8]) -> Result<usize, Devic
     if count == 0 || count == buf.len() {
         return Ok(count);
     }
-    match read_in_turns(input, &mut buf[count..]) {
+    match read_repeatedly(input, &mut buf[count..]) {
         Ok(more) => Ok(count + more),
         Err(fault) => Err(fault),
     }
@@ -161,7 +161,7 @@ pub fn read_full<I: Input>(input: &mut I, buf: &mut [u8]) -> Result<usize, Devic
 /// fills it.
 #[cold]
 #[inline(never)]
-fn read_in_turns<I: Input>(input: &mut I, buf: &mut [u8]) -> Result<usize, DeviceFault>
+fn read_repeatedly<I: Input>(input: &mut I, buf: &mut [u8]) -> Result<usize, DeviceFault>
     ensures within { IfOk result (λ n. n ≤ length buf.old) }
     ensures counted { IfOk result (λ n. I.given input.new ≡ I.given input.old + n) }
     ensures grown { I.given input.old ≤ I.given input.new }
@@ -208,7 +208,7 @@ pub fn write_all<O: Output>(output: &mut O, buf: &[u8]) -> Result<(), Stopped>
     if count == buf.len() {
         return Ok(());
     }
-    match write_in_turns(output, &buf[count..]) {
+    match write_repeatedly(output, &buf[count..]) {
         Ok(()) => Ok(()),
         Err(stopped) => Err(Stopped {
             written: count + stopped.written,
@@ -220,7 +220,7 @@ pub fn write_all<O: Output>(output: &mut O, buf: &[u8]) -> Result<(), Stopped>
 /// write takes all.
 #[cold]
 #[inline(never)]
-fn write_in_turns<O: Output>(output: &mut O, buf: &[u8]) -> Result<(), Stopped>
+fn write_repeatedly<O: Output>(output: &mut O, buf: &[u8]) -> Result<(), Stopped>
     ensures front { IfErr result (λ stopped. stopped.written < length buf.now) }
     ensures failed { O.failures output.new ≡ O.failures output.old + failures_of result }
     ensures room { O.room output.new ≡ O.room output.old }

@@ -5,7 +5,7 @@ ghost use Rattle.cap_octet.specs.Timestamp.{clock_of_parts, time_of_parts};
 ghost use Rattle.cap_octet.specs.Timestamp.{number_at, optional_fraction, is_date_time};
 ghost use Rattle.cap_octet.specs.Timestamp.{date_time_value, time_value};
 
-use crate::date::NANOS_PER_SECOND;
+use crate::date::{NANOS_PER_SECOND, SECONDS_PER_DAY};
 use crate::digits::decimal_value;
 use crate::seconds::{fraction_nanoseconds, read_duration, time_below_end};
 use jiff_core::civil;
@@ -14,10 +14,8 @@ use jiff_core::civil::Date;
 /// The number of 1970-01-01 as jiff counts days from its first date, -9999-01-01.
 const EPOCH: u32 = 4_371_587;
 
-/// Seconds in a day.
-const SECONDS_PER_DAY: u64 = 86_400;
-
 /// How many days after 1970-01-01 a day comes, if the calendar has it; years go from 1970 to 9999.
+/// `calendar_day` is the way back.
 fn day_number(year: u64, month: u64, day: u64) -> Option<u64>
     ensures { result ≡ day_number year month day }
 {

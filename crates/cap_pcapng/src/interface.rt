@@ -23,8 +23,8 @@ const OFFSET_CODE: u16 = 14;
 /// How many ticks make a second where no resolution is given.
 const MICROSECONDS: u64 = 1_000_000;
 
-/// The most bytes of an interface's name.
-const MOST_NAME: usize = 255;
+/// The most bytes of an interface's name, as a capture that is read may have them.
+pub const MOST_NAME: usize = 255;
 
 /// An interface's name, held in place.
 pub type Name = ArrayVec<u8, MOST_NAME>;

@@ -19,7 +19,7 @@ pub use blocks::{Block, EnhancedBlock, InterfaceBlock, SimpleBlock};
 pub use clock::Clock;
 pub use effect::{BlockEffect, Interfaces, PacketSpans, Span, block_effect};
 pub use frames::{BlockType, Frame};
-pub use interface::{Interface, Name};
+pub use interface::{Interface, MOST_NAME, Name};
 pub use options::{BlockOption, Options};
 pub use read::{begins_section, read_block, read_frame};
 pub use table::{MOST_INTERFACES, Table};

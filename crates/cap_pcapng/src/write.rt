@@ -164,6 +164,8 @@ pub fn interface_end(size: u32) -> [u8; 19]
     ensures { result ≡ replicate 3 0 ++ (resolution_text ++ end_text ++ little_bytes 4 size) }
 {
     let mut bytes = [0; 19];
+    // What isn't set stays 0: 3 bytes of padding in front, at 8 that of the value, at 11 the end of
+    // the options.
     LittleEndian::write_u16(&mut bytes[3..], RESOLUTION_CODE);
     LittleEndian::write_u16(&mut bytes[5..], 1);
     bytes[7] = NANOSECONDS;

@@ -26,7 +26,7 @@ use std::alloc::{AllocError, Allocator};
 use std::marker::Model;
 
 /// The first number that no packet can have, 2^63, as a job counts: in 128 bits.
-const MOST_PACKETS: u128 = PACKET_NUMBER_END as u128;
+const NUMBER_END: u128 = PACKET_NUMBER_END as u128;
 
 /// What becomes of a packet that is not refused.
 #[derive(Clone, Copy)]
@@ -155,14 +155,14 @@ impl<A: Allocator> Policy<A> {
     }
 
     /// Whether packets are only counted, for a report, and none passes.
-    fn counts(&self) -> bool
+    fn is_count(&self) -> bool
         ensures { result ≡ is_count (policy_of self.now) }
     {
         matches!(self, Policy::Count)
     }
 
     /// After how many packets that pass nothing more is read; `None` where all are.
-    fn count(&self) -> Option<u64>
+    fn count_limit(&self) -> Option<u64>
         ensures { result ≡ count_limit (policy_of self.now) }
     {
         match self {
@@ -242,11 +242,11 @@ impl<A: Allocator> Selector<A> {
             self.old.policy }
         ensures upper_bound { HasFewMarks self.new.policy self.new.state }
     {
-        if self.policy.counts() {
+        if self.policy.is_count() {
             self.tally = self.tally.counted(packet);
             return Ok(Verdict::Skip);
         }
-        if number >= MOST_PACKETS {
+        if number >= NUMBER_END {
             return Err(Fault::TooManyPackets);
         }
         let number = number as u64;
@@ -258,7 +258,7 @@ impl<A: Allocator> Selector<A> {
         if passed < number {
             self.passed = passed + 1;
         }
-        let last = is_last(self.policy.count(), self.passed);
+        let last = is_last(self.policy.count_limit(), self.passed);
         Ok(passing(last))
     }
 
@@ -270,7 +270,7 @@ impl<A: Allocator> Selector<A> {
         ensures programs { self.new.programs ≡ self.old.programs }
         ensures upper_bound { HasFewMarks self.new.policy self.new.state }
     {
-        if !self.policy.counts() {
+        if !self.policy.is_count() {
             return None;
         }
         let tally = self.tally;

@@ -193,7 +193,7 @@ impl<I: Input, O: Output, E: Output, A: Allocator + Copy + Drop> Job<I, O, E, A>
             return self.go_on();
         }
         match self.preparation.take() {
-            Some(Preparation::Filter(print)) => self.read_filter(&print),
+            Some(Preparation::Filter(print)) => self.start_filtering(&print),
             Some(Preparation::Listing(compile)) => self.compile(&compile),
             None => self.go_on(),
         }
@@ -201,7 +201,7 @@ impl<I: Input, O: Output, E: Output, A: Allocator + Copy + Drop> Job<I, O, E, A>
 
     /// Reads the filter of a print, by which packets are judged from then on; or reports why it is
     /// refused, and ends the job. It is one step.
-    fn read_filter(&mut self, print: &Print<A>) -> Turn
+    fn start_filtering(&mut self, print: &Print<A>) -> Turn
         requires fresh { IsFresh self.old }
         requires taken { self.old.preparing ≡ None }
         ensures gives { FilterGives (asked_by print.now) E.tells self.old result self.new }
@@ -209,7 +209,7 @@ impl<I: Input, O: Output, E: Output, A: Allocator + Copy + Drop> Job<I, O, E, A>
         ensures reads { PreparesOnly self.old self.new }
     {
         match read_filter(self.alloc, print) {
-            Ok(filter) => self.filter(filter, print.count),
+            Ok(filter) => self.install_filter(filter, print.count),
             Err(refusal) => self.refuse(refusal),
         }
     }
@@ -375,7 +375,7 @@ impl<I: Input, O: Output, E: Output, A: Allocator + Copy + Drop> Job<I, O, E, A>
     }
 
     /// From here on packets are judged by this filter, up to `count` that pass. It is one step.
-    fn filter(&mut self, filter: Filter<A>, count: Option<u64>) -> Turn
+    fn install_filter(&mut self, filter: Filter<A>, count: Option<u64>) -> Turn
         requires fresh { IsFresh self.old }
         requires taken { self.old.preparing ≡ None }
         requires new { AreNew (rule_of filter) (programs_of filter) }

@@ -33,7 +33,7 @@ struct Cut<'a> {
 }
 
 /// Cuts a text at the first byte that is `stop`; without one the piece is all of it.
-fn cut_at(text: &[u8], stop: u8) -> Cut<'_>
+fn split_at_first(text: &[u8], stop: u8) -> Cut<'_>
     ensures pieces { slice_split (λ b. b == stop) text.now
         ≡ result.piece.now ∷ pieces_after stop result.rest }
     ensures whole { OnNone result.rest (result.piece.now ≡ text.now) }
@@ -88,7 +88,7 @@ fn first_number(line: &[u8]) -> Option<Numbered<'_>>
         ≡ after (Some first.number) (line_numbers first.rest.now)) }
     ensures last { OnNone result (HasAtMostOne (line_numbers line.now)) }
 {
-    let cut = cut_at(line, BLANK);
+    let cut = split_at_first(line, BLANK);
     let number = parse_number(cut.piece)?;
     let rest = after_blanks(cut.rest?);
     Some(Numbered { number, rest })
@@ -98,7 +98,7 @@ fn first_number(line: &[u8]) -> Option<Numbered<'_>>
 fn only_number(line: &[u8]) -> Option<u64>
     ensures { result ≡ only_of (line_numbers line.now) }
 {
-    let cut = cut_at(line, BLANK);
+    let cut = split_at_first(line, BLANK);
     match cut.rest {
         None => parse_number(cut.piece),
         Some(_) => None,
@@ -146,7 +146,7 @@ fn first_line(text: &[u8]) -> FirstLine<'_>
     requires { 0 < length text.now }
     ensures { lines_of text.now ≡ result.line.now ∷ lines_of result.rest.now }
 {
-    let cut = cut_at(text, LINE_FEED);
+    let cut = split_at_first(text, LINE_FEED);
     match cut.rest {
         Some(rest) => FirstLine {
             line: cut.piece,

@@ -18,7 +18,7 @@ use Rattle.flt_lang.specs.declared.frame.Operand.TheVariants as operand
 use Rattle.flt_ast.specs.Tree.{NumberTree, literal, TruthTree, bare, Expression}
 use Rattle.flt_lang.specs.Values.{no_mask, prefix, dotted_mask, ReadsValue, number, dotted, ip6, ip6_prefix, mac, range}
 use Rattle.flt_lang.specs.Grammar.{level, is_accessor, stands_alone, has_casts, Number, of_literal, of_len, of_name, enclosed, of_load, of_sized_load, minus, single, chain, Truth, of_check, of_cast, of_protocol_cast, of_sized, of_valued, of_bare, relation, denial, enclosed_truth, term, terms, IsReadAs, no_tokens, all_tokens}
-use Rattle.flt_lang.specs.inside.Parser.{◌>>=◌, precedence, operand_precedence, token_precedence, next_precedence, as_number, as_truth, fill, run, all_run, enclosed_operand, number_with_prefix, next_of, after_operand, IsLoose}
+use Rattle.flt_lang.specs.inside.Parser.{◌>>=◌, precedence, operand_precedence, token_precedence, next_precedence, as_number, as_truth, fill, run, nodes_of_tokens, enclosed_operand, number_with_prefix, next_of, after_operand, IsLoose}
 use Rattle.flt_ast.specs.inside.Nodes.{number_onto, truth_onto, expr_onto}
 use Rattle.flt_lang.proofs.Reducing.{le_true, le_false, reduce_stays}
 use Rattle.flt_lang.proofs.ValuesBack.{level_small}
@@ -259,7 +259,7 @@ reads_truth (terms {mid = mid} {rest = rest} {a = a} {b = b} {j = j} left right)
     }
 
 -- the machine reads each expression, and gives the nodes of its tree
-pub complete : {tokens : List TokenKind} {tree : Expression} → IsReadAs tokens tree → all_run tokens ≡ Some (expr_onto tree)
+pub complete : {tokens : List TokenKind} {tree : Expression} → IsReadAs tokens tree → nodes_of_tokens tokens ≡ Some (expr_onto tree)
 complete no_tokens = refl
 complete (all_tokens {ts = []} reads) =
     let r = reads_truth reads [] [] (lit≤ tt) (lit≤ tt) in

@@ -6,27 +6,27 @@ use Rattle.flt_ast.specs.Tree.{Expression}
 use Rattle.flt_ast.specs.Nodes.{expr_nodes, tree_of}
 use Rattle.flt_ast.specs.inside.Nodes.{tree_back, IsTree}
 use Rattle.flt_lang.specs.Grammar.{IsReadAs}
-use Rattle.flt_lang.specs.inside.Parser.{all_run}
+use Rattle.flt_lang.specs.inside.Parser.{nodes_of_tokens}
 use Rattle.flt_lang.proofs.Complete.{complete}
 use Rattle.flt_lang.proofs.Sound.{sound}
 use Rattle.flt_ast.proofs.NodesBack.{expr_turned}
 
 -- where the machine fails there is no tree
-pub no_tree : (tokens : List TokenKind) → all_run tokens ≡ None → (tree : Expression) → IsReadAs tokens tree → ⊥
+pub no_tree : (tokens : List TokenKind) → nodes_of_tokens tokens ≡ None → (tree : Expression) → IsReadAs tokens tree → ⊥
 no_tree tokens h tree reads = let e = complete reads in cc
 
 -- where it gives nodes, they are those of a tree
-tree_found : (tokens : List TokenKind) (nodes : List Node) → all_run tokens ≡ Some nodes → (tree : Expression) × IsReadAs tokens tree × (reverse nodes ≡ expr_nodes tree)
+tree_found : (tokens : List TokenKind) (nodes : List Node) → nodes_of_tokens tokens ≡ Some nodes → (tree : Expression) × IsReadAs tokens tree × (reverse nodes ≡ expr_nodes tree)
 tree_found tokens nodes h =
     let (tree, reads, same) = sound tokens nodes h in
     (tree, reads, ap reverse same ∙ expr_turned tree)
 
-pub found_is_tree : (tokens : List TokenKind) (nodes : List Node) → all_run tokens ≡ Some nodes → IsTree (reverse nodes)
+pub found_is_tree : (tokens : List TokenKind) (nodes : List Node) → nodes_of_tokens tokens ≡ Some nodes → IsTree (reverse nodes)
 found_is_tree tokens nodes h =
     let (tree, reads, same) = tree_found tokens nodes h in
     rw same (ap expr_nodes (tree_back tree))
 
-pub found_reads : (tokens : List TokenKind) (nodes : List Node) → all_run tokens ≡ Some nodes → IsReadAs tokens (tree_of (reverse nodes))
+pub found_reads : (tokens : List TokenKind) (nodes : List Node) → nodes_of_tokens tokens ≡ Some nodes → IsReadAs tokens (tree_of (reverse nodes))
 found_reads tokens nodes h =
     let (tree, reads, same) = tree_found tokens nodes h in
     let is : tree ≡ tree_of (reverse nodes) = sym (tree_back tree) ∙ ap tree_of (sym same) in

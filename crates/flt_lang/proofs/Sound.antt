@@ -13,7 +13,7 @@ use Rattle.flt_lang.specs.declared.frame.Operand.TheVariants as operand
 use Rattle.flt_ast.specs.Tree.{literal, load, Expression, empty, truth}
 use Rattle.flt_lang.specs.Values.{no_mask, prefix, number}
 use Rattle.flt_lang.specs.Grammar.{level, Number, of_literal, enclosed, of_load, of_sized_load, single, chain, Truth, of_bare, enclosed_truth, term, IsReadAs, no_tokens, all_tokens}
-use Rattle.flt_lang.specs.inside.Parser.{◌>>=◌, operand_precedence, token_precedence, next_precedence, as_number, as_truth, reduce, Begun, after_token, begin, whole, finish, run, all_run, enclosed_operand, next_of, after_operand}
+use Rattle.flt_lang.specs.inside.Parser.{◌>>=◌, operand_precedence, token_precedence, next_precedence, as_number, as_truth, reduce, Begun, after_token, begin, whole, finish, run, nodes_of_tokens, enclosed_operand, next_of, after_operand}
 use Rattle.flt_ast.specs.inside.Nodes.{truth_onto, expr_onto}
 use Rattle.flt_lang.proofs.Stacked.{some_first, some_then, widened, either_number, either_truth, Between, Following, number_between, truth_between, chain_of, reduce_sound, loosened}
 use Rattle.flt_lang.proofs.Begins.{left, SoFar, After, begun, begin_sound}
@@ -116,6 +116,6 @@ run_sound (t ∷ ts) zero fs (Some x) d start out b h =
     run_sound ts r.0 r.1.0 r.1.1 r.1.2 start out (go_on_sound t ts fs x d start r b goes) runs
 
 -- what the machine gives are the nodes of a tree of the tokens
-pub sound : (tokens : List TokenKind) (out : List Node) → all_run tokens ≡ Some out → Found tokens out
+pub sound : (tokens : List TokenKind) (out : List Node) → nodes_of_tokens tokens ≡ Some out → Found tokens out
 sound [] out h = (empty, no_tokens, cc)
 sound (t ∷ ts) out h = run_sound (t ∷ ts) 0 [] None [] (t ∷ ts) out (refl, refl) h

@@ -11,7 +11,7 @@ ghost use Rattle.flt_lang.specs.inside.Parser.{one_node, with_frames, IsReadFaul
 ghost use Rattle.flt_lang.specs.inside.Parser.{as_truth, as_sort, prefix_mask, fill};
 ghost use Rattle.flt_lang.specs.inside.Parser.{reduce, after_operator, after_load, accessor_size};
 ghost use Rattle.flt_lang.specs.inside.Parser.{after_close, after_token_at, number_with_prefix};
-ghost use Rattle.flt_lang.specs.inside.Parser.{after_operand, run, finish, all_run};
+ghost use Rattle.flt_lang.specs.inside.Parser.{after_operand, run, finish, nodes_of_tokens};
 ghost use Rattle.flt_ast.specs.Nodes.{tree_of};
 ghost use Rattle.flt_ast.specs.inside.Nodes.{IsTree};
 ghost use Rattle.flt_words.specs.declared.token.TokenKind.{TokenKind};
@@ -553,9 +553,9 @@ impl<A: Allocator> Reader<A> {
     pub fn read(&mut self, tokens: &[Token]) -> Result<(), ExprFault>
         requires frames { self.old.frames ≡ [] }
         requires nodes { self.old.nodes ≡ [] }
-        ensures ok { OnOk result (all_run (kinds_of tokens.now) ≡ Some self.new.nodes) }
+        ensures ok { OnOk result (nodes_of_tokens (kinds_of tokens.now) ≡ Some self.new.nodes) }
         ensures none { result ≡ Err ExprFault.NotAnExpression
-            → all_run (kinds_of tokens.now) ≡ None }
+            → nodes_of_tokens (kinds_of tokens.now) ≡ None }
         ensures err { IfErr result IsReadFault }
     {
         if tokens.is_empty() {

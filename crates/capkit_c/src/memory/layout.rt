@@ -6,10 +6,7 @@ ghost use Rattle.capkit_c.specs.Layout.{described_of, reader_form, most_known, o
 use cap_io::FileState;
 use cap_octet::Order;
 use cap_pcap::{Head, Resolution};
-use cap_pcapng::{Clock, Interface as PcapngInterface, MOST_INTERFACES};
-
-/// The most bytes of an interface's name, as `Interface::name` has room for them.
-const MOST_NAME: usize = 255;
+use cap_pcapng::{Clock, Interface as PcapngInterface, MOST_INTERFACES, MOST_NAME};
 
 /// How far a capture is read, and what its units declare of those after them. All zeros is the
 /// start of a capture.

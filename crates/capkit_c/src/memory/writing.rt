@@ -15,8 +15,8 @@ use cap_octet::date::TIME_END;
 use cap_octet::{Fault, Format, Packet};
 use cap_pcap::{file_header, record_header};
 use cap_pcapng::{
-    interface_end, interface_header, option_header, packet_end, packet_header, padding_after,
-    section_bytes,
+    MOST_NAME, interface_end, interface_header, option_header, packet_end, packet_header,
+    padding_after, section_bytes,
 };
 
 /// The code of a comment (option opt_comment).
@@ -27,9 +27,6 @@ const NAME_CODE: u16 = 2;
 
 /// The most bytes of a comment: its option has 16 bits for their number.
 const MOST_COMMENT: usize = 65535;
-
-/// The most bytes of an interface's name, as a capture that is read may have them.
-const MOST_NAME: usize = 255;
 
 /// The most interfaces that a file is given.
 const MOST_OUTPUT_INTERFACES: u32 = cap_io::MOST_OUTPUT_INTERFACES as u32;

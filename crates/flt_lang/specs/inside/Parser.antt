@@ -317,9 +317,9 @@ run (t ∷ ts) zero fs (Some x) d =
     after_operand (t ∷ ts) fs x d >>= λ r. run ts r.0 r.1.0 r.1.1 r.1.2
 
 -- no tokens have no nodes
-abbrev pub all_run : List TokenKind → Option (List Node)
-all_run [] = Some []
-all_run (t ∷ ts) = run (t ∷ ts) 0 [] None []
+abbrev pub nodes_of_tokens : List TokenKind → Option (List Node)
+nodes_of_tokens [] = Some []
+nodes_of_tokens (t ∷ ts) = run (t ∷ ts) 0 [] None []
 
 -- why the readers stop: the tokens have no tree, or an allocation failed
 abbrev pub IsReadFault : ExprFault → Type 0

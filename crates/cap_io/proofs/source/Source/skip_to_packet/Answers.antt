@@ -14,24 +14,24 @@ loop-init g c = record {
   counted = refl;
 }
 
-pub returns-in_err-read_next-clause-packets : goal.returns-in_err-read_next-clause-packets
-returns-in_err-read_next-clause-packets g c =
+pub returns-in_err-read_unit-clause-packets : goal.returns-in_err-read_unit-clause-packets
+returns-in_err-read_unit-clause-packets g c =
     let p = err_from_is_err_and c.from_residual.result c.from_residual.ensures.1 in
-    rw (p.1, p.2) (λ t. IsBroken-then c.args.self.now c.loop.self c.read_next.new.self c.in_err-read_next.field-0.0 (c.loop.invariant.packets t) c.loop.invariant.between.block c.loop.invariant.counted (c.in_err-read_next.ensures.packets t))
+    rw (p.1, p.2) (λ t. IsBroken-then c.args.self.now c.loop.self c.read_unit.new.self c.in_err-read_unit.field-0.0 (c.loop.invariant.packets t) c.loop.invariant.between.block c.loop.invariant.counted (c.in_err-read_unit.ensures.packets t))
 
 pub returns-in-Packet-clause-packets : goal.returns-in-Packet-clause-packets
 returns-in-Packet-clause-packets g c = λ t.
-    FindsPacket-then c.args.self.now c.loop.self c.read_next.new.self (c.loop.invariant.packets t) c.loop.invariant.between.block (rw c.in-Packet.is at (c.in_ok-read_next.ensures.packets t))
+    FindsPacket-then c.args.self.now c.loop.self c.read_unit.new.self (c.loop.invariant.packets t) c.loop.invariant.between.block (rw c.in-Packet.is at (c.in_ok-read_unit.ensures.packets t))
 
 pub returns-in-End-clause-packets : goal.returns-in-End-clause-packets
 returns-in-End-clause-packets g c = λ t.
-    FindsEnd-then c.args.self.now c.loop.self c.read_next.new.self (c.loop.invariant.packets t) c.loop.invariant.between.block (rw c.in-End.is at (c.in_ok-read_next.ensures.packets t))
+    FindsEnd-then c.args.self.now c.loop.self c.read_unit.new.self (c.loop.invariant.packets t) c.loop.invariant.between.block (rw c.in-End.is at (c.in_ok-read_unit.ensures.packets t))
 
 pub loop-preserved : goal.loop-preserved
 loop-preserved g c =
-    let bounds = c.in_ok-read_next.ensures.bounds in
+    let bounds = c.in_ok-read_unit.ensures.bounds in
     let passed = bounds.passed _ (ap Ok c.in-Other.is) in record {
-      packets = λ t. SkipsUnits-then c.args.self.now c.loop.self c.read_next.new.self _ (c.loop.invariant.packets t) c.loop.invariant.between.block (rw c.in-Other.is at (c.in_ok-read_next.ensures.packets t));
+      packets = λ t. SkipsUnits-then c.args.self.now c.loop.self c.read_unit.new.self _ (c.loop.invariant.packets t) c.loop.invariant.between.block (rw c.in-Other.is at (c.in_ok-read_unit.ensures.packets t));
       between = passed.2;
       given = omega (arith, c.loop.invariant.given, bounds.given);
       failures = bounds.failures ∙ omega (arith, c.loop.invariant.failures);

@@ -11,32 +11,32 @@ use Rattle.cap_process.proofs.Selectors.{counted-spends, judged-spends, refused-
 use Rattle.cap_process.proofs.selector.Selector.judge.Goals as goal
 use Rattle.cap_process.proofs.selector.Selector.judge.Goals.{then-passed-number, else-passed-number}
 
-pub returns-then-counts-clause-exact : goal.returns-then-counts-clause-exact
-returns-then-counts-clause-exact g c = λ within counted.
+pub returns-then-is_count-clause-exact : goal.returns-then-is_count-clause-exact
+returns-then-is_count-clause-exact g c = λ within counted.
     let P : SelectorView → Type 0 = λ v. FitsTally v.state.tally → IsVerdict (judge v.policy v.state c.args.number (captured c.args.packet.now)) (Ok code.Skip) (captured c.args.packet.now) (state_of c.self.inside.passed (marks_in c.self.inside.window) c.counted-self-inside.result) in
     subst P c.self.view_is
     (λ upper_bound. tells-count (policy_of c.self.inside.policy) c.self.inside.passed (marks_in c.self.inside.window) c.self.inside.tally c.counted-self-inside.result c.args.number (captured c.args.packet.now) code.Skip
-    (sym c.counts.ensures ∙ c.if-counts.true) refl (c.counted-self-inside.ensures.counted upper_bound))
+    (sym c.is_count.ensures ∙ c.if-is_count.true) refl (c.counted-self-inside.ensures.counted upper_bound))
     counted
 
-pub returns-then-number-ge-MOST_PACKETS-clause-exact : goal.returns-then-number-ge-MOST_PACKETS-clause-exact
-returns-then-number-ge-MOST_PACKETS-clause-exact g c = λ within counted.
+pub returns-then-number-ge-NUMBER_END-clause-exact : goal.returns-then-number-ge-NUMBER_END-clause-exact
+returns-then-number-ge-NUMBER_END-clause-exact g c = λ within counted.
     let P : SelectorView → Type 0 = λ v. judge v.policy v.state c.args.number (captured c.args.packet.now) ≡ refuses v.state TooManyPackets in
     ap (λ (j : Judgement). j.verdict) (subst P c.self.view_is (too-many (policy_of c.self.inside.policy) _ c.args.number (captured c.args.packet.now)
-    (sym c.counts.ensures ∙ c.if-counts.false) c.if-number-ge-MOST_PACKETS.true))
+    (sym c.is_count.ensures ∙ c.if-is_count.false) c.if-number-ge-NUMBER_END.true))
 
 pub returns-then-not-branch-clause-exact : goal.returns-then-not-branch-clause-exact
 returns-then-not-branch-clause-exact g c = λ within counted.
     let w = c.self.inside in
     let p : Captured = captured c.args.packet.now in
     let q : Captured = captured c.keeps.new.packet in
-    let judges : is_count (policy_of w.policy) ≡ false = sym c.counts.ensures ∙ c.if-counts.false in
+    let judges : is_count (policy_of w.policy) ≡ false = sym c.is_count.ensures ∙ c.if-is_count.false in
     let state : SelectorState = state_of w.passed (marks_in w.window) w.tally in
     let after : SelectorState = state_of w.passed (marks_in c.keeps.new.window) w.tally in
     let K : Bool → Type 0 = λ b. ReturnsVerdict (count_limit (policy_of w.policy)) (judge_by (policy_of w.policy) state c.args.number p) (Ok b) q after in
     let keeps : K false = subst K c.if-not-branch.true (c.in_ok-keeps.ensures.exact w.passed w.tally judges) in
     let P : SelectorView → Type 0 = λ v. IsVerdict (judge v.policy v.state c.args.number p) (Ok code.Skip) q after in
-    subst P c.self.view_is (rw (upper_bound (policy_of w.policy) state c.args.number p judges c.if-number-ge-MOST_PACKETS.false)
+    subst P c.self.view_is (rw (upper_bound (policy_of w.policy) state c.args.number p judges c.if-number-ge-NUMBER_END.false)
     (tells-none (count_limit (policy_of w.policy)) (judge_by (policy_of w.policy) state c.args.number p) after q code.Skip keeps refl))
 
 pub returns-clause-exact : goal.returns-clause-exact
@@ -44,69 +44,69 @@ returns-clause-exact g c = λ within counted.
     let w = c.self.inside in
     let p : Captured = captured c.args.packet.now in
     let q : Captured = captured c.keeps.new.packet in
-    let judges : is_count (policy_of w.policy) ≡ false = sym c.counts.ensures ∙ c.if-counts.false in
+    let judges : is_count (policy_of w.policy) ≡ false = sym c.is_count.ensures ∙ c.if-is_count.false in
     let state : SelectorState = state_of w.passed (marks_in w.window) w.tally in
     let after : SelectorState = state_of w.passed (marks_in c.keeps.new.window) w.tally in
     let K : Bool → Type 0 = λ b. ReturnsVerdict (count_limit (policy_of w.policy)) (judge_by (policy_of w.policy) state c.args.number p) (Ok b) q after in
     let keeps : K true = subst K c.if-not-branch.false (c.in_ok-keeps.ensures.exact w.passed w.tally judges) in
     let is : verdict_of c.passing.result q ≡ verdict_if q (is_last (count_limit (policy_of c.if-passed-number.self-inside.policy)) c.if-passed-number.self-inside.passed) =
-    c.passing.ensures q ∙ ap (verdict_if q) (c.is_last-last.ensures ∙ ap (λ (n : Option ℕ). is_last n c.if-passed-number.self-inside.passed) c.count.ensures) in
+    c.passing.ensures q ∙ ap (verdict_if q) (c.is_last-last.ensures ∙ ap (λ (n : Option ℕ). is_last n c.if-passed-number.self-inside.passed) c.count_limit.ensures) in
     let few_before : w.passed < c.args.number = (let N : SelectorView → Type 0 = λ v. v.state.passed < c.args.number in subst N (sym c.self.view_is) within) in
     elim c.if-passed-number.branch [
       | then-passed-number b ↦ (let last = rw b.self-inside-is at is in
           let P : SelectorView → Type 0 = λ v. IsVerdict (judge v.policy v.state c.args.number p) (Ok c.passing.result) q (state_of (w.passed + 1) (marks_in c.keeps.new.window) w.tally) in
           rw b.self-inside-is (subst P c.self.view_is
-          (tells-passed (policy_of w.policy) (policy_of c.keeps.new.self) state after c.args.number p q c.passing.result judges c.if-number-ge-MOST_PACKETS.false keeps c.keeps.ensures.policy last)))
+          (tells-passed (policy_of w.policy) (policy_of c.keeps.new.self) state after c.args.number p q c.passing.result judges c.if-number-ge-NUMBER_END.false keeps c.keeps.ensures.policy last)))
       | else-passed-number b ↦ absurd (omega arith)
     ]
 
-pub returns-then-counts-clause-policy : goal.returns-then-counts-clause-policy
-returns-then-counts-clause-policy g c = ap (λ (v : SelectorView). v.policy) c.self.view_is
+pub returns-then-is_count-clause-policy : goal.returns-then-is_count-clause-policy
+returns-then-is_count-clause-policy g c = ap (λ (v : SelectorView). v.policy) c.self.view_is
 
-pub returns-then-counts-clause-passed : goal.returns-then-counts-clause-passed
-returns-then-counts-clause-passed g c =
+pub returns-then-is_count-clause-passed : goal.returns-then-is_count-clause-passed
+returns-then-is_count-clause-passed g c =
     let P : SelectorView → Type 0 = λ v. v.state.passed ≤ c.args.number → c.self.inside.passed ≤ c.args.number in
     subst P c.self.view_is (λ few. few)
 
-pub returns-then-counts-clause-counted : goal.returns-then-counts-clause-counted
-returns-then-counts-clause-counted g c =
+pub returns-then-is_count-clause-counted : goal.returns-then-is_count-clause-counted
+returns-then-is_count-clause-counted g c =
     let few = c.requires in
     let bytes = c.counted-self-inside.ensures.bytes in
     let P : SelectorView → Type 0 = λ v. GrowsByOne v.state.tally c.counted-self-inside.result in
     subst P c.self.view_is (c.counted-self-inside.ensures.count, c.counted-self-inside.ensures.data, omega (arith, bytes, few))
 
-pub returns-then-counts-clause-spends : goal.returns-then-counts-clause-spends
-returns-then-counts-clause-spends g c =
+pub returns-then-is_count-clause-spends : goal.returns-then-is_count-clause-spends
+returns-then-is_count-clause-spends g c =
     let P : SelectorView → Type 0 = λ v. programs_in c.self.inside.policy ≡ spent_by_verdict v.policy c.args.number (captured c.args.packet.now) v.programs in
-    subst P c.self.view_is (counted-spends (policy_of c.self.inside.policy) c.args.number (captured c.args.packet.now) (programs_in c.self.inside.policy) (sym c.counts.ensures ∙ c.if-counts.true))
+    subst P c.self.view_is (counted-spends (policy_of c.self.inside.policy) c.args.number (captured c.args.packet.now) (programs_in c.self.inside.policy) (sym c.is_count.ensures ∙ c.if-is_count.true))
 
-pub returns-then-counts-clause-bounded : goal.returns-then-counts-clause-bounded
-returns-then-counts-clause-bounded g c =
+pub returns-then-is_count-clause-bounded : goal.returns-then-is_count-clause-bounded
+returns-then-is_count-clause-bounded g c =
     let P : SelectorView → Type 0 = λ v. spent_in (programs_in c.self.inside.policy) ≤ spent_in v.programs + most_spent v.policy in
     subst P c.self.view_is (omega arith)
 
-pub returns-then-counts-clause-upper_bound : goal.returns-then-counts-clause-upper_bound
-returns-then-counts-clause-upper_bound g c = window-few (window_of (policy_of c.self.inside.policy)) c.self.inside.window c.self.invariant
+pub returns-then-is_count-clause-upper_bound : goal.returns-then-is_count-clause-upper_bound
+returns-then-is_count-clause-upper_bound g c = window-few (window_of (policy_of c.self.inside.policy)) c.self.inside.window c.self.invariant
 
-pub returns-then-number-ge-MOST_PACKETS-clause-policy : goal.returns-then-number-ge-MOST_PACKETS-clause-policy
-returns-then-number-ge-MOST_PACKETS-clause-policy g c = refl
+pub returns-then-number-ge-NUMBER_END-clause-policy : goal.returns-then-number-ge-NUMBER_END-clause-policy
+returns-then-number-ge-NUMBER_END-clause-policy g c = refl
 
-pub returns-then-number-ge-MOST_PACKETS-clause-passed : goal.returns-then-number-ge-MOST_PACKETS-clause-passed
-returns-then-number-ge-MOST_PACKETS-clause-passed g c = λ few. few
+pub returns-then-number-ge-NUMBER_END-clause-passed : goal.returns-then-number-ge-NUMBER_END-clause-passed
+returns-then-number-ge-NUMBER_END-clause-passed g c = λ few. few
 
-pub returns-then-number-ge-MOST_PACKETS-clause-counted : goal.returns-then-number-ge-MOST_PACKETS-clause-counted
-returns-then-number-ge-MOST_PACKETS-clause-counted g c = (omega arith, omega arith, omega arith)
+pub returns-then-number-ge-NUMBER_END-clause-counted : goal.returns-then-number-ge-NUMBER_END-clause-counted
+returns-then-number-ge-NUMBER_END-clause-counted g c = (omega arith, omega arith, omega arith)
 
-pub returns-then-number-ge-MOST_PACKETS-clause-spends : goal.returns-then-number-ge-MOST_PACKETS-clause-spends
-returns-then-number-ge-MOST_PACKETS-clause-spends g c =
+pub returns-then-number-ge-NUMBER_END-clause-spends : goal.returns-then-number-ge-NUMBER_END-clause-spends
+returns-then-number-ge-NUMBER_END-clause-spends g c =
     let P : SelectorView → Type 0 = λ v. v.programs ≡ spent_by_verdict v.policy c.args.number (captured c.args.packet.now) v.programs in
-    subst P c.self.view_is (refused-spends (policy_of c.self.inside.policy) c.args.number (captured c.args.packet.now) (programs_in c.self.inside.policy) (sym c.counts.ensures ∙ c.if-counts.false) c.if-number-ge-MOST_PACKETS.true)
+    subst P c.self.view_is (refused-spends (policy_of c.self.inside.policy) c.args.number (captured c.args.packet.now) (programs_in c.self.inside.policy) (sym c.is_count.ensures ∙ c.if-is_count.false) c.if-number-ge-NUMBER_END.true)
 
-pub returns-then-number-ge-MOST_PACKETS-clause-bounded : goal.returns-then-number-ge-MOST_PACKETS-clause-bounded
-returns-then-number-ge-MOST_PACKETS-clause-bounded g c = omega arith
+pub returns-then-number-ge-NUMBER_END-clause-bounded : goal.returns-then-number-ge-NUMBER_END-clause-bounded
+returns-then-number-ge-NUMBER_END-clause-bounded g c = omega arith
 
-pub returns-then-number-ge-MOST_PACKETS-clause-upper_bound : goal.returns-then-number-ge-MOST_PACKETS-clause-upper_bound
-returns-then-number-ge-MOST_PACKETS-clause-upper_bound g c =
+pub returns-then-number-ge-NUMBER_END-clause-upper_bound : goal.returns-then-number-ge-NUMBER_END-clause-upper_bound
+returns-then-number-ge-NUMBER_END-clause-upper_bound g c =
     let P : SelectorView → Type 0 = λ v. HasFewMarks v.policy v.state in
     subst P c.self.view_is (window-few (window_of (policy_of c.self.inside.policy)) c.self.inside.window c.self.invariant)
 
@@ -126,7 +126,7 @@ returns-in_err-keeps-clause-counted g c =
 pub returns-in_err-keeps-clause-spends : goal.returns-in_err-keeps-clause-spends
 returns-in_err-keeps-clause-spends g c =
     let P : SelectorView → Type 0 = λ v. programs_in c.keeps.new.self ≡ spent_by_verdict v.policy c.args.number (captured c.args.packet.now) v.programs in
-    subst P c.self.view_is (c.keeps.ensures.spends ∙ judged-spends (policy_of c.self.inside.policy) c.args.number (captured c.args.packet.now) (programs_in c.self.inside.policy) (sym c.counts.ensures ∙ c.if-counts.false) c.if-number-ge-MOST_PACKETS.false)
+    subst P c.self.view_is (c.keeps.ensures.spends ∙ judged-spends (policy_of c.self.inside.policy) c.args.number (captured c.args.packet.now) (programs_in c.self.inside.policy) (sym c.is_count.ensures ∙ c.if-is_count.false) c.if-number-ge-NUMBER_END.false)
 
 pub returns-in_err-keeps-clause-bounded : goal.returns-in_err-keeps-clause-bounded
 returns-in_err-keeps-clause-bounded g c =
@@ -152,7 +152,7 @@ returns-then-not-branch-clause-counted g c =
 pub returns-then-not-branch-clause-spends : goal.returns-then-not-branch-clause-spends
 returns-then-not-branch-clause-spends g c =
     let P : SelectorView → Type 0 = λ v. programs_in c.keeps.new.self ≡ spent_by_verdict v.policy c.args.number (captured c.args.packet.now) v.programs in
-    subst P c.self.view_is (c.keeps.ensures.spends ∙ judged-spends (policy_of c.self.inside.policy) c.args.number (captured c.args.packet.now) (programs_in c.self.inside.policy) (sym c.counts.ensures ∙ c.if-counts.false) c.if-number-ge-MOST_PACKETS.false)
+    subst P c.self.view_is (c.keeps.ensures.spends ∙ judged-spends (policy_of c.self.inside.policy) c.args.number (captured c.args.packet.now) (programs_in c.self.inside.policy) (sym c.is_count.ensures ∙ c.if-is_count.false) c.if-number-ge-NUMBER_END.false)
 
 pub returns-then-not-branch-clause-bounded : goal.returns-then-not-branch-clause-bounded
 returns-then-not-branch-clause-bounded g c =
@@ -186,8 +186,8 @@ returns-clause-counted g c =
 pub returns-clause-spends : goal.returns-clause-spends
 returns-clause-spends g c =
     elim c.if-passed-number.branch [
-      | then-passed-number b ↦ rw b.self-inside-is (let P : SelectorView → Type 0 = λ v. programs_in c.keeps.new.self ≡ spent_by_verdict v.policy c.args.number (captured c.args.packet.now) v.programs in subst P c.self.view_is (c.keeps.ensures.spends ∙ judged-spends (policy_of c.self.inside.policy) c.args.number (captured c.args.packet.now) (programs_in c.self.inside.policy) (sym c.counts.ensures ∙ c.if-counts.false) c.if-number-ge-MOST_PACKETS.false))
-      | else-passed-number b ↦ rw b.self-inside-is (let P : SelectorView → Type 0 = λ v. programs_in c.keeps.new.self ≡ spent_by_verdict v.policy c.args.number (captured c.args.packet.now) v.programs in subst P c.self.view_is (c.keeps.ensures.spends ∙ judged-spends (policy_of c.self.inside.policy) c.args.number (captured c.args.packet.now) (programs_in c.self.inside.policy) (sym c.counts.ensures ∙ c.if-counts.false) c.if-number-ge-MOST_PACKETS.false))
+      | then-passed-number b ↦ rw b.self-inside-is (let P : SelectorView → Type 0 = λ v. programs_in c.keeps.new.self ≡ spent_by_verdict v.policy c.args.number (captured c.args.packet.now) v.programs in subst P c.self.view_is (c.keeps.ensures.spends ∙ judged-spends (policy_of c.self.inside.policy) c.args.number (captured c.args.packet.now) (programs_in c.self.inside.policy) (sym c.is_count.ensures ∙ c.if-is_count.false) c.if-number-ge-NUMBER_END.false))
+      | else-passed-number b ↦ rw b.self-inside-is (let P : SelectorView → Type 0 = λ v. programs_in c.keeps.new.self ≡ spent_by_verdict v.policy c.args.number (captured c.args.packet.now) v.programs in subst P c.self.view_is (c.keeps.ensures.spends ∙ judged-spends (policy_of c.self.inside.policy) c.args.number (captured c.args.packet.now) (programs_in c.self.inside.policy) (sym c.is_count.ensures ∙ c.if-is_count.false) c.if-number-ge-NUMBER_END.false))
     ]
 
 pub returns-clause-bounded : goal.returns-clause-bounded

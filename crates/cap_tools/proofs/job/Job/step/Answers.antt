@@ -47,9 +47,9 @@ returns-in-Some-Filter-clause-keeps g c =
     let preparing : Option Preparing = option_map preparing_of c.self.inside.preparation in
     let was : JobView = record { preparing = preparing; state = state_at c.self.inside.messages.names c.self.inside.inputs c.self.inside.selector c.self.inside.output c.self.inside.decided; programs = c.self.inside.selector.programs; err = c.self.inside.messages.device; turns = c.self.inside.turns; done = c.self.inside.done } in
     let some : preparing ≡ Some (ReadsFilter (asked_by c.in-Some-Filter.print)) = ap (option_map preparing_of) (sym c.take.ensures.value ∙ c.in-Some-Filter.is ∙ ap Some c.in-Some-Filter.field-0-is) in
-    let P : JobView → Type 0 = λ v. StepKeeps v c.read_filter.result c.read_filter.new.self in
-    let Q : Option Preparing → Type 0 = λ p. StepKeeps (with_preparing p was) c.read_filter.result c.read_filter.new.self in
-    subst P c.self.view_is (subst Q (sym some) (c.read_filter.ensures.keeps (ReadsFilter (asked_by c.in-Some-Filter.print))))
+    let P : JobView → Type 0 = λ v. StepKeeps v c.start_filtering.result c.start_filtering.new.self in
+    let Q : Option Preparing → Type 0 = λ p. StepKeeps (with_preparing p was) c.start_filtering.result c.start_filtering.new.self in
+    subst P c.self.view_is (subst Q (sym some) (c.start_filtering.ensures.keeps (ReadsFilter (asked_by c.in-Some-Filter.print))))
 
 pub returns-in-Some-Filter-clause-exact : goal.returns-in-Some-Filter-clause-exact
 returns-in-Some-Filter-clause-exact g c = λ ti to undone none.
@@ -63,18 +63,18 @@ returns-in-Some-Filter-clause-prepares g c =
     let preparing : Option Preparing = option_map preparing_of c.self.inside.preparation in
     let was : JobView = record { preparing = preparing; state = state_at c.self.inside.messages.names c.self.inside.inputs c.self.inside.selector c.self.inside.output c.self.inside.decided; programs = c.self.inside.selector.programs; err = c.self.inside.messages.device; turns = c.self.inside.turns; done = c.self.inside.done } in
     let some : preparing ≡ Some (ReadsFilter (asked_by c.in-Some-Filter.print)) = ap (option_map preparing_of) (sym c.take.ensures.value ∙ c.in-Some-Filter.is ∙ ap Some c.in-Some-Filter.field-0-is) in
-    let P : JobView → Type 0 = λ v. PreparesBy v.preparing g.O.Output.tells g.E.Output.tells v c.read_filter.result c.read_filter.new.self in
-    let Q : Option Preparing → Type 0 = λ p. PreparesBy p g.O.Output.tells g.E.Output.tells was c.read_filter.result c.read_filter.new.self in
-    subst P c.self.view_is (subst Q (sym some) (filter-gives (asked_by c.in-Some-Filter.print) g.E.Output.tells (option_map preparing_of c.take.new.self) was c.read_filter.result c.read_filter.new.self c.read_filter.ensures.gives))
+    let P : JobView → Type 0 = λ v. PreparesBy v.preparing g.O.Output.tells g.E.Output.tells v c.start_filtering.result c.start_filtering.new.self in
+    let Q : Option Preparing → Type 0 = λ p. PreparesBy p g.O.Output.tells g.E.Output.tells was c.start_filtering.result c.start_filtering.new.self in
+    subst P c.self.view_is (subst Q (sym some) (filter-gives (asked_by c.in-Some-Filter.print) g.E.Output.tells (option_map preparing_of c.take.new.self) was c.start_filtering.result c.start_filtering.new.self c.start_filtering.ensures.gives))
 
 pub returns-in-Some-Filter-clause-reads : goal.returns-in-Some-Filter-clause-reads
 returns-in-Some-Filter-clause-reads g c =
     let preparing : Option Preparing = option_map preparing_of c.self.inside.preparation in
     let was : JobView = record { preparing = preparing; state = state_at c.self.inside.messages.names c.self.inside.inputs c.self.inside.selector c.self.inside.output c.self.inside.decided; programs = c.self.inside.selector.programs; err = c.self.inside.messages.device; turns = c.self.inside.turns; done = c.self.inside.done } in
     let some : preparing ≡ Some (ReadsFilter (asked_by c.in-Some-Filter.print)) = ap (option_map preparing_of) (sym c.take.ensures.value ∙ c.in-Some-Filter.is ∙ ap Some c.in-Some-Filter.field-0-is) in
-    let P : JobView → Type 0 = λ v. StepReadsBy v.preparing g.I.Input.tells (turn_goes_on c.read_filter.result) v c.read_filter.new.self in
-    let Q : Option Preparing → Type 0 = λ p. StepReadsBy p g.I.Input.tells (turn_goes_on c.read_filter.result) was c.read_filter.new.self in
-    subst P c.self.view_is (subst Q (sym some) (first-reads (option_map preparing_of c.take.new.self) was c.read_filter.new.self c.read_filter.ensures.reads))
+    let P : JobView → Type 0 = λ v. StepReadsBy v.preparing g.I.Input.tells (turn_goes_on c.start_filtering.result) v c.start_filtering.new.self in
+    let Q : Option Preparing → Type 0 = λ p. StepReadsBy p g.I.Input.tells (turn_goes_on c.start_filtering.result) was c.start_filtering.new.self in
+    subst P c.self.view_is (subst Q (sym some) (first-reads (option_map preparing_of c.take.new.self) was c.start_filtering.new.self c.start_filtering.ensures.reads))
 
 pub returns-in-Some-Listing-clause-keeps : goal.returns-in-Some-Listing-clause-keeps
 returns-in-Some-Listing-clause-keeps g c =
@@ -127,8 +127,8 @@ returns-in-Some-Filter-clause-after g c = λ status is.
     let ended = sym ready.done ∙ ap (λ (v : JobView). v.done) c.self.view_is ∙ is in
     (cc)
 
-pub read_filter-requires-clause-fresh : goal.read_filter-requires-clause-fresh
-read_filter-requires-clause-fresh g c =
+pub start_filtering-requires-clause-fresh : goal.start_filtering-requires-clause-fresh
+start_filtering-requires-clause-fresh g c =
     let preparing : Option Preparing = option_map preparing_of c.self.inside.preparation in
     let was : JobView = record { preparing = preparing; state = state_at c.self.inside.messages.names c.self.inside.inputs c.self.inside.selector c.self.inside.output c.self.inside.decided; programs = c.self.inside.selector.programs; err = c.self.inside.messages.device; turns = c.self.inside.turns; done = c.self.inside.done } in
     let some : preparing ≡ Some (ReadsFilter (asked_by c.in-Some-Filter.print)) = ap (option_map preparing_of) (sym c.take.ensures.value ∙ c.in-Some-Filter.is ∙ ap Some c.in-Some-Filter.field-0-is) in

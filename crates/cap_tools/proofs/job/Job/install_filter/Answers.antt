@@ -3,7 +3,7 @@ use Rattle.std.proofs.lemmas.Grind.{common_steps}
 use Rattle.cap_process.specs.Selector.{SelectorView}
 use Rattle.cap_process.specs.inside.Selector.{HasFewMarks}
 use Rattle.cap_tools.proofs.Weights.{is-light}
-use Rattle.cap_tools.proofs.job.Job.filter.Goals as goal
+use Rattle.cap_tools.proofs.job.Job.install_filter.Goals as goal
 
 pub returns-clause-keeps : goal.returns-clause-keeps
 returns-clause-keeps g c = λ p.

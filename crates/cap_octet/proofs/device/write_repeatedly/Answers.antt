@@ -1,7 +1,7 @@
 use Rattle.std.proofs.Common.{rules, ℕ, ◌∙◌, arith}
 use Rattle.std.proofs.lemmas.List.{length-take}
 use Rattle.cap_octet.proofs.Reading.{written-again}
-use Rattle.cap_octet.proofs.device.write_in_turns.Goals as goal
+use Rattle.cap_octet.proofs.device.write_repeatedly.Goals as goal
 
 pub loop-written-preserved : goal.loop-written-preserved
 loop-written-preserved g c = record {

@@ -1,6 +1,6 @@
 use Rattle.std.proofs.Common.{rules, ◌∙◌, arith}
 use Rattle.cap_octet.proofs.Reading.{Takes-again, Takes-nothing, told-again}
-use Rattle.cap_octet.proofs.device.read_in_turns.Goals as goal
+use Rattle.cap_octet.proofs.device.read_repeatedly.Goals as goal
 
 pub loop-count-preserved : goal.loop-count-preserved
 loop-count-preserved g c = record {

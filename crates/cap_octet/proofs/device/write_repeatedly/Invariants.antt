@@ -1,5 +1,5 @@
 use Rattle.std.proofs.Common.{length, ◌-◌, ◌≡◌, ◌≤◌, ◌++◌, take, IsTrue}
-use Rattle.cap_octet.proofs.device.write_in_turns.Given as goal
+use Rattle.cap_octet.proofs.device.write_repeatedly.Given as goal
 
 abbrev pub invariant-loop-written : goal.invariant-loop-written
 invariant-loop-written g l = record {

@@ -4,10 +4,10 @@ use Rattle.cap_filter.specs.Programs.{spent_in}
 use Rattle.cap_tools.specs.Jobs.{JobView}
 use Rattle.cap_tools.specs.Commands.{PreparesOnly}
 use Rattle.cap_tools.proofs.Preparing.{new-unspent}
-use Rattle.cap_tools.proofs.job.Job.read_filter.Goals as goal
+use Rattle.cap_tools.proofs.job.Job.start_filtering.Goals as goal
 
 pub returns-in-Ok-clause-reads : goal.returns-in-Ok-clause-reads
 returns-in-Ok-clause-reads g c =
     let P : JobView → Type 0 = λ j. PreparesOnly c.args.self.now j in
-    subst P (sym c.filter.ensures.filtered)
+    subst P (sym c.install_filter.ensures.filtered)
     (record { inputs = refl; decided = refl; unspent = new-unspent (rule_of c.in-Ok.filter) (programs_of c.in-Ok.filter) c.in-Ok.ensures.programs ∙ sym (ap spent_in c.requires.fresh.programs) })

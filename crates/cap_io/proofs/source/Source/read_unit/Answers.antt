@@ -4,7 +4,7 @@ use Rattle.cap_io.specs.Reading.{declared_by}
 use Rattle.cap_io.specs.Source.{SourceView, block_at, packet_at, view_of}
 use Rattle.cap_io.specs.declared.source.Stage.TheVariants as stage
 use Rattle.cap_io.proofs.Passing.{FindsEnd-next, FindsPacket-next, IsBroken-next, SkipsUnits-next, stage_between}
-use Rattle.cap_io.proofs.source.Source.read_next.Goals as goal
+use Rattle.cap_io.proofs.source.Source.read_unit.Goals as goal
 
 pub returns-in_err-unit-clause-packets : goal.returns-in_err-unit-clause-packets
 returns-in_err-unit-clause-packets g c =
