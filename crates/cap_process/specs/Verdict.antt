@@ -66,11 +66,7 @@ pub record Judgement : Type 0 where
   pub state : SelectorState
 
 abbrev pub passes : SelectorState → Captured → Judgement
-passes s p =
-    record {
-      verdict = Pass p;
-      state = record { passed = s.passed + 1; window = s.window; tally = s.tally };
-    }
+passes s p = record { verdict = Pass p; state = record s { passed = s.passed + 1 } }
 
 abbrev pub skip_judgement : SelectorState → Judgement
 skip_judgement s = record { verdict = Skip; state = s }
@@ -92,15 +88,12 @@ abbrev pub is_selected : EditRule → ℕ → Captured → Bool
 is_selected s number p =
     is_kept s.ranges s.keep number && (is_from_start s.start p.time && is_before_stop s.stop p.time)
 
-abbrev pub without_first : ℕ → List ℕ → List ℕ
-without_first n bytes = drop n bytes
-
 abbrev pub without_last : ℕ → List ℕ → List ℕ
 without_last n bytes = take (length bytes - n) bytes
 
 -- the start is removed before the end; what is shorter becomes empty
 abbrev pub bytes_after_chop : EditRule → List ℕ → List ℕ
-bytes_after_chop s bytes = without_last s.chop_end (without_first s.chop_start bytes)
+bytes_after_chop s bytes = without_last s.chop_end (drop s.chop_start bytes)
 
 -- at most a given number of bytes
 abbrev pub bytes_within_snap : Option ℕ → List ℕ → List ℕ
@@ -109,15 +102,8 @@ bytes_within_snap (Some snap) bytes = take snap bytes
 
 -- the original length and the comment stay
 abbrev pub edited_packet_with : EditRule → Captured → ℕ → Captured
-edited_packet_with s p time = record {
-  link = p.link;
-  snap = p.snap;
-  name = p.name;
-  time = time;
-  orig = p.orig;
-  bytes = bytes_within_snap s.snap (bytes_after_chop s p.bytes);
-  comment = p.comment;
-}
+edited_packet_with s p time =
+    record p { time = time; bytes = bytes_within_snap s.snap (bytes_after_chop s p.bytes) }
 
 -- a time that is moved, where it is from 0 to 2^63 - 1 nanoseconds then
 abbrev pub shifted_time : Shift → ℕ → Option ℕ
@@ -126,8 +112,7 @@ shifted_time (shift.Later by) time = if nat_lt (time + by) TIME_END then Some (t
 shifted_time (shift.Earlier by) time = if nat_le by time then Some (time - by) else None
 
 abbrev pub with_mark : ℕ → Mark → SelectorState → SelectorState
-with_mark most mark s =
-    record { passed = s.passed; window = last most (s.window ++ mark ∷ []); tally = s.tally }
+with_mark most mark s = record s { window = last most (s.window ++ mark ∷ []) }
 
 -- A packet is skipped whose mark, the length and digest of its bytes as they are cut, is that of one
 -- of the last n - 1 that were selected, those that were skipped too. Times, original lengths, link
@@ -157,7 +142,7 @@ is_last (Some count) passed = passed == count
 abbrev pub counts : Option ℕ → SelectorState → Captured → Judgement
 counts count s p = record {
   verdict = if is_last count (s.passed + 1) then PassLast p else Pass p;
-  state = record { passed = s.passed + 1; window = s.window; tally = s.tally };
+  state = record s { passed = s.passed + 1 };
 }
 
 abbrev pub filters : Decision → Option ℕ → SelectorState → Captured → Judgement
@@ -171,10 +156,8 @@ abbrev pub judge_by : Policy → SelectorState → ℕ → Captured → Judgemen
 judge_by (Edit s) state number p = selects s state number p
 judge_by (Filter rule count) state number p = filters (rule_decides rule p) count state p
 judge_by KeepAll state number p = passes state p
-judge_by Count state number p = record {
-  verdict = Skip;
-  state = record { passed = state.passed; window = state.window; tally = tally_with state.tally p };
-}
+judge_by Count state number p =
+    skip_judgement (record state { tally = tally_with state.tally p })
 
 -- packets have numbers, but where they are counted alone
 abbrev pub is_too_many : Policy → ℕ → Bool

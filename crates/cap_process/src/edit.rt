@@ -1,10 +1,11 @@
 //! What an edit makes of packets: which it keeps, how it changes them, and which are duplicates.
-ghost use Rattle.std.specs.Prelude.{ℕ, ◌≡◌, ◌^◌, ◌<◌, ◌≤◌, IfSome, None, Ok, Option, length};
+ghost use Rattle.std.specs.Prelude.{ℕ, ◌≡◌, ◌^◌, ◌<◌, ◌≤◌, IfSome, None, Ok, Option, drop};
+ghost use Rattle.std.specs.Prelude.{length};
 ghost use Rattle.cap_octet.specs.Packet.{captured};
 ghost use Rattle.cap_io.specs.Reading.{most_in_unit};
 ghost use Rattle.cap_process.specs.Verdict.{edited_packet_with, is_before_stop, is_from_start};
 ghost use Rattle.cap_process.specs.Verdict.{is_selected, shifted_time, selects};
-ghost use Rattle.cap_process.specs.Verdict.{bytes_within_snap, unique, without_first, without_last};
+ghost use Rattle.cap_process.specs.Verdict.{bytes_within_snap, unique, without_last};
 ghost use Rattle.cap_process.specs.Selector.{marks_in, edit_rule_of};
 ghost use Rattle.cap_process.specs.inside.Selector.{IsWindowFor, ReturnsVerdict};
 ghost use Rattle.cap_process.specs.Selector.{state_of};
@@ -47,7 +48,7 @@ fn is_selected<A: Allocator>(edit: &Edit<A>, number: u64, packet: &Packet<'_>) -
 
 /// What follows the first `count` bytes; nothing where there are no more than these.
 fn without_first(count: u32, bytes: &[u8]) -> &[u8]
-    ensures { result.now ≡ without_first count bytes.now }
+    ensures { result.now ≡ drop count bytes.now }
 {
     let count = bytes.len().min(count as usize);
     &bytes[count..]

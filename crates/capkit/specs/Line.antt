@@ -307,10 +307,7 @@ SaysFault words usage =
 -- the command has an expression that is not empty
 abbrev pub has_expression : {Z : Type 0} → Command Z → Bool
 has_expression (command.Print print) = nat_lt 0 (length (string_bytes print.expr))
-has_expression (command.Edit edit) = false
-has_expression (command.Merge merge) = false
-has_expression command.Infos = false
-has_expression (command.Compile compile) = false
+has_expression _ = false
 
 -- a line may be run once its listing is read
 abbrev pub is_ready : Line → Bool
@@ -321,7 +318,4 @@ is_ready line =
 -- the command with a listing of these bytes; a print alone takes one
 abbrev pub with_code : Command Global → Vec ℕ → Command Global
 with_code (command.Print print) bytes = command.Print (record print { code = Some bytes })
-with_code (command.Edit edit) bytes = command.Edit edit
-with_code (command.Merge merge) bytes = command.Merge merge
-with_code command.Infos bytes = command.Infos
-with_code (command.Compile compile) bytes = command.Compile compile
+with_code asked bytes = asked

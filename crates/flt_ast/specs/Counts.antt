@@ -15,7 +15,7 @@ use Rattle.flt_ast.specs.declared.value.Value.{Value}
 use Rattle.flt_ast.specs.declared.value.Value.TheVariants as value
 use Rattle.flt_ast.specs.declared.node.Node.{Node}
 use Rattle.flt_ast.specs.declared.node.Node.TheVariants as node
-use Rattle.flt_ast.specs.Tree.{NumberTree, literal, len, named, load, negated, applied, TruthTree, check, cast, sized, bare, valued, qualified, compared, denied, joined, Expression, empty, truth}
+use Rattle.flt_ast.specs.Tree.{NumberTree, literal, len, load, negated, applied, TruthTree, check, cast, sized, qualified, compared, denied, joined, Expression, empty, truth}
 
 -- n tests for the source, for the destination, or for each of them
 abbrev pub side_tests : Direction → ℕ → ℕ
@@ -91,33 +91,28 @@ accessor_test_count _ = 1
 
 -- the checks of all accessors
 abbrev pub number_tests : NumberTree → ℕ
-number_tests (literal n) = 0
-number_tests len = 0
-number_tests (named n) = 0
 number_tests (load p s a) = number_tests a + accessor_test_count p
 number_tests (negated a) = number_tests a
 number_tests (applied o a b) = number_tests a + number_tests b
+number_tests _ = 0
 
 -- a value that lacks qualifiers has no formula; a comparison is one test after the checks
 abbrev pub truth_tests : TruthTree → ℕ
 truth_tests (check p) = check_tests p
 truth_tests (cast p c) = cast_tests c
 truth_tests (sized s n) = 1
-truth_tests (bare v) = 0
-truth_tests (valued q v) = 0
 truth_tests (qualified q v) = value_tests q v
 truth_tests (compared c a b) = number_tests a + number_tests b + 1
 truth_tests (denied a) = truth_tests a
 truth_tests (joined j a b) = truth_tests a + truth_tests b
+truth_tests _ = 0
 
 -- how many nodes the arithmetic has
 abbrev pub number_size : NumberTree → ℕ
-number_size (literal n) = 1
-number_size len = 1
-number_size (named n) = 1
 number_size (load p s a) = number_size a + 1
 number_size (negated a) = number_size a + 1
 number_size (applied o a b) = number_size a + number_size b + 1
+number_size _ = 1
 
 -- `less` and `greater` compare the length with a number
 abbrev pub truth_size : TruthTree → ℕ
@@ -129,12 +124,10 @@ truth_size _ = 0
 
 -- how many words of memory hold what waits while the right side is computed
 abbrev pub number_words : NumberTree → ℕ
-number_words (literal n) = 0
-number_words len = 0
-number_words (named n) = 0
 number_words (load p s a) = number_words a
 number_words (negated a) = number_words a
 number_words (applied o a b) = max (number_words a) (1 + number_words b)
+number_words _ = 0
 
 abbrev pub truth_words : TruthTree → ℕ
 truth_words (sized s n) = max (number_words len) (1 + number_words (literal n))

@@ -70,36 +70,26 @@ abbrev pub elementary_reads : Elementary → List ℕ → MatchResult
 elementary_reads (Outcome b) p = reading_of (Some b)
 elementary_reads (Field t) p = field_reads t p
 
--- the field at a place is this number; its bits under a mask are; it compares so with this number
-abbrev pub is_at : ℕ → Width → ℕ → Elementary
-is_at at width value =
+-- the field at a place, or its bits under a mask, compares so with this number
+abbrev pub compares_under : Option ℕ → Offset → Width → Comparison → ℕ → Elementary
+compares_under mask offset width comparison value =
     Field (record {
-      offset = Fixed at;
+      offset = offset;
       width = width;
-      mask = None;
-      comparison = Equal;
-      value = value;
-    })
-
-abbrev pub is_masked : ℕ → Width → ℕ → ℕ → Elementary
-is_masked at width mask value =
-    Field (record {
-      offset = Fixed at;
-      width = width;
-      mask = Some mask;
-      comparison = Equal;
+      mask = mask;
+      comparison = comparison;
       value = value;
     })
 
 abbrev pub compares_at : Offset → Width → Comparison → ℕ → Elementary
-compares_at offset width comparison value =
-    Field (record {
-      offset = offset;
-      width = width;
-      mask = None;
-      comparison = comparison;
-      value = value;
-    })
+compares_at offset width comparison value = compares_under None offset width comparison value
+
+-- the field at a place is this number; its bits under a mask are
+abbrev pub is_at : ℕ → Width → ℕ → Elementary
+is_at at width value = compares_at (Fixed at) width Equal value
+
+abbrev pub is_masked : ℕ → Width → ℕ → ℕ → Elementary
+is_masked at width mask value = compares_under (Some mask) (Fixed at) width Equal value
 
 -- the EtherType at a place in the link header is this number; raw IP has none
 abbrev pub has_type_at : Option ℕ → ℕ → Elementary

@@ -26,7 +26,7 @@ use Rattle.flt_emit.specs.declared.elementary.FrameKind.TheVariants.{Ethernet, I
 use Rattle.flt_emit.specs.declared.elementary.Offset.{Offset}
 use Rattle.flt_emit.specs.declared.elementary.Offset.TheVariants.{Fixed, AfterHeader}
 use Rattle.flt_emit.specs.declared.elementary.Elementary.{Elementary}
-use Rattle.flt_emit.specs.declared.elementary.Elementary.TheVariants.{Outcome, Field}
+use Rattle.flt_emit.specs.declared.elementary.Elementary.TheVariants.{Outcome}
 use Rattle.flt_gen.specs.declared.port.Ports.{Ports}
 use Rattle.flt_emit.specs.declared.elementary.Sides.{Sides}
 use Rattle.flt_gen.specs.declared.address.NetTest.{NetTest}
@@ -35,7 +35,7 @@ use Rattle.flt_gen.specs.declared.address.Hosts.TheVariants as hosts
 use Rattle.flt_gen.specs.declared.port.PortTest.{PortTest}
 use Rattle.flt_gen.specs.declared.port.Transport.{Transport}
 use Rattle.flt_gen.specs.declared.port.Ports.TheVariants.{One, Between, Several}
-use Rattle.flt_emit.specs.Elementary.{with, is_at, compares_at, has_type, kind_test, first_fragment, has_ip_proto, has_ip6_proto}
+use Rattle.flt_emit.specs.Elementary.{with, is_at, compares_at, compares_under, has_type, kind_test, first_fragment, has_ip_proto, has_ip6_proto}
 use Rattle.cap_octet.specs.Link.{network_offset}
 use Rattle.flt_emit.specs.Formula.{Formula, Single, Compare, Both, Either, all_of, sides, any_sides}
 
@@ -93,14 +93,7 @@ ether_host link direction address =
 
 -- the lowest bit of an Ethernet address' first byte is set
 abbrev pub is_group_address : Elementary
-is_group_address =
-    Field (record {
-      offset = Fixed 0;
-      width = Byte;
-      mask = Some 1;
-      comparison = NotEqual;
-      value = 0;
-    })
+is_group_address = compares_under (Some 1) (Fixed 0) Byte NotEqual 0
 
 -- `broadcast` and `multicast`, after a protocol or none
 abbrev pub cast_formula : Link → Option Protocol → Cast → Formula
@@ -126,14 +119,7 @@ partial_mask mask = if mask == 2 ^ 32 - 1 then None else Some mask
 
 -- the word at a place is an address, as far as the mask goes
 abbrev pub address_test : Option ℕ → ℕ → Offset → Elementary
-address_test mask address offset =
-    Field (record {
-      offset = offset;
-      width = Word;
-      mask = mask;
-      comparison = Equal;
-      value = address;
-    })
+address_test mask address offset = compares_under mask offset Word Equal address
 
 -- how far past the network header's start the addresses are
 abbrev pub source_offset : FrameKind → ℕ
@@ -218,11 +204,8 @@ port_between a b offset =
     compares_at offset HalfWord AtLeast a ∷ compares_at offset HalfWord AtMost b ∷ []
 
 abbrev pub port_places : Transport → Sides
-port_places header = record {
-  width = HalfWord;
-  source = header.source;
-  destination = header.destination;
-}
+port_places header =
+    record { width = HalfWord; source = header.source; destination = header.destination }
 
 -- the ports that are looked for: where they are several, these numbers
 abbrev pub port_sides : Ports → Direction → Transport → List ℕ → Formula
@@ -282,11 +265,8 @@ port_formula link wanted numbers =
     (after (kind_test link Ip6) (transport_ports (ip6_transport link) wanted numbers))
 
 abbrev pub port_test : Option Protocol → Direction → Ports → PortTest
-port_test protocol direction ports = record {
-  protocol = protocol;
-  direction = direction;
-  ports = ports;
-}
+port_test protocol direction ports =
+    record { protocol = protocol; direction = direction; ports = ports }
 
 -- values with their qualifiers; what doesn't fit was refused before, and is no here and above
 
