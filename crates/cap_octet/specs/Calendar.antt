@@ -9,6 +9,7 @@ pub record Day : Type 0 where
   -- from 1
   pub day : ℕ
 
+-- the day of a year, a month and a number in it
 abbrev pub ymd : ℕ → ℕ → ℕ → Day
 ymd year month day = record { year = year; month = month; day = day }
 

@@ -21,7 +21,7 @@ digits (suc width) n = digits width (n / 10) ++ (48 + n % 10) ∷ []
 abbrev pub day_text : Day → List ℕ
 day_text d = digits 4 d.year ++ 45 ∷ digits 2 d.month ++ 45 ∷ digits 2 d.day
 
--- hh:mm:ss of a number of seconds
+-- hh:mm:ss, of the seconds since any midnight
 abbrev pub clock_text : ℕ → List ℕ
 clock_text s = digits 2 (s / 3600 % 24) ++ 58 ∷ digits 2 (s / 60 % 60) ++ 58 ∷ digits 2 (s % 60)
 
@@ -29,7 +29,7 @@ clock_text s = digits 2 (s / 3600 % 24) ++ 58 ∷ digits 2 (s / 60 % 60) ++ 58 �
 unfoldable pub second_text : ℕ → List ℕ
 second_text s = day_text (day_from_epoch (s / 86_400)) ++ 32 ∷ clock_text s ++ 46 ∷ []
 
--- YYYY-MM-DD hh:mm:ss.nnnnnnnnn
+-- YYYY-MM-DD hh:mm:ss.nnnnnnnnn, of a time
 unfoldable pub date_text : ℕ → List ℕ
 date_text t =
     day_text (day_from_epoch (t / NANOS_PER_DAY)) ++ 32 ∷ clock_text (t / NANOS_PER_SECOND)

@@ -13,7 +13,8 @@ abbrev pub failures_of : {X E : Type 0} → Result X E → ℕ
 failures_of (Ok value) = 0
 failures_of (Err fault) = 1
 
--- A device that may fail once it gave `sure` bytes, or never, gave enough to fail.
+-- A device that is sure to give a number of bytes in all before it fails had given as many, and may
+-- fail; one that never fails (None) may not.
 abbrev pub HasGiven : Option ℕ → ℕ → Type 0
 HasGiven None given = ⊥
 HasGiven (Some sure) given = sure ≤ given
@@ -34,7 +35,8 @@ abbrev pub Reads : List ℕ → List ℕ → Result ℕ DeviceFault → List ℕ
 Reads unread buf (Ok n) unread' buf' = TakesSome unread buf n unread' buf'
 Reads unread buf (Err fault) unread' buf' = (unread' ≡ unread) × (buf' ≡ buf)
 
--- `count` unread bytes are taken, or none
+-- `count` unread bytes are taken, as by a read, where the call returned true; none where it
+-- returned false
 abbrev pub Passes : List ℕ → ℕ → Bool → List ℕ → Type 0
 Passes unread count true unread' = (count ≤ length unread) × (unread' ≡ drop count unread)
 Passes unread count false unread' = unread' ≡ unread
@@ -53,6 +55,8 @@ pub record TakesFront (unread buf : List ℕ) (given : ℕ) (unread' buf' : List
   pub counted : given' ≡ given + k
   pub taken : Takes unread buf k unread' buf'
 
+-- reads until the buffer is full or the end is met; where the device failed, the bytes that came
+-- before are at the start of the buffer
 abbrev pub Fills : (unread buf : List ℕ) (given : ℕ) → Result ℕ DeviceFault
     → (unread' buf' : List ℕ) (given' : ℕ) → Type 0
 Fills unread buf given (Ok n) unread' buf' given' = TakesFull unread buf n unread' buf'

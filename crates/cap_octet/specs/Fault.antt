@@ -3,6 +3,7 @@ use Rattle.std.specs.Prelude.{ℕ, List, codes}
 use Rattle.cap_octet.specs.declared.fault.Fault.{Fault}
 use Rattle.cap_octet.specs.declared.fault.Fault.TheVariants as fault
 
+-- the words for a fault in messages
 abbrev pub fault_text : Fault → List ℕ
 fault_text fault.NotACaptureFile = codes "not a capture file"
 fault_text fault.Truncated = codes "truncated"

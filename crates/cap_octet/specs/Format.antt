@@ -5,6 +5,7 @@ use Rattle.std.specs.Str.{bytes_eq}
 use Rattle.cap_octet.specs.declared.format.Format.{Format}
 use Rattle.cap_octet.specs.declared.format.Format.TheVariants.{Pcap, NsecPcap, Pcapng}
 
+-- every format
 unfoldable pub all_formats : List Format
 all_formats = Pcap ∷ NsecPcap ∷ Pcapng ∷ []
 
@@ -14,6 +15,6 @@ format_name Pcap = codes "pcap"
 format_name NsecPcap = codes "nsecpcap"
 format_name Pcapng = codes "pcapng"
 
--- the format of a name
+-- the format that has this name, or None
 abbrev pub format_of_name : List ℕ → Option Format
 format_of_name name = find (λ format. bytes_eq (format_name format) name) all_formats

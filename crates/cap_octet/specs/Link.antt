@@ -7,10 +7,11 @@ use Rattle.cap_octet.specs.Assigned.{ETHERNET_TYPE_OFFSET, ETHERNET_HEADER_LENGT
 use Rattle.cap_octet.specs.declared.link.Link.{Link}
 use Rattle.cap_octet.specs.declared.link.Link.TheVariants.{Ether, Raw, Cooked}
 
+-- every link
 unfoldable pub all_links : List Link
 all_links = Ether ∷ Raw ∷ Cooked ∷ []
 
--- its number in captures
+-- the link type that captures have for it
 abbrev pub link_type : Link → ℕ
 link_type Ether = LINKTYPE_ETHERNET
 link_type Raw = LINKTYPE_RAW
@@ -26,7 +27,7 @@ network_offset Cooked = LINUX_SLL_HEADER_LENGTH
 abbrev pub longest_header : ℕ
 longest_header = 16
 
--- where its header has the EtherType of the network header
+-- where its header has the EtherType of the network header; raw IP has none
 abbrev pub type_offset : Link → Option ℕ
 type_offset Ether = Some ETHERNET_TYPE_OFFSET
 type_offset Raw = None
@@ -38,10 +39,10 @@ link_name Ether = codes "ether"
 link_name Raw = codes "raw"
 link_name Cooked = codes "cooked"
 
--- the link of a link type
+-- the link of a link type, or None of one that isn't known
 abbrev pub link_of : ℕ → Option Link
 link_of n = find (λ link. link_type link == n) all_links
 
--- the link of a name
+-- the link that has this name, or None
 abbrev pub link_of_name : List ℕ → Option Link
 link_of_name name = find (λ link. bytes_eq (link_name link) name) all_links

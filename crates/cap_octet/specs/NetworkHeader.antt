@@ -9,7 +9,8 @@ use Rattle.cap_octet.specs.declared.network.NetworkHeader.{NetworkHeader}
 use Rattle.cap_octet.specs.declared.network.NetworkHeader.TheVariants.{Known, OtherType, OtherVersion, OtherLink, Short}
 use Rattle.cap_octet.specs.declared.network.NetworkKind.TheVariants.{Ipv4, Ipv6, Arp, Rarp}
 
--- how many bytes the link header has, after which the network header begins
+-- how many bytes the link header of a link type has, after which the network header begins; 0 of
+-- one that isn't known
 abbrev pub link_header_length : ℕ → ℕ
 link_header_length n = option_map_or network_offset (link_of n) 0
 
@@ -27,13 +28,14 @@ abbrev pub header_by_version : ℕ → NetworkHeader
 header_by_version version =
     if version == 4 then Known Ipv4 else if version == 6 then Known Ipv6 else OtherVersion version
 
--- by the EtherType at a place in the link header, or of raw IP by the version, which the first four
--- bits are
+-- the network header of a packet: by the EtherType at this place in the link header; or of raw IP,
+-- which has none, by the version of IP, which is the first four bits
 abbrev pub header_after : Option ℕ → List ℕ → NetworkHeader
 header_after None p = if length p == 0 then Short else header_by_version (slice_index p 0 / 16)
 header_after (Some at) p =
     if nat_lt (length p) (at + 2) then Short else header_by_ethertype (u16_in Big p at)
 
+-- the network header of a packet of this link type
 abbrev pub network_header : ℕ → List ℕ → NetworkHeader
 network_header n p =
     option_map_or (λ link. header_after (type_offset link) p) (link_of n) (OtherLink n)

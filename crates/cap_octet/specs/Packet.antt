@@ -14,6 +14,7 @@ pub record Captured : Type 0 where
   -- empty where there is none
   pub comment : List ℕ
 
+-- the values of a packet
 abbrev pub captured : Packet → Captured
 captured p = record {
   link = p.link;

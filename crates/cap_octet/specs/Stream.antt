@@ -1,4 +1,4 @@
--- What the answer of a device over a reader or a writer of std has to do with that one's.
+-- What a device over a reader or a writer of std returns, by what that reader or writer returned.
 use Rattle.std.specs.Prelude.{◌≡◌, ◌⊎◌, ℕ, ◌+◌, ◌^◌, ◌≤◌, ◌<◌, Bool, true, false, List, length, take, Option, Some, Result, Ok, Err}
 use Rattle.std.specs.Io.{ReadsAtMost, StartsWith, WritesAtMost}
 use Rattle.std.specs.Io.KnownBytes.{Consumes, ReadConsumes, WriteAppends}
@@ -8,24 +8,24 @@ use Rattle.std.specs.declared.io.ErrorKind.{ErrorKind}
 use Rattle.std.specs.declared.io.ErrorKind.TheVariants.{WriteZero}
 use Rattle.cap_octet.specs.declared.device.DeviceFault.{DeviceFault}
 
--- The reader's answer, where `given` bytes were given before: but a read that would reach 2^63
--- bytes in all is a failure.
+-- The device returns what the reader did, where `given` bytes were given before; but a read that
+-- would reach 2^63 bytes in all is a failure.
 abbrev pub HandsOver : ℕ → Result ℕ Error → Result ℕ DeviceFault → Type 0
 HandsOver given (Ok n) (Ok count) = count ≡ n
 HandsOver given (Ok n) (Err fault) = 2 ^ 63 ≤ given + n
 HandsOver given (Err e) (Ok count) = ⊥
 HandsOver given (Err e) (Err fault) = Unit {0}
 
--- The reader was read once in this call; but not for a buffer that its own buffer can fill. So a
--- failure is the reader's.
+-- The reader was read once in this call; or not at all, and the bytes are the first of those that
+-- its own buffer held. So where the device fails the reader was read.
 abbrev pub ReadsOnce : (held : List ℕ) (calls : ℕ) → Result ℕ DeviceFault → (buf' : List ℕ)
     (calls' : ℕ) → Type 0
 ReadsOnce held calls (Ok n) buf' calls' =
     (calls' ≡ calls + 1) ⊎ ((calls' ≡ calls) × (n ≡ length buf') × StartsWith held buf')
 ReadsOnce held calls (Err fault) buf' calls' = calls' ≡ calls + 1
 
--- One read of a reader into this buffer, and what the device makes of its answer. What std says of
--- a read is known of it: so of a reader whose bytes are known no byte is lost.
+-- One read of a reader into this buffer, and what the device makes of what it returned (`answer`).
+-- What std says of a read is known of it: so of a reader whose bytes are known no byte is lost.
 pub record IsOneRead (held : List ℕ) (remaining : Option (List ℕ)) (given calls : ℕ)
     (result : Result ℕ DeviceFault) (remaining' : Option (List ℕ)) (buf' : List ℕ)
     (calls' : ℕ) : Type 0 where
@@ -35,15 +35,16 @@ pub record IsOneRead (held : List ℕ) (remaining : Option (List ℕ)) (given ca
   pub bytes : ReadConsumes remaining remaining' answer buf'
   pub hands : HandsOver given answer result
 
--- `count` bytes that a reader's buffer holds are consumed, as of a read that gave them; or the
--- reader gives what it gave.
+-- `count` bytes that a reader's buffer held are consumed, as by a read that gave them; or none, and
+-- as many remain as before.
 abbrev pub IsPassed : (held : List ℕ) (remaining : Option (List ℕ)) (count : ℕ) → Bool
     → (remaining' : Option (List ℕ)) → Type 0
 IsPassed held remaining count true remaining' =
     (count ≤ length held) × Consumes remaining remaining' (take count held)
 IsPassed held remaining count false remaining' = remaining' ≡ remaining
 
--- The writer's answer: but a write that takes nothing of some bytes is a failure.
+-- The device returns what the writer did; but a write that takes nothing of some bytes is a
+-- failure.
 abbrev pub TakesOver : List ℕ → Result ℕ Error → Result ℕ DeviceFault → Type 0
 TakesOver buf (Ok n) (Ok count) = count ≡ n
 TakesOver buf (Ok n) (Err fault) = (n ≡ 0) × (0 < length buf)
@@ -57,7 +58,7 @@ cause_after cause answer (Ok count) = cause
 cause_after cause (Ok n) (Err fault) = Some WriteZero
 cause_after cause (Err e) (Err fault) = Some (error_kind e)
 
--- one write of these bytes to a writer, and what the device makes of its answer
+-- one write of these bytes to a writer, and what the device makes of what it returned (`answer`)
 pub record IsOneWrite (contents : Option (List ℕ)) (cause : Option ErrorKind) (calls : ℕ)
     (buf : List ℕ) (result : Result ℕ DeviceFault) (contents' : Option (List ℕ))
     (cause' : Option ErrorKind) (calls' : ℕ) : Type 0 where

@@ -7,7 +7,8 @@ use Rattle.cap_octet.specs.Date.{NANOS_PER_SECOND}
 use Rattle.cap_octet.specs.Digits.{decimal_value}
 use Rattle.cap_octet.specs.Seconds.{fraction_nanoseconds, time_below_end, duration_value}
 
--- how many days after 1970-01-01 a day comes, if the calendar has it; from 1970 to 9999
+-- how many days after 1970-01-01 a day comes, if the calendar has it and its year is from 1970 to
+-- 9999; else None
 abbrev pub day_number : ℕ → ℕ → ℕ → Option ℕ
 day_number year month day =
     if nat_le 1970 year
@@ -17,26 +18,27 @@ day_number year month day =
     Some (unsigned_abs (days_from_civil (pos year) month day))
     else None
 
--- the day's number, where its year, month and day were read
+-- the day's number, if its year, month and day are numbers, and there is such a day; else None
 abbrev pub day_of_parts : Option ℕ → Option ℕ → Option ℕ → Option ℕ
 day_of_parts year month day =
     option_and_then
     (λ y. option_and_then (λ m. option_and_then (λ d. day_number y m d) day) month) year
 
--- the seconds since midnight of a time of day, without leap seconds
+-- the seconds since midnight of a time of day, if there is such a time; there are no leap seconds
 abbrev pub second_of_day : ℕ → ℕ → ℕ → Option ℕ
 second_of_day hour minute second =
     if nat_lt hour 24
     && (nat_lt minute 60 && nat_lt second 60) then Some (hour * 3600 + minute * 60 + second)
     else None
 
--- the seconds since midnight, where hour, minute and second were read
+-- the seconds since midnight, if hour, minute and second are numbers, and there is such a time
 abbrev pub clock_of_parts : Option ℕ → Option ℕ → Option ℕ → Option ℕ
 clock_of_parts hour minute second =
     option_and_then
     (λ h. option_and_then (λ m. option_and_then (λ s. second_of_day h m s) second) minute) hour
 
--- the nanoseconds since 1970-01-01 of a day, a time of day and a fraction, where all were read
+-- the nanoseconds since 1970-01-01 of a day's number, the seconds since midnight and a fraction in
+-- nanoseconds, if none of these is None and the sum is below 2^63
 abbrev pub time_of_parts : Option ℕ → Option ℕ → Option ℕ → Option ℕ
 time_of_parts day clock fraction =
     option_and_then
@@ -44,11 +46,11 @@ time_of_parts day clock fraction =
     (λ c. option_and_then
     (λ f. time_below_end ((d * 86400 + c) * NANOS_PER_SECOND + f)) fraction) clock) day
 
--- the number that `count` digits from place `at` write
+-- the number that `count` digits from place `at` write; None where one is no digit
 abbrev pub number_at : List ℕ → ℕ → ℕ → Option ℕ
 number_at text at count = decimal_value (take count (drop at text))
 
--- nothing, or a point and 1 to 9 digits
+-- the nanoseconds of a point and 1 to 9 digits, or 0 of nothing; None of every other text
 abbrev pub optional_fraction : List ℕ → Option ℕ
 optional_fraction text =
     if length text == 0 then Some 0 else if slice_index text 0 == 46 then fraction_nanoseconds (drop 1 text)
@@ -63,13 +65,15 @@ is_date_time text =
     && ((slice_index text 13 == 58)
     && ((slice_index text 16 == 58) && (slice_index text (length text - 1) == 90))))))
 
--- the nanoseconds since 1970-01-01 of a text whose marks are in their places
+-- the nanoseconds since 1970-01-01 of a text whose marks are in their places; None where what
+-- stands between these is no date, time of day and fraction
 unfoldable pub date_time_value : List ℕ → Option ℕ
 date_time_value text =
     time_of_parts (day_of_parts (number_at text 0 4) (number_at text 5 2) (number_at text 8 2))
     (clock_of_parts (number_at text 11 2) (number_at text 14 2) (number_at text 17 2))
     (optional_fraction (take (length text - 20) (drop 19 text)))
 
--- the time of a timestamp, in nanoseconds since 1970-01-01
+-- the time of a timestamp, in nanoseconds since 1970-01-01: a date and a time of day, or a number
+-- of seconds; None of every other text
 unfoldable pub time_value : List ℕ → Option ℕ
 time_value text = if is_date_time text then date_time_value text else duration_value text

@@ -10,6 +10,7 @@ pub record FreshInput : Type 0 where
   pub failures : ℕ
   pub sure : Option ℕ
 
+-- what a contract sees of an input
 abbrev pub fresh_input : {I : Type 0} → input.Ghosts I → I → FreshInput
 fresh_input device i =
     record {
@@ -24,9 +25,11 @@ pub record OutputView : Type 0 where
   pub written : List ℕ
   pub failures : ℕ
 
+-- the view with these bytes and failures
 abbrev pub output_view : List ℕ → ℕ → OutputView
 output_view written failures = record { written = written; failures = failures }
 
+-- the view of an output
 abbrev pub device_view : {O : Type 0} → output.Ghosts O → O → OutputView
 device_view device o = output_view (device.written o) (device.failures o)
 
@@ -37,6 +40,7 @@ pub record FreshOutput : Type 0 where
   pub room : ℕ
   pub tells : Bool
 
+-- what a contract sees of an output before a call
 abbrev pub fresh_output : {O : Type 0} → output.Ghosts O → O → FreshOutput
 fresh_output device o =
     record { view = device_view device o; room = device.room o; tells = device.tells }

@@ -19,7 +19,7 @@ pub(crate) struct CountingReader<R> {
 }
 
 impl<R: Read> CountingReader<R> {
-    /// A reader of which no read was asked yet.
+    /// A reader with a count of 0.
     pub(crate) fn new(reader: BufReader<R>) -> Self
         ensures reader { result.reader ≡ reader }
         ensures calls { result.calls.count ≡ 0 }
@@ -70,7 +70,7 @@ pub(crate) struct CountingWriter<W: Write + Drop> {
 }
 
 impl<W: Write + Drop> CountingWriter<W> {
-    /// A writer of which no write was asked yet.
+    /// A writer with a count of 0.
     pub(crate) fn new(writer: BufWriter<W>) -> Self
         ensures writer { result.writer ≡ writer }
         ensures calls { result.calls.count ≡ 0 }

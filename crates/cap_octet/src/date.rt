@@ -14,7 +14,7 @@ pub const TIME_END: u64 = 1 << 63;
 /// Seconds in a day.
 pub const SECONDS_PER_DAY: u64 = 86_400;
 
-/// The two digits of each number below 100, in ASCII.
+/// The two digits of each number below 100, in ASCII; those of n are at place 2 n.
 static PAIRS: [u8; 200] = *b"\
     0001020304050607080910111213141516171819\
     2021222324252627282930313233343536373839\
@@ -59,7 +59,7 @@ fn day_bytes(day: CalendarDay) -> [u8; 10]
     ]
 }
 
-/// The time of day as `hh:mm:ss`, of the seconds since any midnight, also an earlier day's.
+/// The time of day as `hh:mm:ss`. The seconds count from any midnight, also that of an earlier day.
 fn clock_bytes(seconds: u64) -> [u8; 8]
     ensures { result ≡ clock_text seconds }
 {
@@ -83,6 +83,7 @@ fn clock_bytes(seconds: u64) -> [u8; 8]
 pub fn nine_digits(number: u32) -> [u8; 9]
     ensures { result ≡ digits 9 number }
 {
+    // The first digit, then four pairs.
     let [b, c] = two_digits(number / 1_000_000 % 100);
     let [d, e] = two_digits(number / 10_000 % 100);
     let [f, g] = two_digits(number / 100 % 100);
@@ -90,7 +91,7 @@ pub fn nine_digits(number: u32) -> [u8; 9]
     [last_digit(number / 100_000_000), b, c, d, e, f, g, h, i]
 }
 
-/// A printed date up to its point, of a second since 1970-01-01 00:00:00 UTC: `YYYY-MM-DD
+/// The printed date of a second, counted from 1970-01-01 00:00:00 UTC, up to its point: `YYYY-MM-DD
 /// hh:mm:ss.`, in UTC. 2^34 seconds are 198,841 days, fewer than `calendar_day` has; times end
 /// before.
 #[tactic(auto, unfolding(crate::specs::Date::second_text))]

@@ -57,8 +57,9 @@ pub trait Input {
         &[]
     }
 
-    /// Takes `count` bytes as a read of them would; or none, and returns `false`. Where a device
-    /// doesn't give this it takes none.
+    /// Moves past the next `count` bytes, of those that `at_hand` shows, as a read of them would,
+    /// and returns `true`; or takes none, and returns `false`. Where a device doesn't give this it
+    /// takes none.
     fn pass(&mut self, count: usize) -> bool
         ensures counted { given self.new ≡ given self.old + (if result then count else 0) }
         ensures bounded { IsTrue result → given self.new < 2 ^ 63 }
@@ -100,8 +101,9 @@ pub trait Output {
         ensures exact { IsTrue tells → Writes (written self.old) buf.now
             result (written self.new) };
 
-    /// Whether somebody may be waiting for what it takes, so that it is to be released before a
-    /// read that may wait. Where a device doesn't give this nobody is.
+    /// Whether somebody may be waiting for what it takes, as at the other end of a pipe, so that it
+    /// is to be released before a read that may wait. Where a device doesn't give this nobody is.
+    /// No clause: it only tells when to call `release`.
     fn is_awaited(&self) -> bool {
         false
     }
@@ -189,7 +191,7 @@ fn read_repeatedly<I: Input>(input: &mut I, buf: &mut [u8]) -> Result<usize, Dev
 }
 
 /// Writes all of the bytes. An error is a failure of the device in this call, and reports how many
-/// bytes, fewer than all, were written before it.
+/// bytes, fewer than all, were written before the failure.
 // The first write mostly takes all. Where this is inlined, no loop is left then.
 #[inline(always)]
 pub fn write_all<O: Output>(output: &mut O, buf: &[u8]) -> Result<(), Stopped>
@@ -238,7 +240,8 @@ fn write_repeatedly<O: Output>(output: &mut O, buf: &[u8]) -> Result<(), Stopped
 }
 
 /// Writes parts one after another, fewer than 2^64 bytes in all. An error is a failure of the
-/// device in this call, and reports how many bytes, fewer than all, were written before it.
+/// device in this call, and reports how many bytes, fewer than all, were written before the
+/// failure.
 #[inline(always)]
 pub fn write_all_parts<O: Output>(output: &mut O, parts: &[&[u8]]) -> Result<(), Stopped>
     requires { length (flat_map (λ part. part.now) parts.now) < 2 ^ 64 }
@@ -262,9 +265,9 @@ pub fn write_all_parts<O: Output>(output: &mut O, parts: &[&[u8]]) -> Result<(),
     Ok(())
 }
 
-/// Writes parts one after another, as `write_all_parts` does, but of any length and without the
-/// count. An error is a failure of the device in this call, after a prefix of the parts that isn't
-/// the whole.
+/// Writes parts one after another, of any length. An error is a failure of the device in this call,
+/// after a prefix of the bytes that isn't the whole; unlike `write_all_parts` it doesn't report how
+/// many.
 pub fn write_parts<O: Output>(output: &mut O, parts: &[&[u8]]) -> Result<(), DeviceFault>
     ensures exact { IsTrue O.tells
         → AppendsOrStops result (O.written output.old) (flat_map (λ part. part.now) parts.now)

@@ -22,8 +22,9 @@ pub fn are_digits(radix: u32, text: &[u8]) -> bool
     text.iter().all(|byte| is_digit(radix, *byte))
 }
 
-/// The number with one digit more at its end, if that is below 2^64; the byte is a digit.
-fn with_digit(number: u64, radix: u32, byte: u8) -> Option<u64>
+/// The number with one digit appended, 12 and `3` to 123; `None` if that isn't below 2^64. The byte
+/// is a digit of the radix.
+fn append_digit(number: u64, radix: u32, byte: u8) -> Option<u64>
     requires low { 2 ≤ radix }
     requires high { radix ≤ 16 }
     requires digit { digit_value byte < radix }
@@ -35,7 +36,8 @@ fn with_digit(number: u64, radix: u32, byte: u8) -> Option<u64>
     number.checked_mul(radix as u64)?.checked_add(digit as u64)
 }
 
-/// The number that digits of a radix write, the highest first, if it is below 2^64; 0 of no digit.
+/// The number that digits of a radix write, the most significant first; 0 of no digit. `None` from
+/// 2^64 on.
 #[tactic(auto, using(crate::proofs::Numerals::whole_grows))]
 pub fn digits_number(radix: u32, digits: &[u8]) -> Option<u64>
     requires low { 2 ≤ radix }
@@ -46,7 +48,7 @@ pub fn digits_number(radix: u32, digits: &[u8]) -> Option<u64>
 {
     let mut number: u64 = 0;
     for byte in digits {
-        number = with_digit(number, radix, *byte)?;
+        number = append_digit(number, radix, *byte)?;
     }
     Some(number)
 }

@@ -55,7 +55,7 @@ pub enum Fault {
 }
 
 impl Fault {
-    /// What messages call it.
+    /// What messages call the fault.
     pub fn text(self) -> &'static str
         ensures { result.now ≡ fault_text self }
     {

@@ -18,7 +18,7 @@ impl Format {
     /// Every format.
     pub const ALL: [Format; 3] = [Format::Pcap, Format::NsecPcap, Format::Pcapng];
 
-    /// What command lines and reports call it.
+    /// The format's name on command lines and in reports.
     pub fn name(self) -> &'static str
         ensures { result.now ≡ format_name self }
     {

@@ -36,8 +36,8 @@ impl Link {
         }
     }
 
-    /// The link that captures have this link type for; `None` where lines and expressions don't
-    /// know it.
+    /// The link that has this link type in captures; `None` of a link type that lines and
+    /// expressions don't know.
     #[inline]
     #[tactic(auto, unfolding(crate::specs::Link::all_links))]
     pub fn of_link_type(number: u16) -> Option<Link>
@@ -79,7 +79,7 @@ impl Link {
         }
     }
 
-    /// What command lines and printed lines call it; these keep room for 8 bytes.
+    /// The link's name on command lines and in printed lines, which keep room for 8 bytes of it.
     pub fn name(self) -> &'static str
         ensures value { result.now ≡ link_name self }
         ensures bound { length result.now ≤ 8 }

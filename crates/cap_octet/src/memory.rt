@@ -49,7 +49,7 @@ impl Input for MemInput<'_> {
 
     ghost sure = { λ _. None };
 
-    /// Never fails.
+    /// Gives as many of the bytes left as the buffer has room for. Never fails.
     fn read(&mut self, buf: &mut [u8]) -> Result<usize, DeviceFault>
         ensures within { IfOk result (λ n. n ≤ length buf.old) }
         ensures counted { self.new.given ≡ self.old.given + count_of result }
@@ -100,6 +100,7 @@ impl Input for MemInput<'_> {
 #[derive(Drop)]
 pub struct MemOutput<'a> {
     bytes: &'a mut [u8],
+    /// How many bytes were written; they are the slice's first.
     len: usize,
     failures: ContractCount,
     ghost inside: { len ≤ length bytes.now },
@@ -138,7 +139,7 @@ impl Output for MemOutput<'_> {
     /// All bytes of the slice.
     ghost room = { λ s. length s.bytes.now };
 
-    /// Fails only where the slice is full.
+    /// Takes as many of the bytes as the slice has room for. Fails only where it is full.
     fn write(&mut self, buf: &[u8]) -> Result<usize, DeviceFault>
         ensures within { IfOk result (λ n. n ≤ length buf.now) }
         ensures some { IfOk result (λ n. 0 < length buf.now → 0 < n) }

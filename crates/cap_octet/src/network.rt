@@ -71,8 +71,9 @@ fn header_by_version(version: u8) -> NetworkHeader
     }
 }
 
-/// The network header after a link header that has the EtherType at this place, big-endian; `None`
-/// is raw IP, whose version is the first four bits. `Short` where these bytes aren't captured.
+/// The network header of a packet whose link header has the EtherType at this place, big-endian;
+/// `None` is raw IP, where the version of IP is the packet's first four bits. `Short` where these
+/// bytes aren't captured.
 #[inline]
 fn header_after(type_offset: Option<usize>, bytes: &[u8]) -> NetworkHeader
     requires { IfSome type_offset (λ at. at ≤ longest_header) }
@@ -80,6 +81,7 @@ fn header_after(type_offset: Option<usize>, bytes: &[u8]) -> NetworkHeader
 {
     match type_offset {
         None if bytes.is_empty() => NetworkHeader::Short,
+        // The higher four bits of the first byte.
         None => header_by_version(bytes[0] / 16),
         Some(at) if bytes.len() < at + 2 => NetworkHeader::Short,
         Some(at) => header_by_ethertype(u16_at(Order::Big, bytes, at)),

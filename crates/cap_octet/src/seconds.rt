@@ -15,18 +15,19 @@ pub fn fraction_nanoseconds(text: &[u8]) -> Option<u64>
         return None;
     }
     let number = decimal_value(text)?;
+    // As if zeros followed, up to the ninth digit.
     Some(number * 10u64.pow(9 - text.len() as u32))
 }
 
-/// These nanoseconds, if they are below 2^63, as all times are.
+/// These nanoseconds, if they are below 2^63, as all times are; else `None`.
 pub fn time_below_end(nanos: u64) -> Option<u64>
     ensures { result ≡ time_below_end nanos }
 {
     (nanos < TIME_END).then_some(nanos)
 }
 
-/// The nanoseconds of whole seconds and a fraction in nanoseconds, where both were read, if they
-/// are below 2^63.
+/// The nanoseconds of whole seconds and a fraction in nanoseconds. `None` where one of both is no
+/// number, and from 2^63 nanoseconds on.
 fn duration_of_parts(seconds: Option<u64>, fraction: Option<u64>) -> Option<u64>
     ensures { result ≡ duration_of_parts seconds fraction }
 {
@@ -34,8 +35,8 @@ fn duration_of_parts(seconds: Option<u64>, fraction: Option<u64>) -> Option<u64>
     time_below_end(nanos.checked_add(fraction?)?)
 }
 
-/// The index of the first `.` (byte 46) in a text, if it has one.
-fn point_in(text: &[u8]) -> Option<usize>
+/// The index of the first `.` (byte 46) in a text; `None` where it has none.
+fn find_point(text: &[u8]) -> Option<usize>
     ensures value { result ≡ position (λ b. b == 46) text.now }
     ensures bound { IfSome result (λ point. point < length text.now) }
 {
@@ -51,7 +52,7 @@ pub fn read_duration(text: &str) -> Option<u64>
     ensures { result ≡ duration_value text.now }
 {
     let bytes = text.as_bytes();
-    match point_in(bytes) {
+    match find_point(bytes) {
         None => duration_of_parts(decimal_value(bytes), Some(0)),
         Some(point) => duration_of_parts(
             decimal_value(&bytes[..point]),

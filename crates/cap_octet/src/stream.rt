@@ -18,8 +18,8 @@ use std::io::{BufReader, BufWriter, ErrorKind, Read, Write};
 /// Fewer bytes than this are read from one input in all: 2^63.
 const GIVEN_END: u64 = 0x8000_0000_0000_0000;
 
-/// Over a reader, as a file or standard input. A read that would reach 2^63 bytes in all is a
-/// failure.
+/// An input over a buffered reader of std, as of a file or of standard input. A read that would
+/// reach 2^63 bytes in all is a failure.
 #[derive(Drop)]
 pub struct StdInput<R> {
     reader: CountingReader<R>,
@@ -45,8 +45,8 @@ impl<R: Read> StdInput<R> {
 
     /// Makes one read of the reader, whatever its own buffer holds, and returns what that returned;
     /// but a read that would reach 2^63 bytes in all is a failure.
-    // Out of line: std's errors are large, and where `read` takes what the buffer holds, the
-    // compiler sees that none can come.
+    // Out of line: std's errors are large, and where `read` copies what the buffer holds, the
+    // compiler then sees that no error can come and keeps no room for one.
     #[cold]
     #[inline(never)]
     fn read_once(&mut self, buf: &mut [u8]) -> Result<usize, DeviceFault>
@@ -82,10 +82,10 @@ impl<R: Read> Input for StdInput<R> {
 
     ghost failures = { λ s. s.failures.count };
 
-    /// Makes one read of the reader into this buffer and returns what that returned; where the
-    /// reader's own buffer holds as many bytes, they are taken without one.
-    // Mostly it does. Then no room is made for std's errors, which are large: `read_once` is out
-    // of line.
+    /// Fills this buffer from the reader's own, where that holds as many bytes; else makes one read
+    /// of the reader into this buffer and returns what that returned.
+    // Mostly the reader's buffer holds them. Then no room is made for std's errors, which are
+    // large: `read_once` is out of line.
     #[inline(always)]
     fn read(&mut self, buf: &mut [u8]) -> Result<usize, DeviceFault>
         ensures within { IfOk result (λ n. n ≤ length buf.old) }
@@ -117,7 +117,7 @@ impl<R: Read> Input for StdInput<R> {
         }
     }
 
-    /// What the reader's buffer holds.
+    /// The bytes that the reader's own buffer holds.
     #[inline(always)]
     fn at_hand(&self) -> &[u8]
         ensures exact { IsTrue false → StartsWith [] result.now }
@@ -151,13 +151,13 @@ impl<R: Read> Input for StdInput<R> {
     ghost unfailed = { Prim.search rules };
 }
 
-/// Over a writer, as a file or standard output. A write that takes nothing of some bytes is a
-/// failure.
+/// An output over a buffered writer of std, as of a file or of standard output. A write that takes
+/// nothing of some bytes is a failure.
 #[derive(Drop)]
 pub struct StdOutput<W: Write + Drop> {
     writer: CountingWriter<W>,
     is_awaited: bool,
-    /// Why it failed last.
+    /// Why it failed last; `None` where it never did.
     cause: Option<ErrorKind>,
     failures: ContractCount,
 }
@@ -232,8 +232,8 @@ impl<W: Write + Drop> StdOutput<W> {
 
     /// `write_once`, out of line: for where the writer's buffer has no room, so that the system may
     /// be called.
-    // It stands apart so that where there is room the compiler sees that no call of the system and
-    // no error can come.
+    // Apart from the inlined `write_once` in `write`, for which the compiler then sees that no call
+    // of the system and no error can come.
     #[cold]
     #[inline(never)]
     fn write_out_of_line(&mut self, buf: &[u8]) -> Result<usize, DeviceFault>
@@ -257,7 +257,8 @@ impl<W: Write + Drop> Output for StdOutput<W> {
     ghost failures = { λ s. s.failures.count };
 
     /// Makes one write of the writer with these bytes and returns what that returned.
-    // Both ways are `write_once`: inlined here where the buffer has room, and else out of line.
+    // Both branches call `write_once`: inlined here where the writer's buffer has room, else out of
+    // line.
     #[inline(always)]
     fn write(&mut self, buf: &[u8]) -> Result<usize, DeviceFault>
         ensures within { IfOk result (λ n. n ≤ length buf.now) }
@@ -280,7 +281,7 @@ impl<W: Write + Drop> Output for StdOutput<W> {
         }
     }
 
-    /// Whether somebody may be waiting for what it takes.
+    /// Whether somebody may be waiting for what it takes: as `new_awaited` said, or `new` didn't.
     fn is_awaited(&self) -> bool
         ensures { result ≡ self.now.is_awaited }
     {

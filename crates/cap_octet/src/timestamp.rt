@@ -14,8 +14,8 @@ use jiff_core::civil::Date;
 /// The number of 1970-01-01 as jiff counts days from its first date, -9999-01-01.
 const EPOCH: u32 = 4_371_587;
 
-/// How many days after 1970-01-01 a day comes, if the calendar has it; years go from 1970 to 9999.
-/// `calendar_day` is the way back.
+/// How many days after 1970-01-01 a day comes; `None` if the calendar has no such day, or its year
+/// isn't from 1970 to 9999. `calendar_day` is the way back.
 fn day_number(year: u64, month: u64, day: u64) -> Option<u64>
     ensures { result ≡ day_number year month day }
 {
@@ -34,14 +34,16 @@ fn day_number(year: u64, month: u64, day: u64) -> Option<u64>
     Some((date.days_since_min() - EPOCH) as u64)
 }
 
-/// The day's number, where its year, month and day were read and the calendar has it.
+/// How many days after 1970-01-01 a day comes. `None` where its year, month or day is no number, or
+/// the calendar has no such day.
 fn day_of_parts(year: Option<u64>, month: Option<u64>, day: Option<u64>) -> Option<u64>
     ensures { result ≡ day_of_parts year month day }
 {
     day_number(year?, month?, day?)
 }
 
-/// The seconds since midnight of a time of day, if there is one; there are no leap seconds.
+/// The seconds since midnight of a time of day; `None` where there is no such time, as of a leap
+/// second (23:59:60).
 fn second_of_day(hour: u64, minute: u64, second: u64) -> Option<u64>
     ensures { result ≡ second_of_day hour minute second }
 {
@@ -52,15 +54,16 @@ fn second_of_day(hour: u64, minute: u64, second: u64) -> Option<u64>
     }
 }
 
-/// The seconds since midnight, where hour, minute and second were read and make a time of day.
+/// The seconds since midnight of a time of day. `None` where hour, minute or second is no number,
+/// or there is no such time.
 fn clock_of_parts(hour: Option<u64>, minute: Option<u64>, second: Option<u64>) -> Option<u64>
     ensures { result ≡ clock_of_parts hour minute second }
 {
     second_of_day(hour?, minute?, second?)
 }
 
-/// The nanoseconds since 1970-01-01 of a day's number, seconds since midnight and a fraction in
-/// nanoseconds, where all were read, if they are below 2^63.
+/// The nanoseconds since 1970-01-01 of a day's number (days since then), seconds since midnight and
+/// a fraction in nanoseconds. `None` where one of them is, and from 2^63 nanoseconds on.
 fn time_of_parts(day: Option<u64>, clock: Option<u64>, fraction: Option<u64>) -> Option<u64>
     ensures { result ≡ time_of_parts day clock fraction }
 {
@@ -70,8 +73,8 @@ fn time_of_parts(day: Option<u64>, clock: Option<u64>, fraction: Option<u64>) ->
     time_below_end(nanos.checked_add(fraction)?)
 }
 
-/// The number that `count` decimal digits from place `at` write; `None` where one is no digit. Of 9
-/// digits at most every number fits.
+/// The number that `count` decimal digits from place `at` write, 9 at most; `None` where one of
+/// these bytes is no digit.
 fn number_at(text: &[u8], at: usize, count: usize) -> Option<u64>
     requires there { at + count ≤ length text.now }
     requires upper_bound { count ≤ 9 }
@@ -80,8 +83,8 @@ fn number_at(text: &[u8], at: usize, count: usize) -> Option<u64>
     decimal_value(&text[at..at + count])
 }
 
-/// The nanoseconds of a fraction, `.` and 1 to 9 digits, or 0 of no text; `None` for every other
-/// one.
+/// The nanoseconds of a fraction of a second, `.` and 1 to 9 digits; 0 of an empty text, `None` of
+/// every other one.
 fn optional_fraction(text: &[u8]) -> Option<u64>
     ensures { result ≡ optional_fraction text.now }
 {
@@ -114,11 +117,14 @@ fn is_date_time(text: &[u8]) -> bool
         && text[text.len() - 1] == b'Z'
 }
 
-/// The nanoseconds since 1970-01-01 00:00:00 UTC of a text whose marks are in their places.
+/// The nanoseconds since 1970-01-01 00:00:00 UTC of a text whose marks are in their places
+/// (`is_date_time`); `None` where what stands between them is no date, time of day and fraction.
 fn date_time_value(text: &[u8]) -> Option<u64>
     requires { 20 ≤ length text.now }
     ensures { result ≡ date_time_value text.now }
 {
+    // YYYY-MM-DDThh:mm:ss[.n..]Z
+    // 0    5  8  11 14 17 19
     let year = number_at(text, 0, 4);
     let day = day_of_parts(year, number_at(text, 5, 2), number_at(text, 8, 2));
     let hour = number_at(text, 11, 2);

@@ -12,38 +12,39 @@ use crate::count::ContractCount;
 use crate::device::{DeviceFault, Input, Output};
 use crate::memory::{MemInput, MemOutput};
 
-/// Gives the bytes of a slice, at most `piece` a read, and fails at its read number `at`, counted
-/// from 1.
+/// Gives the bytes of a slice, at most `piece` a read, and fails at its read number `fails_at`,
+/// counted from 1; `None` is at no read.
 #[derive(Drop)]
 pub struct TrialInput<'a> {
     inner: MemInput<'a>,
     piece: usize,
-    at: Option<u64>,
+    fails_at: Option<u64>,
     reads: u64,
     failures: ContractCount,
     ghost moves: { 0 < piece },
-    ghost unfailed: { 0 < failures.count → is_some at ≡ true },
+    ghost unfailed: { 0 < failures.count → is_some fails_at ≡ true },
 }
 
 impl<'a> TrialInput<'a> {
-    /// An input of exactly these bytes. `piece` is at least 1; without `at` no read fails.
-    pub fn new(bytes: &'a [u8], piece: usize, at: Option<u64>) -> Self
+    /// An input of exactly these bytes. `piece` is at least 1; without `fails_at` no read fails.
+    pub fn new(bytes: &'a [u8], piece: usize, fails_at: Option<u64>) -> Self
         requires { 0 < piece }
         ensures unread { ⟦<TrialInput<'a> as Input>⟧.unread result ≡ bytes.entry.now }
         ensures given { ⟦<TrialInput<'a> as Input>⟧.given result ≡ 0 }
         ensures failures { ⟦<TrialInput<'a> as Input>⟧.failures result ≡ 0 }
-        ensures settings { (result.piece ≡ piece) × (result.at ≡ at) × (result.reads ≡ 0) }
+        ensures settings { (result.piece ≡ piece) × (result.fails_at ≡ fails_at)
+            × (result.reads ≡ 0) }
     {
         TrialInput {
             inner: MemInput::new(bytes),
             piece,
-            at,
+            fails_at,
             reads: 0,
             failures: ContractCount::new(),
         }
     }
 
-    /// How many reads were made. The count stays at its greatest value.
+    /// How many reads were made; at 2^64 - 1 the count stays.
     pub fn reads(&self) -> u64
         ensures { result ≡ self.now.reads }
     {
@@ -67,29 +68,30 @@ impl Input for TrialInput<'_> {
 
     ghost failures = { λ s. s.failures.count };
 
-    /// It may fail at its first read, or never.
-    ghost sure = { λ s. option_map {U = ℕ} (λ _. 0) s.at };
+    /// Sure of no byte where a read is to fail, which may be the first; else it never fails.
+    ghost sure = { λ s. option_map {U = ℕ} (λ _. 0) s.fails_at };
 
-    /// Gives at most `piece` bytes; fails at its read number `at`, and there alone.
+    /// Gives at most `piece` bytes; fails at its read number `fails_at`, and there alone.
     fn read(&mut self, buf: &mut [u8]) -> Result<usize, DeviceFault>
         ensures within { IfOk result (λ n. n ≤ length buf.old) }
         ensures counted { ⟦<MemInput<'static> as Input>⟧.given self.new.inner
             ≡ ⟦<MemInput<'static> as Input>⟧.given self.old.inner + count_of result }
         ensures bounded { ⟦<MemInput<'static> as Input>⟧.given self.new.inner < 2 ^ 63 }
         ensures failed { self.new.failures.count ≡ self.old.failures.count + failures_of result }
-        ensures sure { option_map {U = ℕ} (λ _. 0) self.new.at
-            ≡ option_map {U = ℕ} (λ _. 0) self.old.at }
+        ensures sure { option_map {U = ℕ} (λ _. 0) self.new.fails_at
+            ≡ option_map {U = ℕ} (λ _. 0) self.old.fails_at }
         ensures exact { IsTrue true
             → Reads (⟦<MemInput<'static> as Input>⟧.unread self.old.inner) buf.old result
             (⟦<MemInput<'static> as Input>⟧.unread self.new.inner) buf.new }
         ensures piece { IfOk result (λ n. n ≤ self.old.piece) }
-        ensures fails { OnErr result (self.old.at ≡ Some self.new.reads) }
-        ensures fails_there { self.old.at ≡ Some self.new.reads → IsErr result }
-        ensures settings { (self.new.piece ≡ self.old.piece) × (self.new.at ≡ self.old.at) }
+        ensures fails { OnErr result (self.old.fails_at ≡ Some self.new.reads) }
+        ensures fails_there { self.old.fails_at ≡ Some self.new.reads → IsErr result }
+        ensures settings { (self.new.piece ≡ self.old.piece)
+            × (self.new.fails_at ≡ self.old.fails_at) }
         ensures reads { self.new.reads ≡ min (self.old.reads + 1) (2 ^ 64 - 1) }
     {
         self.reads = self.reads.saturating_add(1);
-        if self.at == Some(self.reads) {
+        if self.fails_at == Some(self.reads) {
             self.failures.add_one();
             return Err(DeviceFault);
         }
@@ -101,11 +103,11 @@ impl Input for TrialInput<'_> {
     fn at_hand(&self) -> &[u8]
         ensures exact { IsTrue true
             → StartsWith (⟦<MemInput<'static> as Input>⟧.unread self.now.inner) result.now }
-        ensures all { self.now.at ≡ None
+        ensures all { self.now.fails_at ≡ None
             → result.now
             ≡ take self.now.piece (⟦<MemInput<'static> as Input>⟧.unread self.now.inner) }
     {
-        if self.at.is_some() {
+        if self.fails_at.is_some() {
             return &[];
         }
         let hand = self.inner.at_hand();
@@ -121,18 +123,18 @@ impl Input for TrialInput<'_> {
         ensures bounded { IsTrue result
             → ⟦<MemInput<'static> as Input>⟧.given self.new.inner < 2 ^ 63 }
         ensures failed { self.new.failures.count ≡ self.old.failures.count }
-        ensures sure { option_map {U = ℕ} (λ _. 0) self.new.at
-            ≡ option_map {U = ℕ} (λ _. 0) self.old.at }
+        ensures sure { option_map {U = ℕ} (λ _. 0) self.new.fails_at
+            ≡ option_map {U = ℕ} (λ _. 0) self.old.fails_at }
         ensures exact { IsTrue true
             → Passes (⟦<MemInput<'static> as Input>⟧.unread self.old.inner) count result
             (⟦<MemInput<'static> as Input>⟧.unread self.new.inner) }
-        ensures passes { self.old.at ≡ None → count ≤ self.old.piece
+        ensures passes { self.old.fails_at ≡ None → count ≤ self.old.piece
             → count ≤ length (⟦<MemInput<'static> as Input>⟧.unread self.old.inner)
             → result ≡ true }
-        ensures settings { (self.new.piece ≡ self.old.piece) × (self.new.at ≡ self.old.at)
-            × (self.new.reads ≡ self.old.reads) }
+        ensures settings { (self.new.piece ≡ self.old.piece)
+            × (self.new.fails_at ≡ self.old.fails_at) × (self.new.reads ≡ self.old.reads) }
     {
-        if self.at.is_some() || count > self.piece {
+        if self.fails_at.is_some() || count > self.piece {
             return false;
         }
         self.inner.pass(count)
