@@ -40,7 +40,7 @@ record_header resolution p =
     ++ little_bytes 4 (p.time % NANOS_PER_SECOND / nanoseconds_of_part resolution)
     ++ little_bytes 4 (length p.bytes) ++ little_bytes 4 p.orig
 
--- the checks of a packet that is to be written, in order
+-- the checks of a packet that is to be written, in order: how many captured bytes, and which second
 abbrev pub record_fit_checks : Captured → List (Bool × Fault)
 record_fit_checks p =
     (nat_le (length p.bytes) most_captured, TooLong)

@@ -11,7 +11,7 @@ use Rattle.cap_pcap.specs.declared.header.Head.{Head}
 use Rattle.cap_pcap.specs.declared.header.Resolution.{Resolution}
 use Rattle.cap_pcap.specs.declared.header.Resolution.TheVariants.{Microseconds, Nanoseconds}
 
--- the number that the first four bytes are
+-- the magic number of a file of this resolution: its first four bytes
 abbrev pub magic : Resolution → ℕ
 magic Microseconds = 0xa1b2c3d4
 magic Nanoseconds = 0xa1b23c4d
@@ -40,7 +40,7 @@ header_checks text =
     ∷ (nat_lt (u32_in order text 20) 65536, BadLinkTypeField)
     ∷ []
 
--- why a text doesn't begin with a file header
+-- why a text doesn't begin with a file header: the first check that fails; None where it does
 abbrev pub header_fault : List ℕ → Option Fault
 header_fault text = first_failing (header_checks text)
 

@@ -12,7 +12,7 @@ use Rattle.cap_pcap.specs.declared.header.RecordHead.{RecordHead}
 use Rattle.cap_pcap.specs.declared.header.Resolution.{Resolution}
 use Rattle.cap_pcap.specs.declared.header.Resolution.TheVariants.{Microseconds, Nanoseconds}
 
--- how many captured bytes a record may have
+-- the most captured bytes that a record may have
 abbrev pub most_captured : ℕ
 most_captured = 262144
 
@@ -34,7 +34,8 @@ captured_len head text = u32_in head.order text 8
 abbrev pub record_size : Head → List ℕ → ℕ
 record_size head text = 16 + captured_len head text
 
--- the checks of the fields in front of a record's data
+-- the checks of the fields in front of a record's data, in order: the captured length, and the part
+-- of a second
 abbrev pub field_checks : Head → List ℕ → List (Bool × Fault)
 field_checks head text =
     (nat_le (captured_len head text) most_captured, TooLong)
@@ -49,7 +50,7 @@ record_checks head text =
     ++ (nat_le (record_size head text) (length text), Truncated)
     ∷ []
 
--- why a text doesn't begin with a record
+-- why a text doesn't begin with a record: the first check that fails; None where it does
 abbrev pub record_fault : Head → List ℕ → Option Fault
 record_fault head text = first_failing (record_checks head text)
 

@@ -21,7 +21,7 @@ const MICROSECOND_MAGIC: u32 = 0xa1b2_c3d4;
 /// The magic number of a savefile with nanoseconds.
 const NANOSECOND_MAGIC: u32 = 0xa1b2_3c4d;
 
-/// The greatest number of captured bytes in a record.
+/// The most captured bytes that a record may have: 2^18, as in libpcap.
 pub(crate) const MOST_CAPTURED: u32 = 262_144;
 
 /// The parts of a second in which a savefile counts, by its magic number.
@@ -65,7 +65,7 @@ impl Resolution {
         }
     }
 
-    /// How many parts make a second.
+    /// How many of its parts make a second.
     fn parts_of_second(self) -> u32
         ensures { result ≡ parts_of_second self }
     {
@@ -75,7 +75,7 @@ impl Resolution {
         }
     }
 
-    /// How many nanoseconds one part of a second is.
+    /// How many nanoseconds one of its parts of a second has.
     pub(crate) fn nanoseconds_of_part(self) -> u64
         ensures { result ≡ nanoseconds_of_part self }
     {
@@ -85,8 +85,8 @@ impl Resolution {
         }
     }
 
-    /// How many whole parts of a second some nanoseconds are. Each divisor is a constant, unlike
-    /// `nanoseconds_of_part`, and so costs no division.
+    /// How many of its parts of a second these nanoseconds are, rounded down. Each divisor is a
+    /// constant, so that the compiler needs no division, as one by `nanoseconds_of_part` would.
     pub(crate) fn whole_parts(self, nanoseconds: u64) -> u64
         ensures { result ≡ nanoseconds / nanoseconds_of_part self }
     {
@@ -97,8 +97,9 @@ impl Resolution {
     }
 }
 
-/// The byte order and the resolution that the first four bytes of a savefile tell, `None` where
-/// they are no magic number in either order. The caller knows four bytes to be there.
+/// The byte order and the resolution that the first four bytes of a savefile, its magic number,
+/// tell; `None` where they are no magic number in either order. The caller knows four bytes to be
+/// there.
 pub fn read_magic(bytes: &[u8]) -> Option<(Order, Resolution)>
     requires { 4 ≤ length bytes.now }
     ensures { result ≡ form_in bytes.now }
@@ -115,8 +116,9 @@ pub fn read_magic(bytes: &[u8]) -> Option<(Order, Resolution)>
     }
 }
 
-/// Reads a file header, or reports the first check that it fails: no magic number, another version
-/// than 2.4, a link type field above 65,535.
+/// Reads a file header, or reports the first check that it fails: no magic number
+/// (`NotACaptureFile`), another version than 2.4 (`BadVersion`), a link type field above 65,535
+/// (`BadLinkTypeField`).
 pub fn read_file_header(bytes: &[u8; 24]) -> Result<Head, Fault>
     ensures { result ≡ checked (header_fault bytes.now) (header_in bytes.now) }
 {
@@ -139,7 +141,8 @@ pub fn read_file_header(bytes: &[u8; 24]) -> Result<Head, Fault>
 }
 
 /// Reads the header before a record's data, or reports the first check that its fields fail: more
-/// than 262,144 captured bytes, a part of a second that is a whole one or more.
+/// than 262,144 captured bytes (`TooLong`), a part of a second that is a second or more
+/// (`TimeOutOfRange`).
 pub fn read_record_header(head: &Head, bytes: &[u8; 16]) -> Result<RecordHead, Fault>
     ensures answer { result
         ≡ checked (first_failing (field_checks head.now bytes.now))
@@ -147,7 +150,8 @@ pub fn read_record_header(head: &Head, bytes: &[u8; 16]) -> Result<RecordHead, F
     ensures in_range { IfOk result (λ found. found.time < 2 ^ 63) }
     ensures short { IfOk result (λ found. found.captured ≤ most_captured) }
 {
-    // Most files are of this order and resolution. Where both are known, no choice is left.
+    // Most files are little-endian with microseconds. For them both are constants here, so that the
+    // inlined body has no branch on either.
     if let (Order::Little, Resolution::Microseconds) = (head.order, head.resolution) {
         let usual = Head {
             order: Order::Little,
@@ -174,7 +178,7 @@ fn read_unusual_header(head: &Head, bytes: &[u8; 16]) -> Result<RecordHead, Faul
 }
 
 /// Reads a record's header in the byte order and the resolution of its file, or reports the first
-/// check that its fields fail.
+/// check that its fields fail: what `read_record_header` does, without its split by files.
 // Inlined, so that for the usual file both are constants.
 #[inline(always)]
 fn read_header_fields(head: &Head, bytes: &[u8; 16]) -> Result<RecordHead, Fault>

@@ -12,7 +12,7 @@ use byteorder::{ByteOrder, LittleEndian};
 use cap_octet::date::NANOS_PER_SECOND;
 use cap_octet::{Fault, Format, Packet};
 
-/// The resolution in which a pcap format writes times. Its caller owes a format other than pcapng.
+/// The resolution in which a pcap format writes times. The format isn't pcapng.
 fn resolution_of(format: Format) -> Resolution
     requires { IsPcap format }
     ensures { result ≡ resolution_of format }
@@ -25,8 +25,8 @@ fn resolution_of(format: Format) -> Resolution
 }
 
 /// Checks that a record can hold a packet, or returns the first check that fails: more than 262,144
-/// captured bytes, 2^32 seconds or more. Its caller owes a format other than pcapng; both pcap
-/// formats hold the same packets, so that the body doesn't ask which.
+/// captured bytes (`TooLong`), a time of 2^32 seconds or more (`TimeOutOfRange`). The format isn't
+/// pcapng; both pcap formats hold the same packets, so that the body doesn't ask which.
 pub fn check_record_fits(_format: Format, packet: &Packet<'_>) -> Result<(), Fault>
     requires { IsPcap _format }
     ensures { result ≡ checked (first_failing (record_fit_checks (captured packet.now))) tt }
@@ -40,8 +40,8 @@ pub fn check_record_fits(_format: Format, packet: &Packet<'_>) -> Result<(), Fau
     Ok(())
 }
 
-/// The file header of a pcap format, version 2.4, with the link type of the packets and the
-/// greatest snap length. Its caller owes a format other than pcapng.
+/// The file header of a pcap format, version 2.4, with the link type of the packets and 262,144 as
+/// the snap length, which no record exceeds. The format isn't pcapng.
 pub fn file_header(format: Format, link: u16) -> [u8; 24]
     requires { IsPcap format }
     ensures { result ≡ file_header (resolution_of format) link }
@@ -55,9 +55,9 @@ pub fn file_header(format: Format, link: u16) -> [u8; 24]
     bytes
 }
 
-/// The header of a packet's record, in front of its data; times are cut to the parts of a second
-/// that the format has. Its caller owes a format other than pcapng, and knows by
-/// `check_record_fits` that the format holds the packet.
+/// The header of a packet's record, in front of its data; the time is cut to the parts of a second
+/// that the format has. The format isn't pcapng, and the caller knows by `check_record_fits` that
+/// it holds the packet.
 pub fn record_header(format: Format, packet: &Packet<'_>) -> [u8; 16]
     requires form { IsPcap format }
     requires fits { first_failing (record_fit_checks (captured packet.now)) ≡ None }

@@ -1,9 +1,10 @@
--- What a reader answers: a value where all checks pass, else the fault of the first that fails.
+-- What a reader returns: a value where all checks pass, else the fault of the first that fails.
 use Rattle.std.specs.Prelude.{◌≡◌, Bool, List, Some, None, Result, Ok, Err}
 use Rattle.cap_octet.specs.Checks.{first_failing}
 use Rattle.cap_octet.specs.declared.fault.Fault.{Fault}
 
--- these checks judge a text, and of the value that is read this holds
+-- A reader returned a value of which `Holds`, and all checks pass; or it returned the fault of the
+-- first check that fails.
 abbrev pub ChecksGive : {X : Type 0} → List (Bool × Fault) → Result X Fault → (X → Type 0) → Type 0
 ChecksGive checks (Ok value) Holds = (first_failing checks ≡ None) × Holds value
 ChecksGive checks (Err fault) Holds = first_failing checks ≡ Some fault

@@ -17,12 +17,13 @@ use Rattle.cap_pcapng.specs.declared.frames.BlockType.{BlockType}
 use Rattle.cap_pcapng.specs.declared.frames.BlockType.TheVariants as type
 use Rattle.cap_pcapng.specs.declared.frames.Frame.{Frame}
 
--- what stands between the two total lengths
+-- the body of the block that a text begins with: what stands between its two total lengths
 abbrev pub body_in : Frame → List ℕ → List ℕ
 body_in frame text = take (frame.length - 12) (drop 8 text)
 
 -- ---- the checks
 
+-- the checks of a body, in order: that it is long enough for its type, and a section's version
 abbrev pub body_checks : BlockType → Order → List ℕ → List (Bool × Fault)
 body_checks type.Section order body =
     (nat_le 16 (length body), BadBody)
@@ -69,6 +70,7 @@ pub data Parts : Type 0 where
   SimpleParts : (orig : ℕ) → (rest : List ℕ) → Parts
   SkippedParts : Parts
 
+-- what the body of a block of this type says
 abbrev pub parts_in_body : BlockType → Order → List ℕ → Parts
 parts_in_body type.Section order body = SectionParts
 parts_in_body type.Interface order body =
@@ -79,14 +81,16 @@ parts_in_body type.EnhancedPacket order body =
     (u32_in order body 12) (u32_in order body 16) order (drop 20 body)
 parts_in_body kind order body = SkippedParts
 
+-- what the block of this frame says, which a text begins with
 abbrev pub parts_in : Frame → List ℕ → Parts
 parts_in frame text = parts_in_body frame.block_type frame.order (body_in frame text)
 
--- the same as a block was read, without the places in memory where they lie
+-- what an interface description block that was read says, without places in memory
 abbrev pub parts_of_interface : InterfaceBlock → Parts
 parts_of_interface b =
     InterfaceParts b.interface.link b.interface.snap b.options.order b.options.rest.now
 
+-- what a block that was read says, without places in memory
 abbrev pub parts_of : Block → Parts
 parts_of a.Section = SectionParts
 parts_of (a.Interface b) = parts_of_interface b
@@ -94,7 +98,7 @@ parts_of (a.Enhanced b) = EnhancedParts b.interface b.ticks b.captured b.orig b.
 parts_of (a.Simple b) = SimpleParts b.orig b.rest.now
 parts_of a.Skipped = SkippedParts
 
--- an interface that was read is that which its options describe
+-- where the block is an interface description, its interface is the one that its options describe
 abbrev pub IsDescribedIfAny : Block → Type 0
 IsDescribedIfAny (a.Interface b) = IsDescribed b
 IsDescribedIfAny block = Unit {0}

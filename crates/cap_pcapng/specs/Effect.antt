@@ -16,10 +16,11 @@ use Rattle.cap_pcapng.specs.declared.effect.BlockEffect.TheVariants as effect
 use Rattle.cap_pcapng.specs.declared.effect.PacketSpans.{PacketSpans}
 use Rattle.cap_pcapng.specs.declared.effect.Span.{Span}
 
--- these bytes of a text
+-- the bytes of a text that a span has
 abbrev pub span_bytes : Span → List ℕ → List ℕ
 span_bytes span text = take span.length (drop span.start text)
 
+-- whether a block describes an interface
 abbrev pub is_interface : Parts → Bool
 is_interface (InterfaceParts link snap order options) = true
 is_interface parts = false
@@ -36,7 +37,7 @@ held_packet order interfaces spans bytes options =
     (λ (i : Described). packet_of i spans.time spans.orig bytes (comment_in order options))
     (slice_get interfaces spans.interface)
 
--- the packet of a block
+-- a block has a packet, and its spans lend it
 pub record PacketStands (order : Order) (interfaces : List Described) (parts : Parts)
     (block : List ℕ) (spans : PacketSpans) : Type 0 where
   pub packet : Captured
@@ -44,19 +45,20 @@ pub record PacketStands (order : Order) (interfaces : List Described) (parts : P
   pub is_lent : held_packet order interfaces spans (span_bytes spans.bytes block)
       (span_bytes spans.options block) ≡ Some packet
 
+-- the block has no packet, or these spans lend it
 abbrev pub PacketIfAny : Order → List Described → Parts → List ℕ → Option PacketSpans → Type 0
 PacketIfAny order interfaces parts block None = packet_by interfaces parts ≡ None
 PacketIfAny order interfaces parts block (Some spans) =
     PacketStands order interfaces parts block spans
 
--- what is held of it is in the block
+-- where the block has a packet, its spans lie in the block, and its time is below 2^63
 abbrev pub FitsIfAny : Option PacketSpans → ℕ → Type 0
 FitsIfAny None size = Unit {0}
 FitsIfAny (Some spans) size =
     (spans.size ≡ size) × (spans.bytes.start + spans.bytes.length ≤ size) × (spans.time < 2 ^ 63)
     × (spans.options.start + spans.options.length ≤ size)
 
--- and the interface of its packet is known
+-- where the block has a packet, its interface is known
 abbrev pub KnowsIfAny : List Described → Option PacketSpans → Type 0
 KnowsIfAny interfaces None = Unit {0}
 KnowsIfAny interfaces (Some spans) = is_some (slice_get interfaces spans.interface) ≡ true
@@ -72,21 +74,23 @@ pub record Enters (frame : Frame) (interfaces : List Described) (block : List �
   pub fits : FitsIfAny spans frame.length
   pub known : KnowsIfAny interfaces' spans
 
--- what a block does that passed all of its checks: its packet, and the interfaces following it
+-- where the packet of a block lies, by what the block does
 abbrev pub packet_in_effect : BlockEffect → Option PacketSpans
 packet_in_effect (effect.Packet spans) = Some spans
 packet_in_effect other = None
 
+-- the interfaces of the section after a block, by what the block does
 abbrev pub interfaces_after : BlockEffect → List Described → List Described
 interfaces_after effect.Section interfaces = []
 interfaces_after (effect.Interface i) interfaces = interfaces ++ description_of i ∷ []
 interfaces_after other interfaces = interfaces
 
+-- a block passed all of its checks, and does this
 abbrev pub HasEffect : Frame → List Described → List ℕ → BlockEffect → Type 0
 HasEffect frame interfaces block does =
     Enters frame interfaces block (packet_in_effect does) (interfaces_after does interfaces)
 
--- the first check that a block fails
+-- the first check that a block fails: of its own, or of those that need the interfaces before it
 abbrev pub IsBlockFault : Frame → List Described → List ℕ → Fault → Type 0
 IsBlockFault frame interfaces block fault =
     (first_failing (block_checks frame block) ≡ Some fault)

@@ -19,19 +19,21 @@ block_text type body =
 abbrev pub padded_text : List ℕ → List ℕ
 padded_text bytes = bytes ++ replicate (padded_length (length bytes) - length bytes) 0
 
+-- an option: its code, the length of its value, and the value with its padding
 abbrev pub option_text : (code : ℕ) → (value : List ℕ) → List ℕ
 option_text code value = little_bytes 2 code ++ little_bytes 2 (length value) ++ padded_text value
 
+-- the end of the options: code 0 and length 0
 abbrev pub end_text : List ℕ
 end_text = little_bytes 2 0 ++ little_bytes 2 0
 
--- byte-order magic, version 1.0, a section length that isn't told
+-- a section header block: byte-order magic, version 1.0, a section length that isn't told
 abbrev pub section_text : List ℕ
 section_text = block_text section_type
     (little_bytes 4 byte_order_magic ++ little_bytes 2 1 ++ little_bytes 2 0
     ++ little_bytes 8 (2 ^ 64 - 1))
 
--- a name that is empty isn't written
+-- the option of a name; one that is empty isn't written
 abbrev pub name_text : List ℕ → List ℕ
 name_text [] = []
 name_text (b ∷ bytes) = option_text name_code (b ∷ bytes)
@@ -46,10 +48,11 @@ interface_body link snap name =
     little_bytes 2 link ++ little_bytes 2 0 ++ little_bytes 4 snap ++ name_text name
     ++ resolution_text ++ end_text
 
+-- an interface description block
 abbrev pub interface_text : (link snap : ℕ) → (name : List ℕ) → List ℕ
 interface_text link snap name = block_text 1 (interface_body link snap name)
 
--- what of it is in front of the options, in a block of this total length
+-- what of an interface description block is in front of the options, of this total length
 abbrev pub interface_header : (size link snap : ℕ) → List ℕ
 interface_header size link snap =
     little_bytes 4 1 ++ little_bytes 4 size ++ little_bytes 2 link ++ little_bytes 2 0
@@ -67,10 +70,11 @@ packet_body number p =
     ++ little_bytes 4 (length p.bytes) ++ little_bytes 4 p.orig ++ padded_text p.bytes
     ++ comment_text p.comment
 
+-- an enhanced packet block of a packet whose interface has this number
 abbrev pub packet_block : (number : ℕ) → Captured → List ℕ
 packet_block number p = block_text 6 (packet_body number p)
 
--- what of it stands in front of the data, in a block of this total length
+-- what of an enhanced packet block is in front of the data, of this total length
 abbrev pub packet_header : (size number : ℕ) → Captured → List ℕ
 packet_header size number p =
     little_bytes 4 6 ++ little_bytes 4 size ++ little_bytes 4 number

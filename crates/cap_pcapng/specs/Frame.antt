@@ -11,7 +11,7 @@ use Rattle.cap_pcapng.specs.declared.frames.BlockType.{BlockType}
 use Rattle.cap_pcapng.specs.declared.frames.BlockType.TheVariants as block
 use Rattle.cap_pcapng.specs.declared.frames.Frame.{Frame}
 
--- how many bytes a block may have
+-- the most bytes that a block may have
 abbrev pub most_block : ℕ
 most_block = 1048576
 
@@ -19,10 +19,11 @@ most_block = 1048576
 abbrev pub section_type : ℕ
 section_type = 0x0a0d0d0a
 
+-- the number at place 8 of a section header, which tells its byte order
 abbrev pub byte_order_magic : ℕ
 byte_order_magic = 0x1a2b3c4d
 
--- the type of a block that is no section header
+-- the type of a block that is no section header, by the number in its first four bytes
 abbrev pub type_of_block : ℕ → BlockType
 type_of_block number =
     if number == 1 then block.Interface
@@ -31,11 +32,11 @@ type_of_block number =
     else (if number == 6 then block.EnhancedPacket
     else block.Other)))
 
--- whether a text begins with a section header
+-- whether a text begins with the type of a section header
 abbrev pub is_section : List ℕ → Bool
 is_section text = u32_in Little text 0 == section_type
 
--- the byte order in which bytes 8 to 11 are the byte-order magic
+-- the byte order in which bytes 8 to 11 are the byte-order magic; None where they are it in neither
 abbrev pub magic_order : List ℕ → Option Order
 magic_order text =
     if u32_in Little text 8 == byte_order_magic then Some Little
@@ -47,6 +48,7 @@ magic_order text =
 abbrev pub order_in : Option Order → List ℕ → Order
 order_in section text = unwrap_or (if is_section text then magic_order text else section) Little
 
+-- the type of the block that a text begins with
 abbrev pub type_in : Option Order → List ℕ → BlockType
 type_in section text =
     if is_section text then block.Section else type_of_block (u32_in (order_in section text) text 0)
@@ -66,6 +68,7 @@ frame_checks section text =
     ∷ (nat_le (length_in section text) most_block, TooLong)
     ∷ []
 
+-- the first of these checks that fails
 abbrev pub frame_fault : Option Order → List ℕ → Option Fault
 frame_fault section text = first_failing (frame_checks section text)
 

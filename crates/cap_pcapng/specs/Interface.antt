@@ -19,6 +19,7 @@ pub record Described : Type 0 where
   pub units : ℕ
   pub offset : ℤ
 
+-- the values of an interface
 abbrev pub description_of : Interface → Described
 description_of i =
     record {
@@ -33,7 +34,7 @@ description_of i =
 abbrev pub most_interfaces : ℕ
 most_interfaces = 256
 
--- what holds of the interfaces of each section
+-- the interfaces of a section: at most 256, with names of at most 255 bytes
 pub record FitSection (interfaces : List Described) : Type 0 where
   pub count : length interfaces ≤ most_interfaces
   pub names : All (λ i. length i.name ≤ 255) interfaces
@@ -48,6 +49,7 @@ described_by link snap order options = record {
   offset = option_map_or (offset_in_value order) (first_value offset_code options) (pos 0);
 }
 
+-- the same of options as they are in a block's bytes; those whose values don't fit are left out
 abbrev pub described_in : (link snap : ℕ) → Order → List ℕ → Described
 described_in link snap order text =
     described_by link snap order (fitting_options (options_in order text))

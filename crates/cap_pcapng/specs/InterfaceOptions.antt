@@ -19,17 +19,21 @@ resolution_code = 9
 abbrev pub offset_code : ℕ
 offset_code = 14
 
+-- the checks of the value of a name: at most 255 bytes
 abbrev pub name_checks : List ℕ → List (Bool × Fault)
 name_checks value = (nat_le (length value) 255, BadOption) ∷ []
 
+-- the checks of the value of a resolution: one byte, whose power is in range
 abbrev pub resolution_checks : List ℕ → List (Bool × Fault)
 resolution_checks value =
     (length value == 1, BadOption) ∷ (is_resolution (slice_index value 0), BadTimeResolution) ∷ []
 
+-- the checks of the value of an offset: eight bytes
 abbrev pub offset_checks : List ℕ → List (Bool × Fault)
 offset_checks value = (length value == 8, BadOption) ∷ []
 
--- the checks of the first option of its code
+-- the checks of an option that is the first of its code: those of a name, a resolution or an
+-- offset; other codes aren't looked at
 abbrev pub first_checks : CodedValue → List (Bool × Fault)
 first_checks option =
     if option.code == name_code then name_checks option.value
@@ -62,9 +66,10 @@ fitting_options [] = []
 fitting_options (Err fault ∷ items) = fitting_options items
 fitting_options (Ok option ∷ items) = option ∷ fitting_options items
 
+-- how many ticks make a second, by the resolution that a value is
 abbrev pub units_in_value : List ℕ → ℕ
 units_in_value value = units_per_second (slice_index value 0)
 
--- seconds, in two's complement
+-- the offset that a value is: seconds, in two's complement
 abbrev pub offset_in_value : Order → List ℕ → ℤ
 offset_in_value order value = cast_signed w64 (number_in order 8 value 0)

@@ -25,11 +25,11 @@ abbrev pub written_interface : (link snap : ℕ) → (name : List ℕ) → Descr
 written_interface link snap name =
     record { link = link; snap = snap; name = name; units = NANOS_PER_SECOND; offset = pos 0 }
 
--- a section header begins a section
+-- a section header that is written begins a section without interfaces
 abbrev pub SectionBack : Type 0
 SectionBack = (before : Option Section) → ReadsAs before section_text (written_section []) []
 
--- an interface gets the next number
+-- an interface that is written gets the next number of its section, where that isn't full
 abbrev pub InterfaceBack : Type 0
 InterfaceBack =
     (interfaces : List Described) (link snap : ℕ) (name : List ℕ)
@@ -38,7 +38,7 @@ InterfaceBack =
     → ReadsAs (Some (written_section interfaces)) (interface_text link snap name)
     (written_section (interfaces ++ written_interface link snap name ∷ [])) []
 
--- a packet of an interface that was written
+-- a packet that is written, of an interface that was written, is the packet of its block
 abbrev pub PacketBack : Type 0
 PacketBack = (interfaces : List Described) (number : ℕ) (p : Captured)
     → slice_get interfaces number ≡ Some (written_interface p.link p.snap p.name)

@@ -50,6 +50,7 @@ options_in order text = options_within (length text) order text
 abbrev pub options_left : Options → List (Result CodedValue Fault)
 options_left options = options_in options.order options.rest.now
 
+-- the code and the value of an option that was read
 abbrev pub coded_value : BlockOption → CodedValue
 coded_value option = record { code = option.code; value = option.value.now }
 

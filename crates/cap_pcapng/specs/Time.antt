@@ -9,19 +9,22 @@ abbrev pub nanoseconds : ℕ → ℕ → ℤ → ℤ
 nanoseconds ticks units offset =
     pos (ticks * NANOS_PER_SECOND / units) +ℤ (offset *ℤ pos NANOS_PER_SECOND)
 
+-- nanoseconds that are a time: from 0 to 2^63 - 1; else None
 abbrev pub time_by : ℤ → Option ℕ
 time_by (pos n) = if nat_lt n TIME_END then Some n else None
 time_by (negsuc n) = None
 
--- the same where it is a time: from 0 to 2^63 - 1
+-- the time of these ticks, of which these units make a second, after an offset in seconds; None
+-- where it isn't from 0 to 2^63 - 1
 abbrev pub representable_time : ℕ → ℕ → ℤ → Option ℕ
 representable_time ticks units offset = time_by (nanoseconds ticks units offset)
 
--- the byte of a resolution: a negative power of ten, or with its top bit a negative power of two
+-- whether a byte is a resolution: a negative power of ten, at most 12, or with its top bit one of
+-- two, at most 32
 abbrev pub is_resolution : ℕ → Bool
 is_resolution byte = if nat_lt byte 128 then nat_le byte 12 else nat_le (byte - 128) 32
 
--- how many units of this resolution make a second
+-- how many ticks of this resolution make a second
 abbrev pub units_per_second : ℕ → ℕ
 units_per_second byte = if nat_lt byte 128 then 10 ^ byte else 2 ^ (byte - 128)
 

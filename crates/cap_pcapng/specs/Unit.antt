@@ -21,10 +21,11 @@ pub record Section : Type 0 where
   pub order : Order
   pub interfaces : List Described
 
--- the same before a block, empty where no section stands before it
+-- the byte order of the section before a block; None where there is no section
 abbrev pub order_before : Option Section → Option Order
 order_before before = option_map (λ (s : Section). s.order) before
 
+-- the interfaces of the section before a block; none where there is no section
 abbrev pub interfaces_before : Option Section → List Described
 interfaces_before before = option_map_or (λ (s : Section). s.interfaces) before []
 
@@ -74,7 +75,7 @@ unit_checks before text =
     ∷ block_checks (frame_after before text) text
     ++ checks_among (interfaces_before before) (parts_after before text)
 
--- why a text doesn't begin with a block
+-- why a text doesn't begin with a block: the first check that fails; None where it does
 abbrev pub unit_fault : Option Section → List ℕ → Option Fault
 unit_fault before text = first_failing (unit_checks before text)
 
@@ -85,7 +86,8 @@ pub record IsBlock (before : Option Section) (bytes : List ℕ) : Type 0 where
 
 -- ---- what it declares and holds
 
--- A section header begins a section without interfaces, and an interface gets the next number.
+-- The section after a block: a section header begins one without interfaces, and an interface gets
+-- the next number.
 abbrev pub section_by : Option Section → Order → Parts → Section
 section_by before order SectionParts = record { order = order; interfaces = [] }
 section_by before order (InterfaceParts link snap own options) =
@@ -96,6 +98,7 @@ section_by before order (InterfaceParts link snap own options) =
     }
 section_by before order parts = record { order = order; interfaces = interfaces_before before }
 
+-- what is declared after the block that these bytes are
 abbrev pub section_after : Option Section → List ℕ → Section
 section_after before bytes =
     section_by before (frame_after before bytes).order (parts_after before bytes)
@@ -112,8 +115,8 @@ packet_of i time orig bytes comment = record {
   comment = comment;
 }
 
--- The comment of an enhanced packet is among the options after its data. A simple packet is one of
--- interface 0, at time 0, without a comment.
+-- The packet of a block, if it has one. The comment of an enhanced packet is among the options
+-- after its data. A simple packet is one of interface 0, at time 0, without a comment.
 abbrev pub packet_by : List Described → Parts → Option Captured
 packet_by interfaces (EnhancedParts number ticks captured orig order rest) =
     option_map
@@ -126,6 +129,7 @@ packet_by interfaces (SimpleParts orig rest) =
     (slice_get interfaces 0)
 packet_by interfaces parts = None
 
+-- the packet of the block that these bytes are, or none
 abbrev pub packets_in : Option Section → List ℕ → List Captured
 packets_in before bytes =
     option_to_list (packet_by (interfaces_before before) (parts_after before bytes))

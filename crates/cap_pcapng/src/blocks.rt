@@ -67,8 +67,8 @@ pub struct SimpleBlock<'a> {
 }
 
 /// Checks the body of a section header, of version 1.0 or 1.2, or returns the first check that it
-/// fails: it is shorter than 16 bytes, or of another version. Its byte-order magic was checked with
-/// the frame, and its section length isn't looked at.
+/// fails: it is shorter than 16 bytes (`BadBody`), or of another version (`BadVersion`). Its
+/// byte-order magic was checked with the frame, and its section length isn't looked at.
 pub(crate) fn check_section_body(order: Order, body: &[u8]) -> Result<(), Fault>
     ensures { result ≡ checked (first_failing (body_checks kind.Section order body.now)) tt }
 {
@@ -83,8 +83,8 @@ pub(crate) fn check_section_body(order: Order, body: &[u8]) -> Result<(), Fault>
     Ok(())
 }
 
-/// The captured bytes at the start of what is left of a body, without their padding; or `BadBody`
-/// where it is shorter than they are with it.
+/// The captured bytes, which are the first ones of the rest of a body, without their padding; or
+/// `BadBody` where the rest is shorter than these bytes with their padding.
 fn data_in(rest: &[u8], captured: u32) -> Result<&[u8], Fault>
     ensures { ChecksGive (data_checks captured rest.now) result
         (λ bytes. bytes.now ≡ take captured rest.now) }
@@ -97,7 +97,7 @@ fn data_in(rest: &[u8], captured: u32) -> Result<&[u8], Fault>
 
 impl<'a> EnhancedBlock<'a> {
     /// Reads the body of an enhanced packet block, or returns `BadBody` where it is shorter than 20
-    /// bytes.
+    /// bytes. Whether its data lie in the body is left to `data`.
     pub(crate) fn of_body(order: Order, body: &'a [u8]) -> Result<Self, Fault>
         ensures { ChecksGive (body_checks kind.EnhancedPacket order body.now) result
             (λ b. parts_of (a.Enhanced b) ≡ parts_in_body kind.EnhancedPacket order body.now) }
@@ -138,7 +138,7 @@ impl<'a> EnhancedBlock<'a> {
 
 impl<'a> SimpleBlock<'a> {
     /// Reads the body of a simple packet block, or returns `BadBody` where it is shorter than 4
-    /// bytes.
+    /// bytes. Whether its data lie in the body is left to `data`.
     pub(crate) fn of_body(order: Order, body: &'a [u8]) -> Result<Self, Fault>
         ensures { ChecksGive (body_checks kind.SimplePacket order body.now) result
             (λ b. parts_of (a.Simple b) ≡ parts_in_body kind.SimplePacket order body.now) }

@@ -47,14 +47,15 @@ impl Clock {
             Fault.TimeOutOfRange }
         ensures in_range { IfOk result (λ time. time < 2 ^ 63) }
     {
+        // The products stay below 2^94, so that nothing overflows.
         let whole = u128::from(ticks) * u128::from(NANOS_PER_SECOND) / u128::from(self.units);
         let time = whole as i128 + i128::from(self.offset) * i128::from(NANOS_PER_SECOND);
-        checked_time(time)
+        time_in_range(time)
     }
 }
 
-/// A time in nanoseconds, or `TimeOutOfRange` where it isn't from 0 to 2^63 - 1.
-fn checked_time(time: i128) -> Result<u64, Fault>
+/// This time in nanoseconds, or `TimeOutOfRange` where it isn't from 0 to 2^63 - 1.
+fn time_in_range(time: i128) -> Result<u64, Fault>
     ensures answer { result ≡ ok_or (time_by time) Fault.TimeOutOfRange }
     ensures in_range { IfOk result (λ time. time < 2 ^ 63) }
 {

@@ -22,7 +22,7 @@ const ENHANCED_DATA: u32 = 28;
 /// Where the data of a simple packet begin in its block.
 const SIMPLE_DATA: u32 = 12;
 
-/// Bytes of a unit.
+/// Where some bytes of a unit lie. A unit is a record or a block.
 #[derive(Clone, Copy)]
 pub struct Span {
     /// Where they begin in the unit.
@@ -66,7 +66,8 @@ pub struct PacketSpans {
 }
 
 impl PacketSpans {
-    /// The spans of no packet: all zeros, to be written over.
+    /// The spans of no packet, all zeros: what a reader has before its first packet, whose spans
+    /// replace them. No clause: nothing is read by them.
     pub fn of_no_packet() -> Self {
         PacketSpans {
             size: 0,
@@ -88,11 +89,11 @@ pub trait Interfaces {
     /// The interfaces, from number 0 on.
     ghost list: { Self → List Described };
 
-    /// How many there are.
+    /// How many interfaces there are.
     fn count(&self) -> usize
         ensures { result ≡ length (list self.now) };
 
-    /// The interface with this number, if there is one.
+    /// The interface with this number, counted from 0; `None` where there is none.
     fn get(&self, number: u32) -> Option<Interface<'_>>
         ensures { option_map description_of result ≡ slice_get (list self.now) number };
 }
@@ -110,8 +111,9 @@ pub enum BlockEffect<'a> {
     Nothing,
 }
 
-/// The fault of a block that its own checks refuse, after these interfaces: where there are 256,
-/// that a further one is too many comes before a fault of its options.
+/// The fault to report of a block whose own checks gave this one, after these interfaces. It is the
+/// same, but where there are 256 interfaces already, `TooManyInterfaces` comes before a fault of a
+/// further one's options.
 fn fault_in_full_table<T: Interfaces>(table: &T, fault: Fault) -> Fault
     ensures { result ≡ fault_among (T.list table.now) fault }
 {
@@ -124,8 +126,9 @@ fn fault_in_full_table<T: Interfaces>(table: &T, fault: Fault) -> Fault
 }
 
 /// Where the packet of an enhanced packet block of `size` bytes lies, or the first check that it
-/// fails: its interface isn't known, its data end outside the block, its time is out of range.
-fn enhanced_packet<T: Interfaces>(
+/// fails: its interface isn't known (`UnknownInterface`), its data end outside the block
+/// (`BadBody`), its time is out of range (`TimeOutOfRange`).
+fn enhanced_packet_spans<T: Interfaces>(
     table: &T,
     block: &EnhancedBlock<'_>,
     size: u32,
@@ -158,8 +161,9 @@ fn enhanced_packet<T: Interfaces>(
 }
 
 /// Where the packet of a simple packet block of `size` bytes lies, one of interface 0 at time 0; or
-/// the first check that it fails: there is no interface, its data end outside the block.
-fn simple_packet<T: Interfaces>(
+/// the first check that it fails: there is no interface (`UnknownInterface`), its data end outside
+/// the block (`BadBody`).
+fn simple_packet_spans<T: Interfaces>(
     table: &T,
     block: &SimpleBlock<'_>,
     size: u32,
@@ -183,8 +187,8 @@ fn simple_packet<T: Interfaces>(
     })
 }
 
-/// Makes the checks of a whole block of this frame, and returns what it does among the interfaces
-/// of its section so far; or the first check that it fails.
+/// Makes all checks of a whole block of this frame, and returns what it does among the interfaces
+/// of its section so far; or the first check that it fails. The table is left to the caller.
 pub fn block_effect<'a, T: Interfaces>(
     table: &T,
     frame: &Frame,
@@ -203,11 +207,11 @@ pub fn block_effect<'a, T: Interfaces>(
             }
             Ok(BlockEffect::Interface(found.interface))
         }
-        Ok(Block::Enhanced(found)) => match enhanced_packet(table, &found, frame.length) {
+        Ok(Block::Enhanced(found)) => match enhanced_packet_spans(table, &found, frame.length) {
             Ok(spans) => Ok(BlockEffect::Packet(spans)),
             Err(fault) => Err(fault),
         },
-        Ok(Block::Simple(found)) => match simple_packet(table, &found, frame.length) {
+        Ok(Block::Simple(found)) => match simple_packet_spans(table, &found, frame.length) {
             Ok(spans) => Ok(BlockEffect::Packet(spans)),
             Err(fault) => Err(fault),
         },

@@ -67,8 +67,8 @@ impl BlockType {
     }
 }
 
-/// The byte order of a section header: that in which its bytes 8 to 11 are the byte-order magic;
-/// `None` where they are in neither.
+/// The byte order of a section header: the one in which its bytes 8 to 11 are the byte-order magic;
+/// `None` where they are it in neither.
 pub(crate) fn magic_order(bytes: &[u8; 12]) -> Option<Order>
     ensures { result ≡ magic_order bytes.now }
 {

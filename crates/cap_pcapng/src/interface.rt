@@ -43,11 +43,14 @@ pub struct Interface<'a> {
     ghost short_name: { length name.now ≤ 255 },
 }
 
-/// What was found in the options so far: the first of each code.
+/// What the options so far say of an interface: the value of the first of each code; `None` where
+/// none of the code came.
 #[derive(Clone, Copy)]
 struct FoundOptions<'a> {
     name: Option<&'a [u8]>,
+    /// How many ticks make a second.
     units: Option<u64>,
+    /// What is added to each time, in seconds.
     offset: Option<i64>,
 }
 
@@ -61,8 +64,8 @@ fn name_in_value(value: &[u8]) -> Result<&[u8], Fault>
     Ok(value)
 }
 
-/// The ticks in a second by the resolution that an option's value is, or `BadOption` where it isn't
-/// one byte, `BadTimeResolution` where that is out of range.
+/// How many ticks make a second, by the resolution that an option's value is; or `BadOption` where
+/// it isn't one byte, `BadTimeResolution` where that is out of range (`units_per_second`).
 fn units_in_value(value: &[u8]) -> Result<u64, Fault>
     ensures { ChecksGive (resolution_checks value.now) result
         (λ units. units ≡ units_in_value value.now) }
@@ -73,7 +76,8 @@ fn units_in_value(value: &[u8]) -> Result<u64, Fault>
     units_per_second(value[0])
 }
 
-/// The offset that an option's value is, in seconds, or `BadOption` where it isn't eight bytes.
+/// The offset that an option's value is, in seconds, or `BadOption` where it isn't eight bytes (a
+/// signed number in the block's byte order).
 #[tactic(auto, unfolding(cap_octet::specs::Number::number_in))]
 fn offset_in_value(order: Order, value: &[u8]) -> Result<i64, Fault>
     ensures { ChecksGive (offset_checks value.now) result
@@ -93,9 +97,10 @@ impl<'a> FoundOptions<'a> {
     ghost use Rattle.cap_pcapng.specs.InterfaceOptions.{first_checks, fitting_options, list_checks};
     ghost use Rattle.cap_pcapng.specs.OptionList.{coded_value, options_left};
 
-    /// What is found with one option more, or the first check that this fails. Only the first
-    /// option of a code is looked at, even where a later one would fail a check.
-    fn with_option(mut self, order: Order, option: BlockOption<'a>) -> Result<Self, Fault>
+    /// Adds what one option more says, or returns the first check that it fails. Only the first
+    /// option of a code is looked at, even where a later one would fail a check; options of other
+    /// codes say nothing.
+    fn add_option(mut self, order: Order, option: BlockOption<'a>) -> Result<Self, Fault>
         ensures { ChecksGive (if is_found self.entry option.entry.code then []
             else first_checks (coded_value option.entry)) result
             (Adds order self.entry (coded_value option.entry)) }
@@ -113,7 +118,7 @@ impl<'a> FoundOptions<'a> {
         Ok(self)
     }
 
-    /// What is found in all of these options, or the first check that they fail.
+    /// What all of these options say, or the first check that they fail.
     fn of_options(options: Options<'a>) -> Result<Self, Fault>
         ensures { ChecksGive (list_checks [] (options_left options.entry)) result
             (IsFound options.entry.order (fitting_options (options_left options.entry))) }
@@ -124,7 +129,7 @@ impl<'a> FoundOptions<'a> {
             offset: None,
         };
         for option in options {
-            found = found.with_option(options.order, option?)?;
+            found = found.add_option(options.order, option?)?;
         }
         Ok(found)
     }
@@ -137,13 +142,15 @@ impl<'a> InterfaceBlock<'a> {
     ghost use Rattle.cap_pcapng.specs.declared.frames.BlockType.TheVariants as kind;
 
     /// Reads the body of an interface description block, or returns the first check that it fails:
-    /// `BadBody` where it is shorter than 8 bytes, or that of one of its options.
+    /// `BadBody` where it is shorter than 8 bytes, or that of one of its options. Where no option
+    /// says them, there is no name, a tick is a microsecond and the offset 0.
     pub(crate) fn of_body(order: Order, body: &'a [u8]) -> Result<Self, Fault>
         ensures found { ChecksGive (body_checks kind.Interface order body.now
             ++ option_checks (parts_in_body kind.Interface order body.now)) result
             (λ b. parts_of_interface b ≡ parts_in_body kind.Interface order body.now) }
         ensures described { IfOk result IsDescribed }
     {
+        // 0 link type, 2 reserved, 4 snap length, 8 options
         if body.len() < 8 {
             return Err(Fault::BadBody);
         }

@@ -1,18 +1,19 @@
 //! Laws of the definitions: a block that was written reads back as what it was written of.
 ghost use Rattle.cap_pcapng.specs.Laws.{InterfaceBack, PacketBack, SectionBack};
 
-/// A section header that was written begins a little-endian section without interfaces.
+/// A section header that was written reads back as one that begins a little-endian section without
+/// interfaces.
 pub fn section_back()
     ensures { SectionBack }
 {}
 
-/// An interface that was written gets the next number of its section, and its ticks are
-/// nanoseconds.
+/// An interface that was written reads back as it was: it gets the next number of its section, and
+/// its ticks are nanoseconds.
 pub fn interface_back()
     ensures { InterfaceBack }
 {}
 
-/// A packet that was written is the one packet of its block.
+/// A packet that was written reads back as it was: it is the one packet of its block.
 pub fn packet_back()
     ensures { PacketBack }
 {}

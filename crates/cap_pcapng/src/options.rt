@@ -33,7 +33,7 @@ pub struct BlockOption<'a> {
     ghost short: { length value.now ≤ 65535 },
 }
 
-/// A length in bytes, with the padding to a multiple of four.
+/// A length in bytes with its padding: rounded up to a multiple of four.
 pub(crate) fn padded_length(length: u64) -> u64
     requires { length + 3 < 2 ^ 64 }
     ensures { result ≡ padded_length length }
@@ -44,7 +44,7 @@ pub(crate) fn padded_length(length: u64) -> u64
 impl<'a> Options<'a> {
     ghost use Rattle.cap_pcapng.specs.Comment.{comment_in};
 
-    /// The options in these bytes, of which none is read yet.
+    /// The options that begin with these bytes, none of which is read yet.
     pub(crate) fn new(order: Order, rest: &'a [u8]) -> Self
         ensures order { result.order ≡ order }
         ensures rest { result.rest.now ≡ rest.now }
@@ -88,11 +88,13 @@ impl<'a> Iterator for Options<'a> {
         if code == END_CODE {
             return None;
         }
+        // 4 bytes of header, and the value without its padding.
         let size = 4 + usize::from(u16_at(order, rest, 2));
         if rest.len() < size {
             self.rest = &[];
             return Some(Err(Fault::BadOption));
         }
+        // Where the next option begins: after the padding, which the last one may lack.
         let following = rest.len().min(padded_length(size as u64) as usize);
         self.rest = &rest[following..];
         Some(Ok(BlockOption {

@@ -17,10 +17,13 @@ pub fn begins_section(bytes: &[u8; 4]) -> bool
     u32_at(Order::Little, bytes, 0) == SECTION_TYPE
 }
 
-/// Reads the first 12 bytes of a block in a section of this byte order, `None` where none began; or
-/// returns the first check that they fail: no section before a block of another type, no byte-order
-/// magic in a section header, a total length below 12 or no multiple of 4, a total length above
-/// 1,048,576.
+/// Reads the first 12 bytes of a block in a section of this byte order, `None` where no section
+/// began; or returns the first check that they fail:
+///
+/// - `NotACaptureFile`: no section began, and the block is no section header
+/// - `BadByteOrderMagic`: a section header has none
+/// - `BadBlockLength`: the total length is below 12 or no multiple of 4
+/// - `TooLong`: the total length is above 1,048,576
 pub fn read_frame(section: Option<Order>, bytes: &[u8; 12]) -> Result<Frame, Fault>
     ensures answer { result ≡ checked (frame_fault section bytes.now) (frame_in section bytes.now) }
     ensures shortest { IfOk result (λ frame. 12 ≤ frame.length) }
@@ -53,7 +56,8 @@ pub fn read_frame(section: Option<Order>, bytes: &[u8; 12]) -> Result<Frame, Fau
     })
 }
 
-/// Reads the body of a block, between its two total lengths, or returns the first check that fails.
+/// Reads the body of a block, between its two total lengths, or returns the first check that fails:
+/// those that `read_block` lists from `ObsoletePacketBlock` on.
 fn read_body<'a>(frame: &Frame, body: &'a [u8]) -> Result<Block<'a>, Fault>
     ensures parts { ChecksGive (body_checks frame.now.block_type frame.now.order body.now
         ++ option_checks (parts_in_body frame.now.block_type frame.now.order body.now)) result
@@ -77,9 +81,10 @@ fn read_body<'a>(frame: &Frame, body: &'a [u8]) -> Result<Block<'a>, Fault>
 /// - `ObsoletePacketBlock`
 /// - `BadBody`: too short for its type
 /// - `BadVersion`: a section of another version than 1.0 and 1.2
-/// - an option of an interface: as `Interface` lists them
+/// - `BadOption`, `BadTimeResolution`: an option of an interface doesn't fit in the body, or has a
+///   wrong value
 ///
-/// The caller makes the checks that need the interfaces of its section.
+/// The caller makes the checks that need the interfaces of its section (`block_effect`).
 pub fn read_block<'a>(frame: &Frame, bytes: &'a [u8]) -> Result<Block<'a>, Fault>
     ensures parts { IfOk result (λ block. parts_of block ≡ parts_in frame.now bytes.now) }
     ensures described { IfOk result IsDescribedIfAny }

@@ -37,7 +37,7 @@ impl Model for Entry {
 impl Entry {
     ghost use Rattle.cap_pcapng.specs.Interface.{description_of};
 
-    /// An interface with a copy of its name.
+    /// The entry of an interface, with a copy of its name.
     fn new(interface: &Interface<'_>) -> Self
         ensures { result ≡ description_of interface.now }
     {
@@ -45,11 +45,12 @@ impl Entry {
             link: interface.link,
             snap: interface.snap,
             clock: interface.clock,
+            // An interface's name has at most 255 bytes, which a `Name` has room for.
             name: Name::try_from(interface.name).unwrap(),
         }
     }
 
-    /// The interface, with its name lent.
+    /// The interface of the entry, with its name lent.
     fn interface(&self) -> Interface<'_>
         ensures { description_of result ≡ self.now }
     {
@@ -127,7 +128,8 @@ impl<A: Allocator> Table<A> {
             .map_err(|_| Fault::NoMemory)
     }
 
-    /// The interface with this number, if there is one.
+    /// The interface with this number, counted from 0, with its name lent; `None` where there is
+    /// none.
     pub fn get(&self, number: u32) -> Option<Interface<'_>>
         ensures { option_map description_of result ≡ slice_get self.now number }
     {
@@ -138,10 +140,12 @@ impl<A: Allocator> Table<A> {
 impl<A: Allocator> Interfaces for Table<A> {
     ghost list = { λ table. table };
 
+    /// How many interfaces the table has.
     fn count(&self) -> usize {
         self.entries.len()
     }
 
+    /// The interface with this number; `None` where there is none.
     fn get(&self, number: u32) -> Option<Interface<'_>> {
         Table::get(self, number)
     }

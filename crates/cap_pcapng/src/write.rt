@@ -5,8 +5,9 @@
 //! interface  16 header | [name: 4 header, text, padding] | 8 resolution | 4 end     | 4 length
 //! ```
 //!
-//! What stands between two texts that are lent is one part, which begins with three bytes of
-//! padding; of these the first ones are left out where the text before needs fewer.
+//! A block is written in parts: its header, the texts that are lent (data, comment, name), and what
+//! stands between two texts or after the last one. That begins with zeros for the padding of the
+//! text before it; the first of these zeros are left out where the text needs fewer.
 ghost use Rattle.std.specs.Prelude.{◌≡◌, ◌+◌, ◌<◌, ◌^◌, ◌++◌, length, replicate, None};
 ghost use Rattle.byteorder.specs.Endian.{little_bytes};
 ghost use Rattle.cap_octet.specs.Checks.{checked, first_failing};
@@ -29,8 +30,8 @@ use cap_octet::{Fault, Output, Packet, Stopped, write_all_parts};
 /// The resolution of an interface whose ticks are nanoseconds: a negative power of ten.
 const NANOSECONDS: u8 = 9;
 
-/// How many bytes a comment takes in its block: its option with 4 bytes of header, and the 4 bytes
-/// that end the options; 0 without a comment.
+/// How many bytes a comment takes in its block: its option, with 4 bytes of header and padding, and
+/// the 4 bytes that end the options; 0 without a comment.
 fn comment_size(comment: &[u8]) -> u64
     ensures { result ≡ length (comment_text comment.now) }
 {
@@ -52,8 +53,8 @@ pub fn check_block_fits(packet: &Packet<'_>) -> Result<(), Fault>
     Ok(())
 }
 
-/// A section header block of version 1.0, whose section length isn't told: -1, all ones in bytes 16
-/// to 23.
+/// A section header block of version 1.0, 28 bytes, whose section length isn't told: -1, all ones
+/// in bytes 16 to 23.
 pub fn section_bytes() -> [u8; 28]
     ensures { result ≡ section_text }
 {
@@ -75,8 +76,8 @@ pub fn padding_after(length: usize) -> usize
     (4 - length % 4) % 4
 }
 
-/// The header of an enhanced packet block of `size` bytes: type, total length, interface, time in
-/// two halves of 32 bits, captured length and original length.
+/// The header of an enhanced packet block of `size` bytes: type, total length, the interface's
+/// number, the time in nanoseconds in two halves of 32 bits, captured length and original length.
 pub fn packet_header(size: u32, number: u32, packet: &Packet<'_>) -> [u8; 28]
     requires { length packet.now.bytes.now < 2 ^ 32 }
     ensures { result ≡ packet_header size number (captured packet.now) }
@@ -85,6 +86,7 @@ pub fn packet_header(size: u32, number: u32, packet: &Packet<'_>) -> [u8; 28]
     LittleEndian::write_u32(&mut bytes, ENHANCED_PACKET_TYPE);
     LittleEndian::write_u32(&mut bytes[4..], size);
     LittleEndian::write_u32(&mut bytes[8..], number);
+    // 4,294,967,296 is 2^32: the high half comes first.
     LittleEndian::write_u32(&mut bytes[12..], (packet.time / 4_294_967_296) as u32);
     LittleEndian::write_u32(&mut bytes[16..], (packet.time % 4_294_967_296) as u32);
     LittleEndian::write_u32(&mut bytes[20..], packet.bytes.len() as u32);
@@ -92,7 +94,8 @@ pub fn packet_header(size: u32, number: u32, packet: &Packet<'_>) -> [u8; 28]
     bytes
 }
 
-/// An option's code and the length of its value, after three bytes of padding of what is before it.
+/// An option's code and the length of its value, after three zeros, of which what is before the
+/// option takes as many for its padding as it needs.
 pub fn option_header(code: u16, value: &[u8]) -> [u8; 7]
     requires { length value.now < 2 ^ 16 }
     ensures { result ≡ replicate 3 0 ++ (little_bytes 2 code ++ little_bytes 2 (length value.now)) }
@@ -103,8 +106,8 @@ pub fn option_header(code: u16, value: &[u8]) -> [u8; 7]
     bytes
 }
 
-/// The end of an enhanced packet block of `size` bytes: its total length, after seven zeros, three
-/// of padding and four that end the options. A block without options leaves those four out.
+/// The end of an enhanced packet block of `size` bytes: its total length, after seven zeros, up to
+/// three of padding and four that end the options. A block without options leaves those four out.
 pub fn packet_end(size: u32) -> [u8; 11]
     ensures { result ≡ replicate 7 0 ++ little_bytes 4 size }
 {
@@ -127,16 +130,20 @@ pub fn write_packet<O: Output>(
 {
     let padding = padding_after(packet.bytes.len());
     if packet.comment.is_empty() {
-        // 28 of the header, 4 of the length. Of the end's seven zeros the last ones pad the data.
+        // 28 header | data | padding, 4 total length
+        //                  |-- end[7 - padding..]
+        // Of the end's seven zeros the last ones pad the data.
         let size = (32 + packet.bytes.len() + padding) as u32;
         let head = packet_header(size, number, packet);
         let end = packet_end(size);
         return write_all_parts(output, &[&head, packet.bytes, &end[7 - padding..]]);
     }
+    // 28 header | data | padding, 4 option header | comment | padding, 4 zeros, 4 total length
+    //                  |-- option[3 - padding..]            |-- end[7 - zeros..]
     let comment = packet.comment;
     let option = option_header(COMMENT_CODE, comment);
     let option = &option[3 - padding..];
-    // The comment's padding, and the four that end the options.
+    // The comment's padding, and the four zeros that end the options.
     let zeros = padding_after(comment.len()) + 4;
     let size = (32 + packet.bytes.len() + option.len() + comment.len() + zeros) as u32;
     let head = packet_header(size, number, packet);
@@ -158,8 +165,8 @@ pub fn interface_header(size: u32, packet: &Packet<'_>) -> [u8; 16]
     bytes
 }
 
-/// What is after an interface's name in a block of `size` bytes: three bytes of padding, the
-/// resolution of nanoseconds, the end of the options, the total length.
+/// What is after an interface's name in a block of `size` bytes: three zeros, from which the name
+/// takes its padding, the resolution of nanoseconds, the end of the options, the total length.
 pub fn interface_end(size: u32) -> [u8; 19]
     ensures { result ≡ replicate 3 0 ++ (resolution_text ++ end_text ++ little_bytes 4 size) }
 {
@@ -179,10 +186,12 @@ pub fn write_interface<O: Output>(packet: &Packet<'_>, output: &mut O) -> Result
     ensures { WritesExactly O.Output output.old
         (interface_text packet.now.link packet.now.snap packet.now.name.now) result output.new }
 {
+    // 16 header | 4 option header | name | padding, 8 resolution, 4 zeros, 4 total length
+    //           |-- option[start..]      |-- end[3 - padding..]
     let name = packet.name;
     let padding = padding_after(name.len());
     let option = option_header(NAME_CODE, name);
-    // The header has no data to pad; and where there is no name, its option's header goes too.
+    // Without the three zeros, as the header needs no padding; of no name without all seven bytes.
     let start = if name.is_empty() { 7 } else { 3 };
     let option = &option[start..];
     // 16 of the header, 16 of the end without its padding.

@@ -37,14 +37,14 @@ pub record AddsInterface (frame : Frame) (interfaces : List Described)
   pub among : first_failing (checks_among interfaces (parts_in frame block)) ≡ None
   pub describes : is_interface (parts_in frame block) ≡ true
 
--- the first check that a block fails, or out of memory for an interface
+-- the first check that a block fails, or the lack of memory for an interface
 abbrev pub IsEntryFault : Frame → List Described → List ℕ → Fault → Type 0
 IsEntryFault frame interfaces block fault =
     IsBlockFault frame interfaces block fault
     ⊎ ((fault ≡ NoMemory) × AddsInterface frame interfaces block)
 
--- What a block's refusal by itself tells after these interfaces: that there are as many as may be
--- comes before what its options tell.
+-- The fault to report of a block whose own checks gave this one, after these interfaces: where
+-- there are as many as may be, that comes before a fault of options.
 abbrev pub fault_among : List Described → Fault → Fault
 fault_among interfaces BadOption =
     if nat_lt (length interfaces) most_interfaces then BadOption else TooManyInterfaces

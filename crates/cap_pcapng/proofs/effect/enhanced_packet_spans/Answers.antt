@@ -1,7 +1,7 @@
 use Rattle.std.proofs.Common.{◌∙◌, ℕ, length, refl, sym, ap, arith, length-drop}
 use Rattle.cap_pcapng.specs.Interface.{description_of}
 use Rattle.cap_pcapng.proofs.Entered.{enhanced_found, known_interface}
-use Rattle.cap_pcapng.proofs.effect.enhanced_packet.Goals as goal
+use Rattle.cap_pcapng.proofs.effect.enhanced_packet_spans.Goals as goal
 
 pub returns : goal.returns
 returns g c =

@@ -1,6 +1,6 @@
 use Rattle.cap_pcapng.specs.Interface.{description_of}
 use Rattle.cap_pcapng.proofs.Entered.{known_interface, simple_found}
-use Rattle.cap_pcapng.proofs.effect.simple_packet.Goals as goal
+use Rattle.cap_pcapng.proofs.effect.simple_packet_spans.Goals as goal
 
 pub returns : goal.returns
 returns g c =
