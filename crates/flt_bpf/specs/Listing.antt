@@ -6,9 +6,11 @@ use Rattle.std.specs.Str.Parse.{IsNumeral, digits_value}
 use Rattle.flt_bpf.specs.declared.insn.Insn.{Insn}
 use Rattle.flt_bpf.specs.Valid.{MOST_INSTRUCTIONS}
 
+-- the byte between the numbers of a line
 abbrev pub BLANK : ℕ
 BLANK = 32
 
+-- the byte that ends a line
 abbrev pub LINE_FEED : ℕ
 LINE_FEED = 10
 

@@ -32,7 +32,8 @@ struct Cut<'a> {
     rest: Option<&'a [u8]>,
 }
 
-/// Cuts a text at the first byte that is `stop`; without one the piece is all of it.
+/// Cuts a text at the first byte that is `stop`, which is in neither part; without one the piece is
+/// all of the text.
 fn split_at_first(text: &[u8], stop: u8) -> Cut<'_>
     ensures pieces { slice_split (λ b. b == stop) text.now
         ≡ result.piece.now ∷ pieces_after stop result.rest }
@@ -65,12 +66,13 @@ fn parse_number(digits: &[u8]) -> Option<u64>
 
 /// A number of a line, and what follows the blanks after it.
 #[derive(Clone, Copy)]
-struct Numbered<'a> {
+struct FirstNumber<'a> {
     number: u64,
     rest: &'a [u8],
 }
 
-/// What follows the blanks at the beginning of a text; all of a text that begins with none.
+/// What follows the blanks at the beginning of a text; all of a text that begins with none. Before
+/// a line's next number several blanks are as one, so both texts have the same numbers.
 fn after_blanks(text: &[u8]) -> &[u8]
     ensures { later_numbers (slice_split (λ b. b == BLANK) text.now) ≡ line_numbers result.now }
 {
@@ -82,8 +84,9 @@ fn after_blanks(text: &[u8]) -> &[u8]
     &text[text.len()..]
 }
 
-/// The number at the beginning of a line, if it is one and a blank follows it.
-fn first_number(line: &[u8]) -> Option<Numbered<'_>>
+/// The number at the beginning of a line, if it is one and a blank follows it, and the rest of the
+/// line from the next number on. `None` for another line, which has at most one number.
+fn first_number(line: &[u8]) -> Option<FirstNumber<'_>>
     ensures first { IfSome result (λ first. line_numbers line.now
         ≡ after (Some first.number) (line_numbers first.rest.now)) }
     ensures last { OnNone result (HasAtMostOne (line_numbers line.now)) }
@@ -91,7 +94,7 @@ fn first_number(line: &[u8]) -> Option<Numbered<'_>>
     let cut = split_at_first(line, BLANK);
     let number = parse_number(cut.piece)?;
     let rest = after_blanks(cut.rest?);
-    Some(Numbered { number, rest })
+    Some(FirstNumber { number, rest })
 }
 
 /// The number that a line is; `None` where it has a blank or isn't one.
@@ -160,7 +163,8 @@ fn first_line(text: &[u8]) -> FirstLine<'_>
 }
 
 /// `count` instructions, one on each line of a text: what follows the first line of a listing. An
-/// error has the number of the first wrong line; the first of these is line 2.
+/// error has the number of the first wrong line, of which the first here is line 2, or is a failed
+/// allocation.
 fn insns_on_lines<A: Allocator>(
     alloc: A,
     count: usize,
@@ -193,8 +197,8 @@ fn insns_on_lines<A: Allocator>(
     }
 }
 
-/// What `read_listing` returns. The clause cites `read`, which computes it; that of `read_listing`
-/// says what a listing is.
+/// The instructions of a listing, or why a text is none: what `read_listing` returns. The clause
+/// here cites `read`, which computes them; that of `read_listing` says what a listing is.
 fn insns_of_listing<A: Allocator>(alloc: A, text: &[u8]) -> Result<Vec<Insn, A>, ListingFault>
     ensures { MatchResult result (λ insns. read text.now ≡ Ok insns.items)
         (λ fault. IsFaultOf fault (read text.now)) }

@@ -29,7 +29,8 @@ pub fn write_listing<A: Allocator, O: Output>(
     write_insns(program.insns(), output)
 }
 
-/// Writes the listing of instructions that are few enough for a program.
+/// Writes the listing of instructions that are few enough for a program: the line of their count,
+/// and one line each. Errors are as in `write_listing`.
 fn write_insns<O: Output>(insns: &[Insn], output: &mut O) -> Result<(), Stopped>
     requires { length insns.now ≤ 32768 }
     ensures front { IfErr result (λ stopped. stopped.written < length (listing insns.now)) }
@@ -54,8 +55,8 @@ fn write_insns<O: Output>(insns: &[Insn], output: &mut O) -> Result<(), Stopped>
     Ok(())
 }
 
-/// Puts the line of an instruction, with its line feed, at the end of the bytes, and returns the
-/// index of its first digit.
+/// Puts the line of an instruction, with its line feed, at the end of `line`, and returns the index
+/// of its first digit: the last field is put first.
 fn put_insn_line(line: &mut [u8; MOST_LINE_BYTES], insn: &Insn) -> usize
     ensures inside { result ≤ 25 }
     ensures written { drop result line.new ≡ insn_line insn.now ++ LINE_FEED ∷ [] }
@@ -66,8 +67,8 @@ fn put_insn_line(line: &mut [u8; MOST_LINE_BYTES], insn: &Insn) -> usize
     put_number(line, jt, u64::from(insn.code), BLANK)
 }
 
-/// Puts a number in decimal and the byte `following` in front of what begins at the index `end`,
-/// and returns the index of its first digit.
+/// Puts a number in decimal, and the byte `following` after it, in front of what begins at the
+/// index `end`, and returns the index of its first digit.
 fn put_number(line: &mut [u8; MOST_LINE_BYTES], end: usize, number: u64, following: u8) -> usize
     requires room { length (decimal number) + 1 ≤ end }
     requires inside { end ≤ 25 }

@@ -24,24 +24,26 @@ after None others = None
 after (Some n) None = None
 after (Some n) (Some ns) = Some (n ∷ ns)
 
--- the numbers of the pieces between blanks, of which all but the last may be empty
+-- the numbers of the pieces between blanks after a line's first number, of which all but the last
+-- may be empty: several blanks are as one
 abbrev pub later_numbers : List (List ℕ) → Option (List ℕ)
 later_numbers [] = None
 later_numbers (w ∷ []) = after (numeral w) (Some [])
 later_numbers ([] ∷ v ∷ ws) = later_numbers (v ∷ ws)
 later_numbers ((b ∷ bs) ∷ v ∷ ws) = after (numeral (b ∷ bs)) (later_numbers (v ∷ ws))
 
--- the same where the first may not be empty either
+-- the numbers of a line's pieces between blanks, of which the first may not be empty: a line begins
+-- with a number; none where a piece is no number
 abbrev pub numbers_of : List (List ℕ) → Option (List ℕ)
 numbers_of [] = None
 numbers_of (w ∷ []) = after (numeral w) (Some [])
 numbers_of (w ∷ v ∷ ws) = after (numeral w) (later_numbers (v ∷ ws))
 
--- the numbers of a line
+-- the numbers of a line, blanks between them, or none where it is no such line
 abbrev pub line_numbers : List ℕ → Option (List ℕ)
 line_numbers line = numbers_of (slice_split (λ b. b == BLANK) line)
 
--- a list with one number
+-- the number of a list with one number
 abbrev pub only_of : Option (List ℕ) → Option ℕ
 only_of (Some (n ∷ [])) = Some n
 only_of _ = None
@@ -51,7 +53,7 @@ abbrev pub HasAtMostOne : Option (List ℕ) → Type 0
 HasAtMostOne None = Unit {0}
 HasAtMostOne (Some ns) = length ns ≤ 1
 
--- an instruction whose fields are in range
+-- the instruction with these fields, or none where one isn't in range
 abbrev pub insn_from : ℕ → ℕ → ℕ → ℕ → Option Insn
 insn_from code jt jf k =
     if nat_lt code (2 ^ 16) && (nat_lt jt (2 ^ 8) && (nat_lt jf (2 ^ 8) && nat_lt k (2 ^ 32)))
@@ -67,6 +69,7 @@ abbrev pub onto : Insn → Result (List Insn) ℕ → Result (List Insn) ℕ
 onto i (Ok is) = Ok (i ∷ is)
 onto i (Err line) = Err line
 
+-- the instruction of a line before those of later lines; none: this line is the first wrong one
 abbrev pub read_insn : Option Insn → Result (List Insn) ℕ → ℕ → Result (List Insn) ℕ
 read_insn None others at = Err at
 read_insn (Some i) others at = onto i others
@@ -80,10 +83,13 @@ read_insns (suc n) [] at = Err at
 read_insns (suc n) (line ∷ lines) at =
     read_insn (insn_of (line_numbers line)) (read_insns n lines (at + 1)) at
 
+-- the instructions by the numbers of the first line, which are their count alone, and the other
+-- lines
 abbrev pub read_from : Option (List ℕ) → List (List ℕ) → Result (List Insn) ℕ
 read_from (Some (n ∷ [])) lines = if nat_lt MOST_INSTRUCTIONS n then Err 1 else read_insns n lines 2
 read_from _ lines = Err 1
 
+-- the instructions of a listing's lines, or the number of the first wrong one
 abbrev pub read_lines : List (List ℕ) → Result (List Insn) ℕ
 read_lines [] = Err 1
 read_lines (first ∷ lines) = read_from (line_numbers first) lines
