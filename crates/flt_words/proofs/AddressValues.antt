@@ -6,7 +6,7 @@ use Rattle.std.proofs.lemmas.List.{length-map}
 use Rattle.std.specs.Int.Digits.{AllBelowBase, number_from_digits, number_from_digits_after}
 use Rattle.std.specs.List.{AllByRecursion, join_with_byte}
 use Rattle.flt_words.specs.declared.address.Group.{Group}
-use Rattle.flt_words.specs.declared.address.Joined.{Joined}
+use Rattle.flt_words.specs.declared.address.JoinedGroups.{JoinedGroups}
 use Rattle.flt_words.specs.Addresses.{AreGroups, IsGroup, group_value, group_values, separator_of}
 use Rattle.flt_words.specs.inside.Addresses.{ReadsGroups, base_of}
 use Rattle.flt_words.proofs.Groups.{group_below, group_some, groups_are_parts}
@@ -36,7 +36,7 @@ groups_below form groups each =
     let below = number_lt (base_of form) (group_values form groups) (values_below form groups each) in
     rw length-map at below
 
-pub reads_below : (form : Group) (text : List ℕ) (joined : Joined) → ReadsGroups form text (Some joined) → joined.value < base_of form ^ joined.count
+pub reads_below : (form : Group) (text : List ℕ) (joined : JoinedGroups) → ReadsGroups form text (Some joined) → joined.value < base_of form ^ joined.count
 reads_below form text joined r = rw (r.3, r.4) (groups_below form r.0 r.1.each)
 
 one_digit : (base n d power more : ℕ) → (n * base + d) * power + more ≡ n * (power * base) + ((0 * base + d) * power + more)

@@ -13,7 +13,7 @@ separator_of group.Octet = 46
 separator_of group.Byte = 58
 separator_of group.Quad = 58
 
--- digits of the form: decimal up to 255, one or two hexadecimal, one to four hexadecimal
+-- digits of a group's form: decimal up to 255, one or two hexadecimal, one to four hexadecimal
 abbrev pub IsGroup : Group → List ℕ → Type 0
 IsGroup group.Octet digits = (n : ℕ) × WritesDecimal digits n × (n ≤ 255)
 IsGroup group.Byte digits = IsNumeral 16 digits × (length digits ≤ 2)
@@ -25,7 +25,7 @@ group_value group.Octet digits = digits_value 10 digits
 group_value group.Byte digits = digits_value 16 digits
 group_value group.Quad digits = digits_value 16 digits
 
--- those of groups in turn
+-- the numbers that the digits of groups write, in turn
 abbrev pub group_values : Group → List (List ℕ) → List ℕ
 group_values form groups = map (group_value form) groups
 

@@ -4,7 +4,7 @@ use Rattle.std.specs.Fmt.{decimal}
 use Rattle.flt_words.specs.declared.fault.ExprFault.{ExprFault}
 use Rattle.flt_words.specs.declared.fault.ExprFault.TheVariants as fault
 
--- what is wrong
+-- what is wrong with a text, without the place
 abbrev pub text_of : ExprFault → List ℕ
 text_of fault.TooLong = codes "longer than 65536 bytes"
 text_of (fault.UnknownCharacter place) = codes "unknown character"
@@ -20,7 +20,7 @@ text_of fault.TooManyWords = codes "more than 16 words"
 text_of fault.ProgramTooLong = codes "program too long"
 text_of fault.Memory = codes "no memory"
 
--- and where, in bytes of the text from 1
+-- where a text is wrong, in bytes from 1, if the refusal has a place
 abbrev pub place_of : ExprFault → Option ℕ
 place_of (fault.UnknownCharacter place) = Some place
 place_of (fault.UnknownWord place) = Some place
@@ -32,6 +32,6 @@ abbrev pub with_place : List ℕ → Option ℕ → List ℕ
 with_place text None = text
 with_place text (Some place) = text ++ (codes " at " ++ decimal place)
 
--- the whole message
+-- what a message says of a refused text: what is wrong, and where
 abbrev pub message_of : ExprFault → List ℕ
 message_of fault = with_place (text_of fault) (place_of fault)

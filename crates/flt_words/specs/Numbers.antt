@@ -26,6 +26,6 @@ pub data IsRange : List ℕ → ℕ → ℕ → Type 0 where
   joined : {front back : List ℕ} {first last : ℕ} → WritesDecimal front first
       → WritesDecimal back last → IsRange (front ++ (codes "-" ++ back)) first last
 
--- a number that a token may have
+-- a number that a token may have: below 2^32
 abbrev pub is_word_sized : ℕ → Bool
 is_word_sized n = nat_lt n (2 ^ 32)

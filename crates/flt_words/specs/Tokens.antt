@@ -22,7 +22,7 @@ pub data PieceMeans (inside : Bool) (place : ℕ) (piece : List ℕ) : Result To
   symbol_meaning : {kind : TokenKind} → symbol_of inside piece ≡ Some kind
       → PieceMeans inside place piece (Ok kind)
 
--- the piece could be a token
+-- the piece could be a token: it is formed as a word, or is a symbol
 pub data IsPiece (inside : Bool) (piece : List ℕ) : Type 0 where
   word : IsWordPiece inside piece → IsPiece inside piece
   symbol : {kind : TokenKind} → symbol_of inside piece ≡ Some kind → IsPiece inside piece
@@ -39,8 +39,8 @@ pub record IsToken (inside : Bool) (place : ℕ) (rest : List ℕ) (kind : Token
   pub longest : IsLongest inside rest n
   pub means : PieceMeans inside place (take n rest) (Ok kind)
 
--- or it is refused: a character begins no token, or the longest piece is a word of no kind or has
--- too large a number
+-- the start of a text that goes on at a place is refused: a character begins no token, or the
+-- longest piece is a word of no kind or has too large a number
 pub data IsRefused (inside : Bool) (place : ℕ) (rest : List ℕ) : ExprFault → Type 0 where
   no_piece : ((n : ℕ) → n ≤ length rest → IsPiece inside (take n rest) → ⊥)
       → IsRefused inside place rest (fault.UnknownCharacter place)

@@ -25,7 +25,7 @@ fits (token.Number n) = is_word_sized n
 fits (token.Range first last) = is_word_sized first && is_word_sized last
 fits _ = true
 
--- the answer for a word at a place
+-- what is answered for a word at a place: the kind of its token, or why it has none
 pub data WordMeans (place : ℕ) (word : List ℕ) : Result TokenKind ExprFault → Type 0 where
   known : {kind : TokenKind} → Spells word kind → fits kind ≡ true → WordMeans place word (Ok kind)
   too_large : {kind : TokenKind} → Spells word kind → fits kind ≡ false

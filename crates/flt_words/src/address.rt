@@ -12,7 +12,7 @@ ghost use Rattle.flt_words.specs.Addresses.{group_value, separator_of};
 
 use crate::number::{parse_decimal, parse_digits};
 
-/// The forms of groups: what stands between two separators.
+/// The forms of groups, a group being what stands between two separators.
 #[derive(Clone, Copy)]
 pub(crate) enum Group {
     /// A decimal number up to 255.
@@ -23,10 +23,10 @@ pub(crate) enum Group {
     Quad,
 }
 
-/// Groups that were read: their values as the digits of one number in their base, the first the
-/// highest, and how many groups there are.
+/// Groups that were read: one number, of which their values are the digits in their base, the first
+/// group the highest; and how many groups there are.
 #[derive(Clone, Copy)]
-pub(crate) struct Joined {
+pub(crate) struct JoinedGroups {
     value: u128,
     count: u32,
 }
@@ -93,13 +93,13 @@ fn parse_hexadecimal(most: usize, digits: &[u8]) -> Option<u32>
 /// Reads a text as groups of a form with its separator between them, eight at most: as many as an
 /// IPv6 address has. An empty text has none of them. `None` where a piece is no group of the form,
 /// or there are more.
-fn parse_groups(form: Group, text: &[u8]) -> Option<Joined>
+fn parse_groups(form: Group, text: &[u8]) -> Option<JoinedGroups>
     ensures { ReadsGroups form text.now result }
 {
     let mut value: u128 = 0;
     let mut count: u32 = 0;
     if text.is_empty() {
-        return Some(Joined { value, count });
+        return Some(JoinedGroups { value, count });
     }
     let separator = form.separator();
     for digits in text.split(|byte| *byte == separator) {
@@ -110,17 +110,17 @@ fn parse_groups(form: Group, text: &[u8]) -> Option<Joined>
         value = value * u128::from(form.base()) + u128::from(digit);
         count += 1;
     }
-    Some(Joined { value, count })
+    Some(JoinedGroups { value, count })
 }
 
-/// The number of groups that were read with `zeros` more groups of 0 after them, eight in all at
-/// most.
-fn value_with_zeros(form: Group, joined: Joined, zeros: u32) -> u128
+/// The value of an address of the groups that were read with `zeros` more groups of 0 after them,
+/// eight groups in all at most.
+fn value_with_zeros(form: Group, joined: JoinedGroups, zeros: u32) -> u128
     requires small { joined.value < base_of form ^ joined.count }
     requires upper_bound { joined.count + zeros ≤ 8 }
     ensures { result ≡ joined.value * base_of form ^ zeros }
 {
-    // Products instead of a shift, as the definition has it.
+    // Multiplied and not shifted, since the clause has a product.
     let mut value = joined.value;
     for _done in 0..zeros {
         value *= u128::from(form.base());
@@ -128,8 +128,8 @@ fn value_with_zeros(form: Group, joined: Joined, zeros: u32) -> u128
     value
 }
 
-/// Reads a word as two to four parts of an IPv4 address: the address, missing parts 0, and how many
-/// parts are written. `None` for other words, and for one part, which is a number.
+/// Reads a word as two to four parts of an IPv4 address, as `10.1`: the address, missing parts 0,
+/// and how many parts are written. `None` for other words, and for one part, which is a number.
 pub(crate) fn parse_dotted(word: &[u8]) -> Option<(u32, u8)>
     ensures { MatchOption result ((address parts : ℕ) → IsDotted word.now address parts → ⊥)
         (λ dotted. IsDotted word.now dotted.0 dotted.1) }
@@ -143,6 +143,7 @@ pub(crate) fn parse_dotted(word: &[u8]) -> Option<(u32, u8)>
 }
 
 /// Reads a word as a MAC address, six bytes joined by colons: 48 bits, the first byte the highest.
+/// `None` for other words.
 pub(crate) fn parse_mac(word: &[u8]) -> Option<u64>
     ensures { FindsAddress (IsMac word.now) result }
 {
@@ -154,7 +155,8 @@ pub(crate) fn parse_mac(word: &[u8]) -> Option<u64>
 }
 
 /// Reads a word as an IPv6 address: eight groups, or fewer with one `::` for the rest (RFC 4291,
-/// 2.2). A second `::` is left in the text after the first one, where it is no group.
+/// 2.2). `None` for other words: a second `::` is left in the text after the first one, where it is
+/// no group.
 pub(crate) fn parse_ip6(word: &[u8]) -> Option<u128>
     ensures { FindsAddress (IsIp6 word.now) result }
 {
@@ -164,7 +166,7 @@ pub(crate) fn parse_ip6(word: &[u8]) -> Option<u128>
     }
 }
 
-/// An IPv6 address of eight groups.
+/// An IPv6 address of eight groups, the first the highest 16 bits; `None` for other words.
 fn parse_whole_ip6(word: &[u8]) -> Option<u128>
     ensures { FindsAddress (IsWholeIp6 word.now) result }
 {
@@ -175,8 +177,8 @@ fn parse_whole_ip6(word: &[u8]) -> Option<u128>
     Some(joined.value)
 }
 
-/// An IPv6 address by what stands before and after its `::`: seven groups at most, since `::` is
-/// one or more groups of 0.
+/// An IPv6 address by the groups before and after its `::`: seven at most, since `::` is one or
+/// more groups of 0. `None` where these texts are no such groups.
 fn parse_shortened_ip6(front: &[u8], back: &[u8]) -> Option<u128>
     ensures { FindsAddress (AreIp6Ends front.now back.now) result }
 {
@@ -188,7 +190,7 @@ fn parse_shortened_ip6(front: &[u8], back: &[u8]) -> Option<u128>
     Some(value_with_zeros(Group::Quad, first, 8 - first.count) + last.value)
 }
 
-/// The index of the first `::`.
+/// The index of the first `::` of a word; `None` where it has none.
 fn find_double_colon(word: &[u8]) -> Option<usize>
     ensures { MatchOption result ((k : ℕ) → IsDoubleColon word.now k → ⊥)
         (λ i. (i + 1 < length word.now) × IsDoubleColon word.now i

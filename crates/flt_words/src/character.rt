@@ -11,15 +11,17 @@ pub(crate) fn is_blank(byte: u8) -> bool
     byte == b' ' || byte == b'\t' || byte == b'\n' || byte == b'\r'
 }
 
-/// Whether a word may begin and end with a byte: a letter, a digit or, outside brackets, a colon,
-/// as in `::1`. `inside` is whether the byte is in brackets, where a colon is a token: `tcp[0:2]`.
+/// Whether a word may begin with a byte, and so whether it may end with it: a letter, a digit or,
+/// outside brackets, a colon, as in `::1`. `inside` is whether the byte is in brackets, where a
+/// colon is a token: `tcp[0:2]`.
 pub(crate) fn starts_word(inside: bool, byte: u8) -> bool
     ensures { result ≡ starts_word inside byte }
 {
     byte.is_ascii_alphanumeric() || (!inside && byte == b':')
 }
 
-/// Whether a word may have a byte between its ends: what it may begin with, points and dashes.
+/// Whether a word may have a byte between its ends: what it may begin with, points and dashes, as
+/// in `10.0.0.1` and `tcp-syn`. `inside` is as in `starts_word`.
 pub(crate) fn within_word(inside: bool, byte: u8) -> bool
     ensures { result ≡ within_word inside byte }
 {

@@ -12,14 +12,15 @@ use crate::character::{is_blank, starts_word, within_word};
 use crate::fault::ExprFault;
 use crate::spelling::symbol_of;
 use crate::token::{Token, TokenKind};
-use crate::word::word_kind;
+use crate::word::word_kind_at;
 use std::alloc::Allocator;
 
 /// The longest text, in bytes (E1).
 const LONGEST: usize = 65536;
 
-/// How many bytes the word has with which a text begins. `inside` is whether it is in brackets. It
-/// ends with the last byte that may end one: of `10.0.0.1-` the dash is no part of it.
+/// How many bytes the word has with which a text begins. `inside` is whether the text is in
+/// brackets. The word ends with the last byte that may end one: of `10.0.0.1-` the dash is no part
+/// of it.
 fn first_word_len(inside: bool, rest: &[u8]) -> usize
     requires { starts_word inside (slice_index rest.now 0) ≡ true }
     ensures { IsLongest inside rest.now result }
@@ -36,7 +37,8 @@ fn first_word_len(inside: bool, rest: &[u8]) -> usize
     len
 }
 
-/// The symbol of `len` bytes with which a text begins, if there is one.
+/// The symbol of `len` bytes with which a text begins, or `None` where it begins with none or is
+/// shorter.
 fn first_symbol_of_len(inside: bool, len: usize, rest: &[u8]) -> Option<TokenKind>
     ensures { MatchOption result
         (len ≤ length rest.now → symbol_of inside (take len rest.now) ≡ None)
@@ -48,8 +50,8 @@ fn first_symbol_of_len(inside: bool, len: usize, rest: &[u8]) -> Option<TokenKin
     symbol_of(inside, &rest[..len])
 }
 
-/// The longest symbol with which a text begins, where no word begins, and its length in bytes: no
-/// symbol has more than 2.
+/// The longest symbol with which a text begins that begins with no word, and its length in bytes:
+/// no symbol has more than 2. `None` where it begins with no symbol.
 fn first_symbol(inside: bool, rest: &[u8]) -> Option<(TokenKind, usize)>
     requires { starts_word inside (slice_index rest.now 0) ≡ false }
     ensures { MatchOption result
@@ -73,7 +75,7 @@ fn first_token(inside: bool, place: u32, rest: &[u8]) -> Result<(TokenKind, usiz
 {
     if starts_word(inside, rest[0]) {
         let len = first_word_len(inside, rest);
-        let kind = word_kind(place, &rest[..len])?;
+        let kind = word_kind_at(place, &rest[..len])?;
         return Ok((kind, len));
     }
     match first_symbol(inside, rest) {
@@ -85,8 +87,8 @@ fn first_token(inside: bool, place: u32, rest: &[u8]) -> Result<(TokenKind, usiz
 /// The tokens of a text, each with its place, or the leftmost refusal.
 ///
 /// A text over 65,536 bytes is `TooLong` (E1). Else the leftmost of these is reported: a character
-/// that begins no token (E2), a word of no kind (E3), a number above 2^32 - 1 (E4). `Memory` comes
-/// in place of the result where a token cannot be kept.
+/// that begins no token (E2), a word of no kind (E3), a number above 2^32 - 1 (E4). `Memory` is
+/// returned instead, whatever the text is, where a token cannot be kept.
 pub fn lex<A: Allocator>(alloc: A, text: &str) -> Result<Vec<Token, A>, ExprFault>
     ensures ok { IfOk result (λ tokens. Tokens text.now (Ok tokens.items)) }
     ensures err { IfErr result (λ fault. fault ≢ ExprFault.Memory → Tokens text.now (Err fault)) }

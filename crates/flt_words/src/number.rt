@@ -18,7 +18,7 @@ pub(crate) enum WordFault {
 }
 
 /// The number that digits of a radix write; leading zeros are allowed. `Unknown` where there is no
-/// digit or another byte.
+/// digit or another byte, `TooLarge` where the number is above 2^32 - 1.
 pub(crate) fn parse_digits(radix: u32, digits: &[u8]) -> Result<u32, WordFault>
     requires low { 2 ≤ radix }
     requires high { radix ≤ 16 }
@@ -28,14 +28,15 @@ pub(crate) fn parse_digits(radix: u32, digits: &[u8]) -> Result<u32, WordFault>
         return Err(WordFault::Unknown);
     }
     match digits_number(radix, digits) {
-        // Above 64 bits.
+        // It doesn't even fit 64 bits.
         None => Err(WordFault::TooLarge),
         Some(number) if number > 0xffff_ffff => Err(WordFault::TooLarge),
         Some(number) => Ok(number as u32),
     }
 }
 
-/// The number that decimal digits write. With leading zeros they are `Unknown`.
+/// The number that decimal digits write, with errors as of `parse_digits`. With leading zeros they
+/// are `Unknown`: as a number in C it would be octal.
 pub(crate) fn parse_decimal(digits: &[u8]) -> Result<u32, WordFault>
     ensures { FindsMeaning (WritesDecimal digits.now) is_word_sized result }
 {
@@ -46,7 +47,7 @@ pub(crate) fn parse_decimal(digits: &[u8]) -> Result<u32, WordFault>
 }
 
 /// The number that a word spells as C does: decimal, octal after `0`, hexadecimal after `0x` or
-/// `0X`.
+/// `0X`. Errors are as of `parse_digits`.
 pub(crate) fn parse_number(word: &[u8]) -> Result<u32, WordFault>
     ensures { FindsMeaning (IsNumber word.now) is_word_sized result }
 {
@@ -59,14 +60,15 @@ pub(crate) fn parse_number(word: &[u8]) -> Result<u32, WordFault>
     }
 }
 
-/// The index of the first dash of a word.
+/// The index of the first dash of a word; `None` where it has none.
 fn find_dash(word: &[u8]) -> Option<usize>
     ensures { result ≡ position (λ b. b == 45) word.now }
 {
     word.iter().position(|byte| *byte == b'-')
 }
 
-/// The two numbers, or one error for both: unknown where either is, and else too large.
+/// The two numbers of a range, or one error for both: `Unknown` where either number is, else
+/// `TooLarge` where either is.
 fn both_numbers(
     first: Result<u32, WordFault>,
     last: Result<u32, WordFault>,
@@ -80,8 +82,8 @@ fn both_numbers(
     }
 }
 
-/// The two decimal numbers that a dash joins, in the order in which they stand. A word without a
-/// dash is `Unknown`.
+/// The two decimal numbers that a dash joins, as `1-1023`, in the order in which they stand. A word
+/// without a dash is `Unknown`.
 pub(crate) fn parse_range(word: &[u8]) -> Result<(u32, u32), WordFault>
     ensures { FindsMeaning (λ range. IsRange word.now range.0 range.1)
         (λ range. is_word_sized range.0 && is_word_sized range.1) result }

@@ -43,7 +43,7 @@ const KEYWORDS: [(&str, TokenKind); 34] = [
     ("icmpcode", TokenKind::Name(1)),
 ];
 
-/// The colon is not among them, since it is a token of its own only inside brackets.
+/// Symbols. The colon is not among them, since it is a token of its own only inside brackets.
 const SYMBOLS: [(&str, TokenKind); 24] = [
     ("&&", TokenKind::Join(Join::And)),
     ("||", TokenKind::Join(Join::Or)),
@@ -83,7 +83,7 @@ fn look_up(table: &[(&str, TokenKind)], piece: &[u8]) -> Option<TokenKind>
     None
 }
 
-/// The keyword or name that this word is, if it is one.
+/// The token of the keyword or name that this word is, or `None` for other words.
 #[tactic(auto, unfolding(crate::specs::Spellings::keywords))]
 pub(crate) fn keyword_of(word: &[u8]) -> Option<TokenKind>
     ensures { result ≡ keyword_of word.now }
@@ -91,7 +91,8 @@ pub(crate) fn keyword_of(word: &[u8]) -> Option<TokenKind>
     look_up(&KEYWORDS, word)
 }
 
-/// The symbol that these bytes are, if they are one. `inside` is whether they are in brackets.
+/// The token of the symbol that these bytes are, or `None` for other bytes. `inside` is whether
+/// they are in brackets, where the colon is one.
 #[tactic(auto, unfolding(crate::specs::Spellings::symbols))]
 pub(crate) fn symbol_of(inside: bool, piece: &[u8]) -> Option<TokenKind>
     ensures { result ≡ symbol_of inside piece.now }

@@ -80,8 +80,8 @@ fn kind_of_plain_word(word: &[u8]) -> Result<TokenKind, WordFault>
     }
 }
 
-/// What any word means.
-fn kind_of(word: &[u8]) -> Result<TokenKind, WordFault>
+/// What any word means, wherever it stands.
+fn kind_of_any_word(word: &[u8]) -> Result<TokenKind, WordFault>
     ensures { FindsMeaning (Spells word.now) fits result }
 {
     if word.contains(&b':') {
@@ -95,11 +95,12 @@ fn kind_of(word: &[u8]) -> Result<TokenKind, WordFault>
     }
 }
 
-/// What the word at a place means. An error names the place, which counts bytes of the text from 1.
-pub(crate) fn word_kind(place: u32, word: &[u8]) -> Result<TokenKind, ExprFault>
+/// What the word at a place of a text means: the kind of its token. An error, E3 or E4, names the
+/// place, which counts bytes of the text from 1.
+pub(crate) fn word_kind_at(place: u32, word: &[u8]) -> Result<TokenKind, ExprFault>
     ensures { WordMeans place word.now result }
 {
-    match kind_of(word) {
+    match kind_of_any_word(word) {
         Ok(kind) => Ok(kind),
         Err(WordFault::Unknown) => Err(ExprFault::UnknownWord(place)),
         Err(WordFault::TooLarge) => Err(ExprFault::NumberTooLarge(place)),

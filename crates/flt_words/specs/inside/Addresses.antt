@@ -3,10 +3,10 @@ use Rattle.std.specs.Prelude.{◌≡◌, ◌≤◌, ◌+◌, ℕ, List, length, 
 use Rattle.std.specs.Int.Digits.{number_from_digits}
 use Rattle.flt_words.specs.declared.address.Group.{Group}
 use Rattle.flt_words.specs.declared.address.Group.TheVariants as group
-use Rattle.flt_words.specs.declared.address.Joined.{Joined}
+use Rattle.flt_words.specs.declared.address.JoinedGroups.{JoinedGroups}
 use Rattle.flt_words.specs.Addresses.{group_values, AreGroups}
 
--- a group's number is below its base
+-- the base in which groups of a form are digits: a group's number is below it
 abbrev pub base_of : Group → ℕ
 base_of group.Octet = 256
 base_of group.Byte = 256
@@ -16,13 +16,13 @@ base_of group.Quad = 65536
 abbrev pub FindsAddress : (ℕ → Type 0) → Option ℕ → Type 0
 FindsAddress IsIt answer = MatchOption answer ((address : ℕ) → IsIt address → ⊥) IsIt
 
--- two colons stand here
+-- two colons stand at this index of a word
 abbrev pub IsDoubleColon : List ℕ → ℕ → Type 0
 IsDoubleColon word i = (slice_index word i ≡ 58) × (slice_index word (i + 1) ≡ 58)
 
 -- what reading a text as at most eight groups returns: how many there are and the number that they
 -- write in their base, or none where it isn't such groups
-abbrev pub ReadsGroups : Group → List ℕ → Option Joined → Type 0
+abbrev pub ReadsGroups : Group → List ℕ → Option JoinedGroups → Type 0
 ReadsGroups form text None =
     (groups : List (List ℕ)) → AreGroups form text groups → length groups ≤ 8 → ⊥
 ReadsGroups form text (Some joined) =

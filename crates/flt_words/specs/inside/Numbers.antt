@@ -10,7 +10,8 @@ FindsMeaning {A} Means test (Ok a) = Means a × (test a ≡ true)
 FindsMeaning {A} Means test (Err fault.TooLarge) = (a : A) × Means a × (test a ≡ false)
 FindsMeaning {A} Means test (Err fault.Unknown) = (a : A) → Means a → ⊥
 
--- both answers: unknown where either is, and else too large where either is
+-- the values of two words, or one error for both: unknown where either is, else too large where
+-- either is
 abbrev pub both_known : {A B : Type 0} → Result A WordFault → Result B WordFault
     → Result (A × B) WordFault
 both_known (Ok a) (Ok b) = Ok (a, b)

@@ -1,6 +1,6 @@
 -- The refusals have the word's place.
 use Rattle.flt_words.specs.Words.WordMeans.{known, too_large, unknown}
-use Rattle.flt_words.proofs.word.word_kind.Goals as goal
+use Rattle.flt_words.proofs.word.word_kind_at.Goals as goal
 
 pub returns-in-Ok : goal.returns-in-Ok
 returns-in-Ok c = known c.in-Ok.ensures.0 c.in-Ok.ensures.1
