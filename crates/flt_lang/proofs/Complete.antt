@@ -18,7 +18,7 @@ use Rattle.flt_lang.specs.declared.frame.Operand.TheVariants as operand
 use Rattle.flt_ast.specs.Tree.{NumberTree, literal, TruthTree, bare, Expression}
 use Rattle.flt_lang.specs.Values.{no_mask, prefix, dotted_mask, ReadsValue, number, dotted, ip6, ip6_prefix, mac, range}
 use Rattle.flt_lang.specs.Grammar.{level, is_accessor, stands_alone, has_casts, Number, of_literal, of_len, of_name, enclosed, of_load, of_sized_load, minus, single, chain, Truth, of_check, of_cast, of_protocol_cast, of_sized, of_valued, of_bare, relation, denial, enclosed_truth, term, terms, IsReadAs, no_tokens, all_tokens}
-use Rattle.flt_lang.specs.inside.Parser.{◌>>=◌, precedence, operand_precedence, token_precedence, next_precedence, as_number, as_truth, fill, run, nodes_of_tokens, enclosed_operand, number_with_prefix, next_of, after_operand, IsLoose}
+use Rattle.flt_lang.specs.inside.Parser.{◌>>=◌, precedence, operand_precedence, token_precedence, next_precedence, as_number, as_truth, fill_frame, run, nodes_of_tokens, enclosed_operand, number_with_prefix, next_of, after_operand, IsLoose}
 use Rattle.flt_ast.specs.inside.Nodes.{number_onto, truth_onto, expr_onto}
 use Rattle.flt_lang.proofs.Reducing.{le_true, le_false, reduce_stays}
 use Rattle.flt_lang.proofs.ValuesBack.{level_small}
@@ -41,7 +41,7 @@ no_prefix (operand.Plain n) (token.Operator Divide ∷ token.Number m ∷ ts) f 
 no_prefix _ _ f fs d h = refl
 
 -- a frame that binds as tightly as the next token takes the operand
-take_frame : (f : Frame) (fs : List Frame) (x y : Operand) (d e : List Node) (ts : List TokenKind) → precedence f ≤ next_precedence ts → fill f x d ≡ Some (y, e) → number_with_prefix y ts ≡ None → run ts 0 (f ∷ fs) (Some x) d ≡ run ts 0 fs (Some y) e
+take_frame : (f : Frame) (fs : List Frame) (x y : Operand) (d e : List Node) (ts : List TokenKind) → precedence f ≤ next_precedence ts → fill_frame f x d ≡ Some (y, e) → number_with_prefix y ts ≡ None → run ts 0 (f ∷ fs) (Some x) d ≡ run ts 0 fs (Some y) e
 take_frame f fs x y d e [] h filled other = rw (le_true (precedence f) 8 h, filled)
 take_frame f fs x y d e (t ∷ ts) h filled other =
     ap (λ r. r >>= λ r. run ts r.0 r.1.0 r.1.1 r.1.2) (no_prefix x (t ∷ ts) f fs d h) ∙ rw (le_true (precedence f) (token_precedence t) h, filled, other) refl

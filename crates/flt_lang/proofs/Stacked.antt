@@ -15,7 +15,7 @@ use Rattle.flt_lang.specs.declared.frame.Operand.TheVariants as operand
 use Rattle.flt_ast.specs.Tree.{NumberTree, literal, negated, applied, TruthTree, bare, compared, denied, joined}
 use Rattle.flt_lang.specs.Values.{no_mask, number}
 use Rattle.flt_lang.specs.Grammar.{level, is_accessor, Number, of_literal, minus, single, chain, Truth, of_bare, relation, denial, term, terms}
-use Rattle.flt_lang.specs.inside.Parser.{◌>>=◌, precedence, operand_precedence, prefix_mask, as_number, as_truth, Read, fill, Reduced, reduce}
+use Rattle.flt_lang.specs.inside.Parser.{◌>>=◌, precedence, operand_precedence, prefix_mask, as_number, as_truth, Read, fill_frame, Reduced, reduce}
 use Rattle.flt_ast.specs.inside.Nodes.{number_onto, truth_onto}
 use Rattle.flt_lang.proofs.ValuesBack.{level_small}
 
@@ -114,7 +114,7 @@ moved m fs start rest y z g h b same =
     subst P pairs b
 
 -- a frame with its operand is an operand
-fill_sound : (m : ℕ) (f : Frame) (fs : List Frame) (x y : Operand) (e g : List Node) (start rest : List TokenKind) → precedence f ≤ m → Following m (f ∷ fs) x e start rest → fill f x e ≡ Some (y, g) → Following m fs y g start rest
+fill_sound : (m : ℕ) (f : Frame) (fs : List Frame) (x y : Operand) (e g : List Node) (start rest : List TokenKind) → precedence f ≤ m → Following m (f ∷ fs) x e start rest → fill_frame f x e ≡ Some (y, g) → Following m fs y g start rest
 fill_sound m frame.Negate fs x y e g start rest h (d, mid, stacked, between) filled =
     let (i, is_number, is_rest) = some_first (as_number x e) (λ i. Some (operand.Number, node.Negate ∷ i)) (y, g) filled in
     let n = number_between m 0 x d e i mid rest between is_number in
@@ -140,9 +140,9 @@ fill_sound m (frame.Join j) fs x y e g start rest h (d, mid, (d', mid', a, stack
 fill_sound m frame.Open fs x y e g start rest h b filled = cc
 fill_sound m (frame.Load p) fs x y e g start rest h b filled = cc
 
-reduce_one : (m : ℕ) (f : Frame) (fs : List Frame) (x : Operand) (e : List Node) (start rest : List TokenKind) (s : Reduced) (q : Bool) → nat_le (precedence f) m ≡ q → Following m (f ∷ fs) x e start rest → ((y : Operand) (g : List Node) → Following m fs y g start rest → reduce m fs y g ≡ Some s → Following m s.0 s.1 s.2 start rest) → (if q then (fill f x e >>= λ r. reduce m fs r.0 r.1) else Some (f ∷ fs, x, e)) ≡ Some s → Following m s.0 s.1 s.2 start rest
+reduce_one : (m : ℕ) (f : Frame) (fs : List Frame) (x : Operand) (e : List Node) (start rest : List TokenKind) (s : Reduced) (q : Bool) → nat_le (precedence f) m ≡ q → Following m (f ∷ fs) x e start rest → ((y : Operand) (g : List Node) → Following m fs y g start rest → reduce m fs y g ≡ Some s → Following m s.0 s.1 s.2 start rest) → (if q then (fill_frame f x e >>= λ r. reduce m fs r.0 r.1) else Some (f ∷ fs, x, e)) ≡ Some s → Following m s.0 s.1 s.2 start rest
 reduce_one m f fs x e start rest s true is_tight b others h =
-    let (r, filled, settles) = some_first (fill f x e) (λ r. reduce m fs r.0 r.1) s h in
+    let (r, filled, settles) = some_first (fill_frame f x e) (λ r. reduce m fs r.0 r.1) s h in
     others r.0 r.1 (fill_sound m f fs x r.0 e r.1 start rest (leb-true _ _ is_tight) b filled) settles
 reduce_one m f fs x e start rest s false is_loose b others h =
     let P : Reduced → Type 0 = λ s. Following m s.0 s.1 s.2 start rest in

@@ -9,9 +9,9 @@ use Rattle.flt_ast.specs.Tree.{NumberTree, literal, len, named, load, negated, a
 use Rattle.flt_ast.specs.Nodes.{number_nodes, truth_nodes, expr_nodes}
 use Rattle.flt_lang.specs.declared.backward.Pending.{Pending}
 use Rattle.flt_lang.specs.Explained.{number_tokens, truth_tokens, explained_tokens, open_operand}
-use Rattle.flt_lang.specs.inside.Backward.{WriterState, settle, parenthesis_before, is_more, write_nodes, write_node}
+use Rattle.flt_lang.specs.inside.Backward.{WriterState, write_pending, parenthesis_before, is_more, write_nodes, write_node}
 
-pub number_written : (a : NumberTree) (rest : List Node) → write_nodes (number_nodes a rest) ≡ settle (write_nodes rest).pending (number_tokens a (write_nodes rest).tokens)
+pub number_written : (a : NumberTree) (rest : List Node) → write_nodes (number_nodes a rest) ≡ write_pending (write_nodes rest).pending (number_tokens a (write_nodes rest).tokens)
 number_written (literal n) rest = refl
 number_written len rest = refl
 number_written (named n) rest = refl
@@ -19,10 +19,10 @@ number_written (load p s a) rest = number_written a (node.Load p s ∷ rest)
 number_written (negated a) rest = number_written a (node.Negate ∷ rest)
 number_written (applied o a b) rest =
     number_written a (number_nodes b (node.Apply o ∷ rest))
-    ∙ ap (λ (s : WriterState). settle s.pending (number_tokens a s.tokens)) (number_written b (node.Apply o ∷ rest))
+    ∙ ap (λ (s : WriterState). write_pending s.pending (number_tokens a s.tokens)) (number_written b (node.Apply o ∷ rest))
 
 -- what waits around an operand
-settles : (operand : Bool) (ps : List Pending) (ts : List TokenKind) → settle (parenthesis_before operand ps) ts ≡ settle ps (open_operand operand ts)
+settles : (operand : Bool) (ps : List Pending) (ts : List TokenKind) → write_pending (parenthesis_before operand ps) ts ≡ write_pending ps (open_operand operand ts)
 settles true ps ts = refl
 settles false ps ts = refl
 
@@ -45,7 +45,7 @@ truth_more (compared c a b) rest = number_more a _ (number_more b _ refl)
 truth_more (denied a) rest = truth_more a _
 truth_more (joined j a b) rest = truth_more a _
 
-pub truth_written : (a : TruthTree) (rest : List Node) (operand : Bool) → is_more rest ≡ operand → write_nodes (truth_nodes a rest) ≡ settle (write_nodes rest).pending (truth_tokens operand a (write_nodes rest).tokens)
+pub truth_written : (a : TruthTree) (rest : List Node) (operand : Bool) → is_more rest ≡ operand → write_nodes (truth_nodes a rest) ≡ write_pending (write_nodes rest).pending (truth_tokens operand a (write_nodes rest).tokens)
 truth_written (check p) rest operand e = refl
 truth_written (cast None c) rest operand e = refl
 truth_written (cast (Some p) c) rest operand e = rw e refl
@@ -55,13 +55,13 @@ truth_written (valued q v) rest operand e = rw e refl
 truth_written (qualified q v) rest operand e = rw e refl
 truth_written (compared c a b) rest operand e =
     number_written a (number_nodes b (node.Compare c ∷ rest))
-    ∙ ap (λ (s : WriterState). settle s.pending (number_tokens a s.tokens)) (number_written b (node.Compare c ∷ rest))
+    ∙ ap (λ (s : WriterState). write_pending s.pending (number_tokens a s.tokens)) (number_written b (node.Compare c ∷ rest))
     ∙ rw e (settles operand (write_nodes rest).pending _)
 truth_written (denied a) rest operand e =
     truth_written a (node.Not ∷ rest) true refl ∙ rw e (settles operand (write_nodes rest).pending _)
 truth_written (joined j a b) rest operand e =
     truth_written a (truth_nodes b (node.Join j ∷ rest)) true (truth_more b (node.Join j ∷ rest))
-    ∙ ap (λ (s : WriterState). settle s.pending (truth_tokens true a s.tokens)) (truth_written b (node.Join j ∷ rest) true refl)
+    ∙ ap (λ (s : WriterState). write_pending s.pending (truth_tokens true a s.tokens)) (truth_written b (node.Join j ∷ rest) true refl)
     ∙ rw e (settles operand (write_nodes rest).pending _)
 
 pub expression_written : (e : Expression) → (write_nodes (expr_nodes e)).tokens ≡ explained_tokens e
@@ -69,9 +69,9 @@ expression_written empty = refl
 expression_written (truth a) = ap (λ (s : WriterState). s.tokens) (truth_written a [] false refl)
 
 -- nothing waits: the tokens are written
-pub settled_end : (s new whole : WriterState) → s.pending ≡ [] → new.pending ≡ [] → new.tokens ≡ s.tokens → settle s.pending s.tokens ≡ whole → new ≡ whole
+pub settled_end : (s new whole : WriterState) → s.pending ≡ [] → new.pending ≡ [] → new.tokens ≡ s.tokens → write_pending s.pending s.tokens ≡ whole → new ≡ whole
 settled_end s new whole none left same settles =
-    let end : settle [] s.tokens ≡ whole = subst (λ ps. settle ps s.tokens ≡ whole) none settles in
+    let end : write_pending [] s.tokens ≡ whole = subst (λ ps. write_pending ps s.tokens ≡ whole) none settles in
     subst (λ ps. ◌≡◌ {A = WriterState} (record { pending = ps; tokens = new.tokens }) whole) (sym left) (subst (λ ts. ◌≡◌ {A = WriterState} (record { pending = []; tokens = ts }) whole) (sym same) end)
 
 more_is : (nodes : List Node) → is_more nodes ≡ nat_lt 0 (length nodes)

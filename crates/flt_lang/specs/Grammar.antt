@@ -31,15 +31,17 @@ level operator.Or = 3
 level operator.And = 3
 level operator.ExclusiveOr = 3
 
--- the protocols that may stand alone, before a bracket, and before `broadcast` or `multicast`
+-- the protocols that may stand alone
 abbrev pub stands_alone : Protocol → Bool
 stands_alone protocol.Ether = false
 stands_alone _ = true
 
+-- the protocols that may stand before a bracket
 abbrev pub is_accessor : Protocol → Bool
 is_accessor protocol.Icmp6 = false
 is_accessor _ = true
 
+-- the protocols that may stand before `broadcast` or `multicast`
 abbrev pub has_casts : Protocol → Bool
 has_casts protocol.Ether = true
 has_casts protocol.Ip = true
@@ -92,7 +94,7 @@ pub data Truth : ℕ → List TokenKind → TruthTree → List TokenKind → Typ
   terms : {ts mid rest : List TokenKind} {a b : TruthTree} {j : Join}
       → Truth 1 ts a (token.Join j ∷ mid) → Truth 0 mid b rest → Truth 1 ts (joined j a b) rest
 
--- the whole of the tokens
+-- all of the tokens are read as this tree; without tokens it is the empty one
 pub data IsReadAs : List TokenKind → Expression → Type 0 where
   no_tokens : IsReadAs [] empty
   all_tokens : {ts : List TokenKind} {a : TruthTree} → Truth 1 ts a [] → IsReadAs ts (truth a)

@@ -6,29 +6,35 @@ use Rattle.flt_words.specs.declared.token.Token.{Token}
 use Rattle.flt_words.specs.declared.token.TokenKind.{TokenKind}
 use Rattle.flt_words.specs.declared.token.TokenKind.TheVariants as token
 
+-- `(` and `[`
 abbrev pub is_opening_kind : TokenKind → Bool
 is_opening_kind token.Open = true
 is_opening_kind token.OpenBracket = true
 is_opening_kind _ = false
 
+-- `)` and `]`
 abbrev pub is_closing_kind : TokenKind → Bool
 is_closing_kind token.Close = true
 is_closing_kind token.CloseBracket = true
 is_closing_kind _ = false
 
+-- `not`, and `-`, which may be a sign
 abbrev pub is_prefix_kind : TokenKind → Bool
 is_prefix_kind token.Not = true
 is_prefix_kind (token.Operator Subtract) = true
 is_prefix_kind _ = false
 
+-- the token opens a parenthesis or a bracket
 unfoldable pub is_opening : Token → Bool
 is_opening t = is_opening_kind t.kind
 
+-- the token closes a parenthesis or a bracket
 unfoldable pub is_closing : Token → Bool
 is_closing t = is_closing_kind t.kind
 
-unfoldable pub is_prefix : Token → Bool
-is_prefix t = is_prefix_kind t.kind
+-- the token is an operator that may stand before its operand
+unfoldable pub is_prefix_operator : Token → Bool
+is_prefix_operator t = is_prefix_kind t.kind
 
 -- some prefix has over 100 more `(` and `[` than `)` and `]`
 abbrev pub HasDeepFront : List Token → Type 0
@@ -38,7 +44,7 @@ HasDeepFront ts =
 -- 101 tokens `not` and `-` follow one another
 abbrev pub HasLongPrefix : List Token → Type 0
 HasLongPrefix ts =
-    (i : ℕ) × (i + 101 ≤ length ts) × (list_all is_prefix (take 101 (drop i ts)) ≡ true)
+    (i : ℕ) × (i + 101 ≤ length ts) × (list_all is_prefix_operator (take 101 (drop i ts)) ≡ true)
 
 -- what is refused as nested too deep
 abbrev pub IsTooDeep : List Token → Type 0

@@ -17,11 +17,13 @@ use Rattle.flt_ast.specs.declared.value.NetMask.TheVariants as mask
 use Rattle.flt_ast.specs.declared.value.Value.{Value}
 use Rattle.flt_ast.specs.declared.value.Value.TheVariants as value
 
+-- the tokens begin with this protocol or none, and these are left after it
 pub data ReadsProtocol : List TokenKind → Option Protocol → List TokenKind → Type 0 where
   no_protocol : {ts : List TokenKind} → ReadsProtocol ts None ts
   protocol : {p : Protocol} {ts : List TokenKind}
       → ReadsProtocol (token.Protocol p ∷ ts) (Some p) ts
 
+-- the tokens begin with this direction or none, and these are left after it
 pub data ReadsDirection : List TokenKind → Option Direction → List TokenKind → Type 0 where
   no_direction : {ts : List TokenKind} → ReadsDirection ts None ts
   one_side : {s : Side} {ts : List TokenKind}
@@ -33,10 +35,12 @@ pub data ReadsDirection : List TokenKind → Option Direction → List TokenKind
       → ReadsDirection (token.Side Destination ∷ token.Join j ∷ token.Side Source ∷ ts)
       (Some (direction.Both j)) ts
 
+-- the tokens begin with this type or none, and these are left after it
 pub data ReadsType : List TokenKind → Option ValueType → List TokenKind → Type 0 where
   no_type : {ts : List TokenKind} → ReadsType ts None ts
   of_type : {k : ValueType} {ts : List TokenKind} → ReadsType (token.ValueType k ∷ ts) (Some k) ts
 
+-- the tokens begin with these qualifiers, each written or not, and these are left after them
 pub data ReadsQualifiers : List TokenKind → Qualifiers → List TokenKind → Type 0 where
   qualifiers : {ts mid later rest : List TokenKind}
       {p : Option Protocol} {d : Option Direction} {k : Option ValueType}
@@ -47,6 +51,7 @@ pub data ReadsQualifiers : List TokenKind → Qualifiers → List TokenKind → 
 abbrev pub is_written : Qualifiers → Bool
 is_written q = is_some q.protocol || is_some q.direction || is_some q.value_type
 
+-- the tokens begin with this mask or none, and these are left after it
 pub data ReadsMask : List TokenKind → NetMask → List TokenKind → Type 0 where
   no_mask : {ts : List TokenKind} → ReadsMask ts mask.Unwritten ts
   prefix : {m : ℕ} {ts : List TokenKind}
@@ -55,6 +60,7 @@ pub data ReadsMask : List TokenKind → NetMask → List TokenKind → Type 0 wh
       → ReadsMask (token.Mask ∷ token.Dotted a p ∷ ts)
       (mask.Mask (record { address = a; parts = p })) ts
 
+-- the tokens begin with this value, and these are left after it
 pub data ReadsValue : List TokenKind → Value → List TokenKind → Type 0 where
   number : {n : ℕ} {ts rest : List TokenKind} {m : NetMask} → ReadsMask ts m rest
       → ReadsValue (token.Number n ∷ ts) (value.Number n m) rest

@@ -24,18 +24,22 @@ pub record IsDottedAddress (address parts : ℕ) : Type 0 where
   pub small : address < 2 ^ 32
   pub missing : address % 256 ^ (4 - parts) ≡ 0
 
+-- the parts of an IPv4 address are those that some word means
 abbrev pub IsWritableDotted : Dotted → Type 0
 IsWritableDotted d = IsDottedAddress d.address d.parts
 
+-- the mask of a network is one that some text means
 abbrev pub IsWritableMask : NetMask → Type 0
 IsWritableMask mask.Unwritten = Unit {0}
 IsWritableMask (mask.Prefix n) = n < 2 ^ 32
 IsWritableMask (mask.Mask d) = IsWritableDotted d
 
+-- the length of a prefix is a number that some word means
 abbrev pub IsWritablePrefix : Option ℕ → Type 0
 IsWritablePrefix None = Unit {0}
 IsWritablePrefix (Some n) = n < 2 ^ 32
 
+-- the value is one that some text means
 abbrev pub IsWritableValue : Value → Type 0
 IsWritableValue (value.Number n m) = (n < 2 ^ 32) × IsWritableMask m
 IsWritableValue (value.Dotted d m) = IsWritableDotted d × IsWritableMask m
@@ -43,7 +47,8 @@ IsWritableValue (value.Ip6 a n) = (a < 2 ^ 128) × IsWritablePrefix n
 IsWritableValue (value.Mac a) = a < 2 ^ 48
 IsWritableValue (value.Range a b) = (a < 2 ^ 32) × (b < 2 ^ 32)
 
--- an accessor has a protocol that may stand before a bracket
+-- the number is one that some text means: an accessor has a protocol that may stand before a
+-- bracket
 abbrev pub IsWritableNumber : NumberTree → Type 0
 IsWritableNumber (literal n) = n < 2 ^ 32
 IsWritableNumber len = Unit {0}
@@ -52,7 +57,8 @@ IsWritableNumber (load p s a) = (is_accessor p ≡ true) × (s < 2 ^ 32) × IsWr
 IsWritableNumber (negated a) = IsWritableNumber a
 IsWritableNumber (applied o a b) = IsWritableNumber a × IsWritableNumber b
 
--- and so for a check, and before `broadcast`
+-- the truth is one that some text means: a protocol stands alone, or before `broadcast`, only where
+-- it may
 abbrev pub IsWritableTruth : TruthTree → Type 0
 IsWritableTruth (check p) = stands_alone p ≡ true
 IsWritableTruth (cast None c) = Unit {0}
@@ -65,6 +71,7 @@ IsWritableTruth (compared c a b) = IsWritableNumber a × IsWritableNumber b
 IsWritableTruth (denied a) = IsWritableTruth a
 IsWritableTruth (joined j a b) = IsWritableTruth a × IsWritableTruth b
 
+-- the tree is one that some text can have
 abbrev pub IsWritable : Expression → Type 0
 IsWritable empty = Unit {0}
 IsWritable (truth a) = IsWritableTruth a

@@ -3,14 +3,14 @@
 //!
 //! Everywhere `is_operand` is whether a node is an operand of another one: then it has parentheses
 //! around it, unless it is one token or an accessor. Each `write_..` writes before what is written
-//! already, so the end of a text comes first.
+//! already, so the end of a text comes first. An error is always a failed allocation.
 
 ghost use Rattle.std.specs.Prelude.{◌≡◌, [], ◌∷◌, IfNone, IfOk, IfSome, OnOk, true};
 ghost use Rattle.flt_ast.specs.declared.node.Node.TheVariants as node;
 ghost use Rattle.flt_lang.specs.Explained.{close_operand, open_operand, mask_tokens, prefix_tokens};
 ghost use Rattle.flt_lang.specs.Explained.{value_tokens, protocol_tokens, direction_tokens};
 ghost use Rattle.flt_lang.specs.Explained.{written_tokens, qualifier_tokens};
-ghost use Rattle.flt_lang.specs.inside.Backward.{settle, around, write_node};
+ghost use Rattle.flt_lang.specs.inside.Backward.{write_pending, around, write_node};
 
 use flt_ast::{CompleteQualifiers, Direction, NetMask, Node, Qualifiers, Value};
 use flt_words::{Cast, Operator, Protocol, Side, TokenKind, ValueType};
@@ -88,10 +88,11 @@ impl<A: Allocator> Writer<A> {
         self.pending.pop()
     }
 
-    /// Once an operand is complete: writes what waits in front of it, up to and with what stands
-    /// between it and an operand on its left, which is written next.
-    fn settle(&mut self) -> Result<(), AllocError>
-        ensures { OnOk result (self.new ≡ settle self.old.pending self.old.tokens) }
+    /// Writes what waits for an operand that is complete now: what stands in front of it, up to and
+    /// with what stands between it and an operand on its left, which is written next. Without such
+    /// an operand nothing waits any more.
+    fn write_pending(&mut self) -> Result<(), AllocError>
+        ensures { OnOk result (self.new ≡ write_pending self.old.pending self.old.tokens) }
     {
         while let Some(pending) = self.pop_pending() {
             match pending {
@@ -129,8 +130,9 @@ impl<A: Allocator> Writer<A> {
         Ok(())
     }
 
-    /// Begins a node with operands, which are written next: what stands before or between them
-    /// waits. Of a node that is an operand itself the `)` is written, and the `(` waits too.
+    /// Begins a node with operands, which are written next: `pending`, what stands before or
+    /// between them, waits. Of a node that is an operand itself the `)` is written, and the `(`
+    /// waits too.
     fn begin_operator(&mut self, is_operand: bool, pending: Pending) -> Result<(), AllocError>
         ensures { OnOk result (self.new ≡ around is_operand pending self.old) }
     {
@@ -141,7 +143,7 @@ impl<A: Allocator> Writer<A> {
         self.push_pending(pending)
     }
 
-    /// Writes `/ N` after an IPv6 address, if it has a length of a prefix.
+    /// Writes `/ N` after an IPv6 address, if the length of its prefix is written.
     fn write_prefix_len(&mut self, len: Option<u32>) -> Result<(), AllocError>
         ensures tokens { OnOk result (self.new.tokens ≡ prefix_tokens len self.old.tokens) }
         ensures pending { OnOk result (self.new.pending ≡ self.old.pending) }
@@ -260,10 +262,11 @@ impl<A: Allocator> Writer<A> {
 impl<A: Allocator> Writer<A> {
     /// Writes a node of one token, which needs no parentheses, and then what waited for it.
     fn write_word(&mut self, token: TokenKind) -> Result<(), AllocError>
-        ensures { OnOk result (self.new ≡ settle self.old.pending (token ∷ self.old.tokens)) }
+        ensures { OnOk result
+            (self.new ≡ write_pending self.old.pending (token ∷ self.old.tokens)) }
     {
         self.push_token(token)?;
-        self.settle()
+        self.write_pending()
     }
 
     /// Writes a node of two tokens, and then what waited for it.
@@ -273,14 +276,14 @@ impl<A: Allocator> Writer<A> {
         first: TokenKind,
         last: TokenKind,
     ) -> Result<(), AllocError>
-        ensures { OnOk result (self.new ≡ settle self.old.pending
+        ensures { OnOk result (self.new ≡ write_pending self.old.pending
             (open_operand is_operand (first ∷ last ∷ close_operand is_operand self.old.tokens))) }
     {
         self.close_parentheses(is_operand)?;
         self.push_token(last)?;
         self.push_token(first)?;
         self.open_parentheses(is_operand)?;
-        self.settle()
+        self.write_pending()
     }
 
     /// Writes `broadcast` or `multicast`, with its protocol if it has one, and then what waited for
@@ -304,17 +307,19 @@ impl<A: Allocator> Writer<A> {
         }
     }
 
-    /// Writes a value that has no qualifiers yet, and then what waited for it.
+    /// Writes a value with nothing before it, of a tree that isn't resolved, and then what waited
+    /// for it.
     fn write_bare(&mut self, is_operand: bool, value: Value) -> Result<(), AllocError>
         ensures { OnOk result (self.new ≡ write_node is_operand (node.Bare value) self.old) }
     {
         self.close_parentheses(is_operand)?;
         self.write_value(value)?;
         self.open_parentheses(is_operand)?;
-        self.settle()
+        self.write_pending()
     }
 
-    /// Writes a value with the qualifiers that its text had, and then what waited for it.
+    /// Writes a value with the qualifiers that its text had, of a tree that isn't resolved, and
+    /// then what waited for it.
     fn write_valued(
         &mut self,
         is_operand: bool,
@@ -328,10 +333,11 @@ impl<A: Allocator> Writer<A> {
         self.write_value(value)?;
         self.write_given_qualifiers(qualifiers)?;
         self.open_parentheses(is_operand)?;
-        self.settle()
+        self.write_pending()
     }
 
-    /// Writes a value with all its qualifiers, and then what waited for it.
+    /// Writes a value with all its qualifiers, as it is in a resolved tree, and then what waited
+    /// for it.
     fn write_qualified(
         &mut self,
         is_operand: bool,
@@ -345,11 +351,11 @@ impl<A: Allocator> Writer<A> {
         self.write_value(value)?;
         self.write_qualifiers(qualifiers)?;
         self.open_parentheses(is_operand)?;
-        self.settle()
+        self.write_pending()
     }
 
     /// Writes `:size]` of an accessor `protocol[index:size]`; the index is next, and `protocol[`
-    /// waits for it.
+    /// waits for it. An accessor is always an operand, and has no parentheses.
     fn write_load(&mut self, protocol: Protocol, size: u32) -> Result<(), AllocError>
         ensures { OnOk result (self.new ≡ write_node true (node.Load protocol size) self.old) }
     {
@@ -360,8 +366,8 @@ impl<A: Allocator> Writer<A> {
         self.push_pending(Pending::Front(TokenKind::OpenBracket))
     }
 
-    /// Writes a node before those that are written. Its operands are the nodes that are written
-    /// next: up to them only its end is written, and the rest waits.
+    /// Writes a node before those that are written. If it has operands, these are the nodes that
+    /// are written next: only what stands after them is written now, and the rest waits.
     pub(crate) fn write_node(&mut self, is_operand: bool, node: Node) -> Result<(), AllocError>
         ensures { OnOk result (self.new ≡ write_node is_operand node self.old) }
     {
@@ -403,7 +409,7 @@ impl<A: Allocator> Writer<A> {
         }
     }
 
-    /// The tokens, in the order of the text.
+    /// The tokens that are written, in the order of the text.
     pub(crate) fn into_tokens(self) -> Vec<TokenKind, A>
         ensures { result.items ≡ self.tokens }
     {

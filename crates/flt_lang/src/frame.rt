@@ -27,23 +27,29 @@ use flt_words::{Comparison, Join, Operator, Protocol, TokenKind};
 /// What waits for an operand on its right, or for its closing token.
 #[derive(Clone, Copy)]
 pub enum Frame {
+    /// A sign `-`.
     Negate,
+    /// An operator between two numbers.
     Apply(Operator),
     Compare(Comparison),
     Not,
+    /// `and` or `or`.
     Join(Join),
+    /// A parenthesis.
     Open,
+    /// An accessor, as `tcp[`, up to its bracket.
     Load(Protocol),
 }
 
-/// An operand that was just read. The nodes of a truth and of a number are written. The others may
-/// still become either: a plain number, which may also begin a longer value, and a number
-/// in parentheses or with the length of a prefix after it.
+/// An operand that was just read. The nodes of a truth and of a number are written. The other two
+/// may still become either.
 #[derive(Clone, Copy)]
 pub enum Operand {
     Truth,
     Number,
+    /// A number, which may also begin a longer value.
     Plain(u32),
+    /// A number in parentheses, or with the length of a prefix after it, which is the second one.
     Either(u32, Option<u32>),
 }
 
@@ -92,8 +98,8 @@ impl Frame {
         }
     }
 
-    /// The frame's node, and what that makes of its operands. A parenthesis and an accessor have
-    /// none here: a token closes them.
+    /// The frame's node, and what that makes of its operands. `None` for a parenthesis and an
+    /// accessor: a token closes them.
     pub fn node(self) -> Option<(Node, Operand)>
         ensures { result ≡ node_of self }
     {

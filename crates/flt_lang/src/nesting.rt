@@ -2,7 +2,7 @@
 //! docs/FILTER.md has it. It is tested before anything is read.
 
 ghost use Rattle.std.specs.Prelude.{◌≡◌, ◌↔◌, IsTrue};
-ghost use Rattle.flt_lang.specs.Nesting.{is_opening, is_closing, is_prefix, HasDeepFront};
+ghost use Rattle.flt_lang.specs.Nesting.{is_opening, is_closing, is_prefix_operator, HasDeepFront};
 ghost use Rattle.flt_lang.specs.Nesting.{HasLongPrefix, IsTooDeep};
 
 use flt_words::{Operator, Token, TokenKind};
@@ -31,11 +31,11 @@ fn is_closing(token: &Token) -> bool
     matches!(token.kind, TokenKind::Close | TokenKind::CloseBracket)
 }
 
-/// Whether a token may stand many times before one operand: `not` and the sign `-`. A `-` between
-/// two operands is the same token and counts too.
-#[tactic(auto, unfolding(crate::specs::Nesting::is_prefix))]
-fn is_prefix(token: &Token) -> bool
-    ensures { result ≡ is_prefix token.now }
+/// Whether a token is an operator that may stand before its operand, and so many times in a row:
+/// `not` and the sign `-`. A `-` between two operands is the same token and counts too.
+#[tactic(auto, unfolding(crate::specs::Nesting::is_prefix_operator))]
+fn is_prefix_operator(token: &Token) -> bool
+    ensures { result ≡ is_prefix_operator token.now }
 {
     matches!(
         token.kind,
@@ -70,7 +70,7 @@ fn has_long_prefix(tokens: &[Token]) -> bool
 {
     let mut run: usize = 0;
     for token in tokens {
-        run = if is_prefix(token) { run + 1 } else { 0 };
+        run = if is_prefix_operator(token) { run + 1 } else { 0 };
         if run > 100 {
             return true;
         }

@@ -43,7 +43,8 @@ fn is_opposite(first: Side, second: Side) -> bool
     )
 }
 
-/// The join of `src or dst` or `src and dst`, in either order of the sides: three tokens.
+/// The join of `src or dst` or `src and dst`, in either order of the sides, if tokens begin with
+/// these three.
 fn read_both_sides(tokens: &[Token]) -> Option<Join>
     ensures value { result ≡ both_of (kinds_of tokens.now) }
     ensures within { IfSome result (λ _. 2 < length tokens.now) }
@@ -89,18 +90,19 @@ fn read_qualifiers(tokens: &[Token]) -> (Qualifiers, usize)
     ensures rest { kinds_of (drop result.1 tokens.now) ≡ (qualifiers_of (kinds_of tokens.now)).1 }
     ensures within { result.1 ≤ length tokens.now }
 {
-    let (protocol, a) = read_protocol(tokens);
-    let (direction, b) = read_direction(&tokens[a..]);
-    let (value_type, c) = read_type(&tokens[a + b..]);
+    let (protocol, first) = read_protocol(tokens);
+    let (direction, second) = read_direction(&tokens[first..]);
+    let (value_type, third) = read_type(&tokens[first + second..]);
     let qualifiers = Qualifiers {
         protocol,
         direction,
         value_type,
     };
-    (qualifiers, a + b + c)
+    (qualifiers, first + second + third)
 }
 
-/// `/ N` or `mask D`, if tokens begin with it, and how many tokens it takes: 2 or 0.
+/// What follows the address of a network: `/ N` or `mask D`, if tokens begin with it, and how many
+/// tokens it takes: 2 or 0.
 fn read_mask(tokens: &[Token]) -> (NetMask, usize)
     ensures value { result.0 ≡ (mask_of (kinds_of tokens.now)).0 }
     ensures rest { kinds_of (drop result.1 tokens.now) ≡ (mask_of (kinds_of tokens.now)).1 }
@@ -117,7 +119,8 @@ fn read_mask(tokens: &[Token]) -> (NetMask, usize)
     }
 }
 
-/// The `N` of `/ N`, if tokens begin with it, and how many tokens it takes: 2 or 0.
+/// The length of a prefix of IPv6, the `N` of `/ N`, if tokens begin with it, and how many tokens
+/// it takes: 2 or 0.
 fn read_prefix_len(tokens: &[Token]) -> (Option<u32>, usize)
     ensures value { result.0 ≡ (prefix_of (kinds_of tokens.now)).0 }
     ensures rest { kinds_of (drop result.1 tokens.now) ≡ (prefix_of (kinds_of tokens.now)).1 }

@@ -2,32 +2,35 @@
 
 ghost use Rattle.std.specs.Prelude.{◌≡◌, ◌⊎◌, ◌<◌, length};
 ghost use Rattle.flt_lang.specs.Grammar.{stands_alone, is_accessor, has_casts, kinds_of};
-ghost use Rattle.flt_lang.specs.inside.Parser.{opening_of};
+ghost use Rattle.flt_lang.specs.inside.Parser.{protocol_role};
 
 use crate::primitive::kind_at;
 use flt_words::{Cast, Protocol, Token, TokenKind};
 
-/// What the token after a protocol makes of it.
+/// What a protocol is there for, by the token after it.
 #[derive(Clone, Copy)]
-pub enum Opening {
+pub enum ProtocolRole {
+    /// It begins an accessor.
     Bracket,
+    /// It stands before `broadcast` or `multicast`.
     Cast(Cast),
+    /// It stands alone, or before a value.
     Other,
 }
 
-/// What the second of the tokens makes of the first one, a protocol. It only looks, and takes none.
-pub fn read_opening(tokens: &[Token]) -> Opening
-    ensures value { result ≡ opening_of (kinds_of tokens.now) }
-    ensures within { (result ≡ Opening.Other) ⊎ (1 < length tokens.now) }
+/// What the first of the tokens, a protocol, is there for, by the second one. None is taken.
+pub fn protocol_role(tokens: &[Token]) -> ProtocolRole
+    ensures value { result ≡ protocol_role (kinds_of tokens.now) }
+    ensures within { (result ≡ ProtocolRole.Other) ⊎ (1 < length tokens.now) }
 {
     match kind_at(tokens, 1) {
-        Some(TokenKind::OpenBracket) => Opening::Bracket,
-        Some(TokenKind::Cast(cast)) => Opening::Cast(cast),
-        _ => Opening::Other,
+        Some(TokenKind::OpenBracket) => ProtocolRole::Bracket,
+        Some(TokenKind::Cast(cast)) => ProtocolRole::Cast(cast),
+        _ => ProtocolRole::Other,
     }
 }
 
-/// Whether a protocol may stand alone: `ether` may not.
+/// Whether a protocol may stand alone, as a test of its own: `ether` may not.
 pub fn stands_alone(protocol: Protocol) -> bool
     ensures { result ≡ stands_alone protocol }
 {
@@ -41,7 +44,7 @@ pub fn is_accessor(protocol: Protocol) -> bool
     !matches!(protocol, Protocol::Icmp6)
 }
 
-/// Whether a protocol may stand before `broadcast` or `multicast`.
+/// Whether a protocol may stand before `broadcast` or `multicast`: `ether`, `ip` and `ip6` may.
 pub fn has_casts(protocol: Protocol) -> bool
     ensures { result ≡ has_casts protocol }
 {

@@ -5,10 +5,10 @@ ghost use Rattle.std.specs.Prelude.{◌≡◌, ◌≤◌, ◌<◌, ◌∷◌, []
 ghost use Rattle.std.specs.Prelude.{MatchOption, OnOk, length, reverse, List, Some, None, Err};
 ghost use Rattle.std.specs.Prelude.{drop};
 ghost use Rattle.flt_lang.specs.inside.Parser.{IsLoose, precedence, operand_precedence};
-ghost use Rattle.flt_lang.specs.inside.Parser.{begin_at, protocol_begins, opening_of};
+ghost use Rattle.flt_lang.specs.inside.Parser.{begin_at, protocol_begins, protocol_role};
 ghost use Rattle.flt_lang.specs.inside.Parser.{number_primitive, sized_of, primitive, bare_of};
 ghost use Rattle.flt_lang.specs.inside.Parser.{one_node, with_frames, IsReadFault, as_number};
-ghost use Rattle.flt_lang.specs.inside.Parser.{as_truth, as_sort, prefix_mask, fill};
+ghost use Rattle.flt_lang.specs.inside.Parser.{as_truth, as_sort, prefix_mask, fill_frame};
 ghost use Rattle.flt_lang.specs.inside.Parser.{reduce, after_operator, after_load, accessor_size};
 ghost use Rattle.flt_lang.specs.inside.Parser.{after_close, after_token_at, number_with_prefix};
 ghost use Rattle.flt_lang.specs.inside.Parser.{after_operand, run, finish, nodes_of_tokens};
@@ -20,7 +20,7 @@ ghost use Rattle.flt_lang.specs.Grammar.{kinds_of};
 
 use crate::frame::{Frame, Operand, Sort, operand_precedence, token_precedence};
 use crate::primitive::{kind_at, read_value, read_valued};
-use crate::protocols::{Opening, has_casts, is_accessor, read_opening, stands_alone};
+use crate::protocols::{ProtocolRole, has_casts, is_accessor, protocol_role, stands_alone};
 use flt_ast::{Expr, NetMask, Node, Value};
 use flt_words::{ExprFault, Operator, Protocol, Token, TokenKind};
 use std::alloc::{AllocError, Allocator};
@@ -126,7 +126,8 @@ impl<A: Allocator> Reader<A> {
         }
     }
 
-    /// The expression of the nodes, which have to be those of a tree, as `read` leaves them.
+    /// The expression of the nodes that were read, which have to be those of a tree, as `read`
+    /// leaves them.
     pub fn into_expr(self) -> Expr<A>
         requires { IsTree (reverse self.nodes) }
         ensures { result ≡ tree_of (reverse self.nodes) }
@@ -227,24 +228,24 @@ impl<A: Allocator> Reader<A> {
         tokens: &[Token],
     ) -> Result<(usize, Option<Operand>), ExprFault>
         ensures ok { IfOk result (λ r. protocol_begins protocol
-            (opening_of (kinds_of tokens.now)) (kinds_of tokens.now)
+            (protocol_role (kinds_of tokens.now)) (kinds_of tokens.now)
             self.old.frames self.old.nodes
             ≡ Some (r.0, (self.new.frames, r.1, self.new.nodes))) }
         ensures within { IfOk result (λ r. r.0 < length tokens.now) }
         ensures none { result ≡ Err ExprFault.NotAnExpression
-            → protocol_begins protocol (opening_of (kinds_of tokens.now)) (kinds_of tokens.now)
+            → protocol_begins protocol (protocol_role (kinds_of tokens.now)) (kinds_of tokens.now)
             self.old.frames self.old.nodes ≡ None }
         ensures err { IfErr result IsReadFault }
     {
-        match read_opening(tokens) {
-            Opening::Bracket if is_accessor(protocol) => {
+        match protocol_role(tokens) {
+            ProtocolRole::Bracket if is_accessor(protocol) => {
                 self.push_frame(Frame::Load(protocol))?;
                 Ok((1, None))
             }
-            Opening::Cast(cast) if has_casts(protocol) => {
+            ProtocolRole::Cast(cast) if has_casts(protocol) => {
                 self.write_primitive(Some((Node::Cast(Some(protocol), cast), 1)))
             }
-            Opening::Other => self.write_primitive(read_primitive(tokens)),
+            ProtocolRole::Other => self.write_primitive(read_primitive(tokens)),
             _ => Err(ExprFault::NotAnExpression),
         }
     }
@@ -315,7 +316,8 @@ impl<A: Allocator> Reader<A> {
         }
     }
 
-    /// Makes an operand one of this sort, by `write_truth` or `write_number`.
+    /// Makes an operand one of this sort, by `write_truth` or `write_number`, with errors as of
+    /// these.
     fn write_operand(&mut self, sort: Sort, operand: Operand) -> Result<(), ExprFault>
         ensures ok { OnOk result (as_sort sort operand self.old.nodes ≡ Some self.new.nodes) }
         ensures frames { OnOk result (self.new.frames ≡ self.old.frames) }
@@ -329,14 +331,15 @@ impl<A: Allocator> Reader<A> {
         }
     }
 
-    /// Writes the node of a frame after its operand, of the sort that it takes. Returns what the
-    /// two are. `NotAnExpression` for `(` and accessors, which only their closing token completes.
-    fn fill(&mut self, frame: Frame, operand: Operand) -> Result<Operand, ExprFault>
+    /// Completes a frame with its last operand, of the sort that it takes: writes the frame's node
+    /// after it. Returns the operand that the two are together. `NotAnExpression` for `(` and
+    /// accessors, which only their closing token completes, and for an operand of the other sort.
+    fn fill_frame(&mut self, frame: Frame, operand: Operand) -> Result<Operand, ExprFault>
         ensures ok { IfOk result (λ x.
-            fill frame operand self.old.nodes ≡ Some (x, self.new.nodes)) }
+            fill_frame frame operand self.old.nodes ≡ Some (x, self.new.nodes)) }
         ensures frames { IfOk result (λ _. self.new.frames ≡ self.old.frames) }
         ensures none { result ≡ Err ExprFault.NotAnExpression
-            → fill frame operand self.old.nodes ≡ None }
+            → fill_frame frame operand self.old.nodes ≡ None }
         ensures err { IfErr result IsReadFault }
     {
         let Some((node, whole)) = frame.node() else {
@@ -347,8 +350,9 @@ impl<A: Allocator> Reader<A> {
         Ok(whole)
     }
 
-    /// Writes the nodes of the frames that bind at least as tightly as `limit`, the latest first,
-    /// and takes these frames off. Returns what they make of the operand.
+    /// Completes the frames that bind at least as tightly as `limit`, the latest first, and takes
+    /// them off. Returns what they make of the operand. `NotAnExpression` where one of them takes
+    /// no operand of its sort.
     #[tactic(auto, using(crate::proofs::Reducing::reducing))]
     fn reduce(&mut self, operand: Operand, limit: u8) -> Result<Operand, ExprFault>
         ensures ok { IfOk result (λ x. reduce limit self.old.frames operand self.old.nodes
@@ -359,7 +363,7 @@ impl<A: Allocator> Reader<A> {
     {
         let mut operand = operand;
         while let Some(frame) = self.pop_tight_frame(limit) {
-            operand = self.fill(frame, operand)?;
+            operand = self.fill_frame(frame, operand)?;
         }
         Ok(operand)
     }
@@ -387,8 +391,8 @@ impl<A: Allocator> Reader<A> {
         Ok((0, None))
     }
 
-    /// Closes a parenthesis: the latest frame has to be one. A plain number in it, also one with
-    /// `/ N`, may still become either sort.
+    /// Closes a parenthesis: `NotAnExpression` where the latest frame is none. A plain number in
+    /// it, also one with `/ N`, may still become either sort.
     fn close_parenthesis(&mut self, operand: Operand) -> Result<(usize, Option<Operand>), ExprFault>
         ensures ok { IfOk result (λ r. after_close self.old.frames operand self.old.nodes
             ≡ Some (r.0, (self.new.frames, r.1, self.new.nodes))) }
@@ -406,7 +410,7 @@ impl<A: Allocator> Reader<A> {
     /// Closes a bracket: the accessor that waits takes its index, and reads `size` bytes there.
     /// `more` tokens more than one are used up. `NotAnExpression` where no accessor waits, or the
     /// index is a truth.
-    fn end_load(
+    fn close_bracket(
         &mut self,
         operand: Operand,
         more: usize,
@@ -429,10 +433,11 @@ impl<A: Allocator> Reader<A> {
         }
     }
 
-    /// Reads the token `first` after an operand that no tighter frame takes, with the size of an
-    /// accessor where it is its colon: how many more than this one are used up, and the operand, if
-    /// one is complete.
-    fn place_token(
+    /// Reads the token `first` after an operand that no tighter frame takes: an operator, whose
+    /// frame waits for its right operand, or what closes a parenthesis or a bracket, with the size
+    /// of an accessor where it is its colon. Returns how many tokens more than this one are used
+    /// up, and the operand, if one is complete. `NotAnExpression` for other tokens.
+    fn shift_or_close(
         &mut self,
         operand: Operand,
         first: TokenKind,
@@ -455,18 +460,19 @@ impl<A: Allocator> Reader<A> {
             TokenKind::Join(join) => self.shift_operator(Frame::Join(join), operand),
             TokenKind::Close => self.close_parenthesis(operand),
             // An accessor without a size reads one byte.
-            TokenKind::CloseBracket => self.end_load(operand, 0, 1),
+            TokenKind::CloseBracket => self.close_bracket(operand, 0, 1),
             // The size and the bracket are two tokens.
             TokenKind::Colon => match read_size(rest) {
-                Some(size) => self.end_load(operand, 2, size),
+                Some(size) => self.close_bracket(operand, 2, size),
                 None => Err(ExprFault::NotAnExpression),
             },
             _ => Err(ExprFault::NotAnExpression),
         }
     }
 
-    /// Reads the tokens after an operand, or `/ N` after a number, of which `first` is the first:
-    /// how many more than this one are used up, and the operand, if one is complete.
+    /// Reads what follows an operand, a token or the two of `/ N` after a number, of which `first`
+    /// is the first: how many tokens more than this one are used up, and the operand, if one is
+    /// complete. `NotAnExpression` where these tokens can't follow it.
     fn read_after_operand(
         &mut self,
         operand: Operand,
@@ -490,13 +496,14 @@ impl<A: Allocator> Reader<A> {
             }
             _ => {
                 let reduced = self.reduce(operand, token_precedence(first))?;
-                self.place_token(reduced, first, rest)
+                self.shift_or_close(reduced, first, rest)
             }
         }
     }
 
     /// Reads at least one token: how many, and the operand that was read last, if it is complete.
-    /// `operand` is what the step before returned of it.
+    /// `operand` is what the step before returned of it. `NotAnExpression` where no expression goes
+    /// on so.
     fn step(
         &mut self,
         operand: Option<Operand>,
@@ -528,8 +535,9 @@ impl<A: Allocator> Reader<A> {
         }
     }
 
-    /// After the last token, which is as a closing one (precedence 8): what is left has to be one
-    /// truth, with nothing that waits.
+    /// After the last token, where the end is as a closing one (precedence 8): the frames that wait
+    /// are completed, and one truth has to be left. `NotAnExpression` where none or a number is, or
+    /// a parenthesis or bracket is open.
     fn finish(&mut self, operand: Option<Operand>) -> Result<(), ExprFault>
         ensures ok { OnOk result (finish operand self.old.frames self.old.nodes
             ≡ Some self.new.nodes) }
@@ -616,7 +624,7 @@ fn read_bare(tokens: &[Token]) -> Option<(Node, usize)>
     Some((Node::Bare(value), used - 1))
 }
 
-/// The mask of a network's number by the length of a prefix after it, or where none is written.
+/// The mask of a network's number, by the length of a prefix if one is written after it.
 fn prefix_mask(len: Option<u32>) -> NetMask
     ensures { result ≡ prefix_mask len }
 {

@@ -13,8 +13,8 @@ use flt_words::{Cast, Comparison, Join, Operator, Protocol, Side, Size, TokenKin
 use std::alloc::{AllocError, Allocator};
 use std::fmt::Write;
 
-/// What a token follows, as far as its spelling goes by it: the number 1 has two names, and in
-/// `icmp[..]` it is `icmpcode`.
+/// What stands before a token, as far as the token's spelling goes by it: the number 1 has two
+/// names, and in `icmp[..]` it is `icmpcode`.
 #[derive(Clone, Copy)]
 pub enum Following {
     /// `icmp`.
@@ -160,7 +160,8 @@ fn push_name<A: Allocator>(
     }
 }
 
-/// Appends the first two or three parts of an IPv4 address, or with other `parts` all four.
+/// Appends the first two or three parts of an IPv4 address in decimal, with points between them, or
+/// with other `parts` all four.
 #[tactic(auto, unfolding(crate::specs::Texts::dotted_word))]
 fn push_dotted<A: Allocator>(
     text: &mut String<A>,
@@ -252,7 +253,7 @@ fn push_ip6<A: Allocator>(text: &mut String<A>, address: u128) -> Result<(), All
     push_four_groups(text, address % 0x1_0000_0000_0000_0000)
 }
 
-/// Appends the spelling of a token. What it follows makes a difference only for a name.
+/// Appends the spelling of a token. What stands before it makes a difference only for a name.
 fn push_token<A: Allocator>(
     text: &mut String<A>,
     following: Following,
@@ -288,8 +289,8 @@ fn push_token<A: Allocator>(
 }
 
 impl Following {
-    /// What the token after `token` follows, where `token` itself follows this: after `icmp`, after
-    /// the `[` of `icmp[`, or another token.
+    /// What stands before the token after `token`, where `self` stands before `token`: `icmp`, the
+    /// `[` of `icmp[`, or another token.
     fn next(self, token: TokenKind) -> Following
         ensures { result ≡ next_after self token }
     {
@@ -328,8 +329,8 @@ fn joins_previous(token: TokenKind) -> bool
     )
 }
 
-/// What stands between a token and the one after it: a blank, or nothing where one of both joins
-/// the other or no token is left.
+/// What stands between a token and the next one, the first of `rest`: a blank, or nothing where one
+/// of both joins the other or no token is left.
 fn gap(token: TokenKind, rest: &[TokenKind]) -> &'static str
     ensures { result.now ≡ gap token rest.now }
 {

@@ -42,7 +42,8 @@ fn sum_of_arithmetic_nodes(nodes: &[Node]) -> u128
     sum
 }
 
-/// The most numbers that wait at once to be operands; 1 where none does, for `words_in`.
+/// The most numbers that wait at once to be operands; 1 where none does, since `words_in` subtracts
+/// 1.
 fn most_waiting(nodes: &[Node]) -> usize
     ensures { result ≡ (fold climb (0, 1) nodes.now).1 }
 {
@@ -93,7 +94,7 @@ pub(crate) fn tests_in<A: Allocator>(expr: &Expr<A>) -> u128
     sum_of_tests(&expr.nodes)
 }
 
-/// How many nodes the arithmetic of an expression has.
+/// How many nodes the arithmetic of an expression has: `less` and `greater` count 2, as `len <= N`.
 #[tactic(auto, using(crate::proofs::Counting::arithmetic_nodes_whole))]
 pub(crate) fn nodes_in<A: Allocator>(expr: &Expr<A>) -> u128
     ensures count { result ≡ nodes_of expr.now }
@@ -102,7 +103,8 @@ pub(crate) fn nodes_in<A: Allocator>(expr: &Expr<A>) -> u128
     sum_of_arithmetic_nodes(&expr.nodes)
 }
 
-/// How many of the machine's words of memory hold left sides while right sides are computed.
+/// How many of the machine's words of memory hold left sides at once at most, while right sides are
+/// computed.
 pub(crate) fn words_in<A: Allocator>(expr: &Expr<A>) -> usize
     ensures { result ≡ words_of expr.now }
 {

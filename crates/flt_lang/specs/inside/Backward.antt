@@ -16,27 +16,29 @@ pub record WriterState : Type 0 where
   pub pending : List Pending
   pub tokens : List TokenKind
 
--- an operand is written: what waits in front of it follows, up to the operand on its left
-abbrev pub settle : List Pending → List TokenKind → WriterState
-settle [] ts = record { pending = []; tokens = ts }
-settle (Front t ∷ ps) ts = settle ps (t ∷ ts)
-settle (Between t ∷ ps) ts = record { pending = ps; tokens = t ∷ ts }
+-- an operand is written: now also what waits in front of it, up to and with what stands between it
+-- and the operand on its left
+abbrev pub write_pending : List Pending → List TokenKind → WriterState
+write_pending [] ts = record { pending = []; tokens = ts }
+write_pending (Front t ∷ ps) ts = write_pending ps (t ∷ ts)
+write_pending (Between t ∷ ps) ts = record { pending = ps; tokens = t ∷ ts }
 
--- a parenthesis around an operand
+-- of a node that is an operand the `(` waits
 abbrev pub parenthesis_before : Bool → List Pending → List Pending
 parenthesis_before true ps = Front token.Open ∷ ps
 parenthesis_before false ps = ps
 
--- a node with operands: they are written next
+-- a node with operands, which are written next: what stands before or between them waits, and
+-- around it the parentheses of an operand
 abbrev pub around : Bool → Pending → WriterState → WriterState
 around operand p s =
     record { pending = p ∷ parenthesis_before operand s.pending; tokens = close_operand operand s.tokens }
 
--- a primitive
+-- a primitive is written, and what waits for it
 abbrev pub with_primitive : Bool → TruthTree → WriterState → WriterState
-with_primitive operand a s = settle s.pending (truth_tokens operand a s.tokens)
+with_primitive operand a s = write_pending s.pending (truth_tokens operand a s.tokens)
 
--- a node before those that are written
+-- a node is written before those that are written already; its operands come next
 abbrev pub write_node : Bool → Node → WriterState → WriterState
 write_node operand (node.Check p) s = with_primitive operand (check p) s
 write_node operand (node.Cast p c) s = with_primitive operand (cast p c) s
@@ -47,9 +49,9 @@ write_node operand (node.Qualified q v) s = with_primitive operand (qualified q 
 write_node operand (node.Compare c) s = around operand (Between (token.Comparison c)) s
 write_node operand node.Not s = around operand (Front token.Not) s
 write_node operand (node.Join j) s = around operand (Between (token.Join j)) s
-write_node operand (node.Literal n) s = settle s.pending (token.Number n ∷ s.tokens)
-write_node operand node.Len s = settle s.pending (token.Len ∷ s.tokens)
-write_node operand (node.Named n) s = settle s.pending (token.Name n ∷ s.tokens)
+write_node operand (node.Literal n) s = write_pending s.pending (token.Number n ∷ s.tokens)
+write_node operand node.Len s = write_pending s.pending (token.Len ∷ s.tokens)
+write_node operand (node.Named n) s = write_pending s.pending (token.Name n ∷ s.tokens)
 write_node operand (node.Load p z) s =
     record {
       pending = Front token.OpenBracket ∷ Front (token.Protocol p) ∷ s.pending;

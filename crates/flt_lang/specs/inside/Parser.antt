@@ -15,8 +15,8 @@ use Rattle.flt_ast.specs.declared.node.Node.{Node}
 use Rattle.flt_ast.specs.declared.node.Node.TheVariants as node
 use Rattle.flt_lang.specs.declared.frame.Frame.{Frame}
 use Rattle.flt_lang.specs.declared.frame.Frame.TheVariants as frame
-use Rattle.flt_lang.specs.declared.protocols.Opening.{Opening}
-use Rattle.flt_lang.specs.declared.protocols.Opening.TheVariants as opening
+use Rattle.flt_lang.specs.declared.protocols.ProtocolRole.{ProtocolRole}
+use Rattle.flt_lang.specs.declared.protocols.ProtocolRole.TheVariants as role
 use Rattle.flt_lang.specs.declared.frame.Operand.{Operand}
 use Rattle.flt_lang.specs.declared.frame.Operand.TheVariants as operand
 use Rattle.flt_lang.specs.declared.frame.Sort.{Sort}
@@ -29,11 +29,12 @@ pub record ReaderState : Type 0 where
   pub frames : List Frame
   pub nodes : List Node
 
+-- goes on with a value, if there is one
 infixl 10 ◌>>=◌
 abbrev pub ◌>>=◌ : {A B : Type 0} → Option A → (A → Option B) → Option B
 o >>= f = option_and_then f o
 
--- how loosely a frame binds its operand
+-- how loosely a frame binds its operand: 0 is the tightest
 abbrev pub precedence : Frame → ℕ
 precedence frame.Negate = 0
 precedence (frame.Apply o) = level o + 1
@@ -43,7 +44,8 @@ precedence (frame.Join j) = 7
 precedence frame.Open = 9
 precedence (frame.Load p) = 9
 
--- the loosest operand that the latest frame takes
+-- the precedence of the loosest operand that the latest frame takes; of a whole expression without
+-- one
 abbrev pub operand_precedence : List Frame → ℕ
 operand_precedence [] = 7
 operand_precedence (frame.Negate ∷ fs) = 0
@@ -64,6 +66,7 @@ token_precedence token.CloseBracket = 8
 token_precedence token.Colon = 8
 token_precedence _ = 1
 
+-- how loosely the next token binds the operand before it; the end is as a closing one
 abbrev pub next_precedence : List TokenKind → ℕ
 next_precedence [] = 8
 next_precedence (t ∷ ts) = token_precedence t
@@ -73,7 +76,7 @@ abbrev pub prefix_mask : Option ℕ → NetMask
 prefix_mask None = mask.Unwritten
 prefix_mask (Some m) = mask.Prefix m
 
--- the nodes once the operand is taken for a number, or for a truth
+-- the nodes once the operand is taken for a number, or none where it can't be one
 abbrev pub as_number : Operand → List Node → Option (List Node)
 as_number operand.Truth d = None
 as_number operand.Number d = Some d
@@ -82,16 +85,19 @@ as_number (operand.Either n None) d = Some (node.Literal n ∷ d)
 as_number (operand.Either n (Some m)) d =
     Some (node.Apply Divide ∷ node.Literal m ∷ node.Literal n ∷ d)
 
+-- the nodes once the operand is taken for a truth, or none where it can't be one
 abbrev pub as_truth : Operand → List Node → Option (List Node)
 as_truth operand.Truth d = Some d
 as_truth operand.Number d = None
 as_truth (operand.Plain n) d = Some (node.Bare (value.Number n mask.Unwritten) ∷ d)
 as_truth (operand.Either n m) d = Some (node.Bare (value.Number n (prefix_mask m)) ∷ d)
 
+-- the nodes once the operand is taken for one of this sort, or none where it can't be
 abbrev pub as_sort : Sort → Operand → List Node → Option (List Node)
 as_sort sort.Truth x d = as_truth x d
 as_sort sort.Number x d = as_number x d
 
+-- an operand that is read, and the nodes so far
 abbrev pub Read : Type 0
 Read = Operand × List Node
 
@@ -119,18 +125,20 @@ node_of (frame.Join j) = Some (node.Join j, operand.Truth)
 node_of frame.Open = None
 node_of (frame.Load p) = None
 
--- what a frame makes of its operand
-abbrev pub fill : Frame → Operand → List Node → Option Read
-fill f x d = node_of f >>= λ w. after_node w.1 w.0 (as_sort (sort_of f) x d)
+-- a frame is completed with its last operand: the operand that the two are together, and the nodes;
+-- none where a token closes the frame, or the operand is of the other sort
+abbrev pub fill_frame : Frame → Operand → List Node → Option Read
+fill_frame f x d = node_of f >>= λ w. after_node w.1 w.0 (as_sort (sort_of f) x d)
 
+-- the frames that are left, the operand that the others made, and the nodes
 abbrev pub Reduced : Type 0
 Reduced = List Frame × Operand × List Node
 
--- the frames that bind at least as tightly as m take the operand
+-- the frames that bind at least as tightly as m are completed, the latest first
 abbrev pub reduce : ℕ → List Frame → Operand → List Node → Option Reduced
 reduce m [] x d = Some ([], x, d)
 reduce m (f ∷ fs) x d =
-    if nat_le (precedence f) m then (fill f x d >>= λ r. reduce m fs r.0 r.1)
+    if nat_le (precedence f) m then (fill_frame f x d >>= λ r. reduce m fs r.0 r.1)
     else Some (f ∷ fs, x, d)
 
 -- the latest frame binds more loosely than m
@@ -169,16 +177,17 @@ abbrev pub accessor_size : List TokenKind → Option ℕ
 accessor_size (token.Number n ∷ token.CloseBracket ∷ ts) = Some n
 accessor_size _ = None
 
+-- after the colon of an accessor: it is closed, if its size and bracket are there
 abbrev pub after_sized_load : Option ℕ → List Frame → Operand → List Node → Option Begun
 after_sized_load (Some n) fs x d = after_load 2 n fs x d
 after_sized_load None fs x d = None
 
--- a parenthesis takes its operand
+-- a parenthesis that waits is closed; none where none waits
 abbrev pub after_close : List Frame → Operand → List Node → Option Begun
 after_close (frame.Open ∷ fs) x d = Some (0, (fs, Some (enclosed_operand x), d))
 after_close _ x d = None
 
--- a token after an operand, and what comes after the token
+-- the state after a token that follows an operand, by the tokens after it too; none where it can't
 abbrev pub after_token_at : TokenKind → List TokenKind → List Frame → Operand → List Node
     → Option Begun
 after_token_at (token.Operator o) ts fs x d = after_operator (frame.Apply o) fs x d
@@ -189,10 +198,12 @@ after_token_at token.CloseBracket ts fs x d = after_load 0 1 fs x d
 after_token_at token.Colon ts fs x d = after_sized_load (accessor_size ts) fs x d
 after_token_at _ ts fs x d = None
 
+-- the state after the next token, which follows an operand
 abbrev pub after_token : List TokenKind → List Frame → Operand → List Node → Option Begun
 after_token [] fs x d = None
 after_token (t ∷ ts) fs x d = after_token_at t ts fs x d
 
+-- how many tokens more than one a primitive takes, its operand, and the nodes
 abbrev pub Primitive : Type 0
 Primitive = ℕ × Option Operand × List Node
 
@@ -202,11 +213,13 @@ valued_of ts =
     let q = qualifiers_of ts in
     value_of q.1 >>= λ r. Some (q.0, r.0, length ts - length r.1 - 1)
 
+-- a protocol alone
 abbrev pub check_of : List TokenKind → List Node → Option Primitive
 check_of (token.Protocol p ∷ ts) d =
     if stands_alone p then Some (0, Some operand.Truth, node.Check p ∷ d) else None
 check_of _ d = None
 
+-- this value with its qualifiers, or else a protocol alone
 abbrev pub valued_or : Option (Qualifiers × Value × ℕ) → List TokenKind → List Node
     → Option Primitive
 valued_or (Some r) ts d = Some (r.2, Some operand.Truth, node.Valued r.0 r.1 ∷ d)
@@ -230,34 +243,37 @@ one_node d (Some r) = Some (r.1, Some operand.Truth, r.0 ∷ d)
 abbrev pub with_frames : List Frame → Option Primitive → Option Begun
 with_frames fs o = o >>= λ r. Some (r.0, (fs, r.1, r.2))
 
--- what the token after a protocol makes of it
-abbrev pub opening_of : List TokenKind → Opening
-opening_of (t ∷ token.OpenBracket ∷ ts) = opening.Bracket
-opening_of (t ∷ token.Cast c ∷ ts) = opening.Cast c
-opening_of _ = opening.Other
+-- what a protocol is there for, by the token after it
+abbrev pub protocol_role : List TokenKind → ProtocolRole
+protocol_role (t ∷ token.OpenBracket ∷ ts) = role.Bracket
+protocol_role (t ∷ token.Cast c ∷ ts) = role.Cast c
+protocol_role _ = role.Other
 
--- where a protocol, a number and a size begin an operand
-abbrev pub protocol_begins : Protocol → Opening → List TokenKind → List Frame → List Node
+-- a protocol begins an operand: an accessor, a cast, or another primitive
+abbrev pub protocol_begins : Protocol → ProtocolRole → List TokenKind → List Frame → List Node
     → Option Begun
-protocol_begins p opening.Bracket ts fs d =
+protocol_begins p role.Bracket ts fs d =
     if is_accessor p then Some (1, (frame.Load p ∷ fs, None, d)) else None
-protocol_begins p (opening.Cast c) ts fs d =
+protocol_begins p (role.Cast c) ts fs d =
     if has_casts p then Some (1, (fs, Some operand.Truth, node.Cast (Some p) c ∷ d)) else None
-protocol_begins p opening.Other ts fs d = with_frames fs (primitive ts d)
+protocol_begins p role.Other ts fs d = with_frames fs (primitive ts d)
 
+-- a number begins an operand: a network's with `mask D`, or one that may become either sort
 abbrev pub number_primitive : List TokenKind → List Node → Option Primitive
 number_primitive (token.Number n ∷ token.Mask ∷ token.Dotted a p ∷ ts) d =
     bare_of (token.Number n ∷ token.Mask ∷ token.Dotted a p ∷ ts) d
 number_primitive (token.Number n ∷ ts) d = Some (0, Some (operand.Plain n), d)
 number_primitive _ d = None
 
+-- `less N` or `greater N`
 abbrev pub sized_of : List TokenKind → List Node → Option Primitive
 sized_of (token.Size s ∷ token.Number n ∷ ts) d = Some (1, Some operand.Truth, node.Sized s n ∷ d)
 sized_of _ d = None
 
--- a token where an operand begins, and the tokens from it on
+-- the state after the tokens where an operand begins, of which this one is the first; none where
+-- none begins so
 abbrev pub begin_at : TokenKind → List TokenKind → List Frame → List Node → Option Begun
-begin_at (token.Protocol p) ts fs d = protocol_begins p (opening_of ts) ts fs d
+begin_at (token.Protocol p) ts fs d = protocol_begins p (protocol_role ts) ts fs d
 begin_at (token.Side s) ts fs d = with_frames fs (primitive ts d)
 begin_at (token.ValueType k) ts fs d = with_frames fs (primitive ts d)
 begin_at (token.Cast c) ts fs d = Some (0, (fs, Some operand.Truth, node.Cast None c ∷ d))
@@ -275,11 +291,12 @@ begin_at (token.Operator Subtract) ts fs d = Some (0, (frame.Negate ∷ fs, None
 begin_at token.Open ts fs d = Some (0, (frame.Open ∷ fs, None, d))
 begin_at _ ts fs d = None
 
+-- the state after the tokens where an operand begins
 abbrev pub begin : List TokenKind → List Frame → List Node → Option Begun
 begin [] fs d = None
 begin (t ∷ ts) fs d = begin_at t (t ∷ ts) fs d
 
--- the number and the length of a prefix
+-- a plain number, and the length of a prefix that is written after it
 abbrev pub number_with_prefix : Operand → List TokenKind → Option (ℕ × ℕ)
 number_with_prefix (operand.Plain n) (token.Operator Divide ∷ token.Number m ∷ ts) = Some (n, m)
 number_with_prefix _ _ = None
@@ -288,6 +305,7 @@ number_with_prefix _ _ = None
 abbrev pub next_of : List TokenKind → List Frame → Operand → List Node → Option Begun
 next_of ts fs x d = reduce (next_precedence ts) fs x d >>= λ r. after_token ts r.0 r.1 r.2
 
+-- a number takes the length of a prefix, if the latest frame takes a quotient; else as any operand
 abbrev pub with_prefix : Option (ℕ × ℕ) → List TokenKind → List Frame → Operand → List Node
     → Option Begun
 with_prefix (Some p) ts fs x d =
@@ -299,6 +317,7 @@ with_prefix None ts fs x d = next_of ts fs x d
 abbrev pub after_operand : List TokenKind → List Frame → Operand → List Node → Option Begun
 after_operand ts fs x d = with_prefix (number_with_prefix x ts) ts fs x d
 
+-- the nodes of an operand that is a truth, and that no frame waits for
 abbrev pub whole : List Frame → Operand → List Node → Option (List Node)
 whole [] x d = as_truth x d
 whole (f ∷ fs) x d = None
@@ -308,7 +327,8 @@ abbrev pub finish : Option Operand → List Frame → List Node → Option (List
 finish None fs d = None
 finish (Some x) fs d = reduce 8 fs x d >>= λ r. whole r.0 r.1 r.2
 
--- the nodes of the whole, if it can be read; k tokens are used up already
+-- the nodes of the whole, if the tokens that are left can be read from this state; k of them are
+-- used up already
 abbrev pub run : List TokenKind → ℕ → List Frame → Option Operand → List Node → Option (List Node)
 run [] k fs x d = finish x fs d
 run (t ∷ ts) (suc k) fs x d = run ts k fs x d
@@ -316,7 +336,8 @@ run (t ∷ ts) zero fs None d = begin (t ∷ ts) fs d >>= λ r. run ts r.0 r.1.0
 run (t ∷ ts) zero fs (Some x) d =
     after_operand (t ∷ ts) fs x d >>= λ r. run ts r.0 r.1.0 r.1.1 r.1.2
 
--- no tokens have no nodes
+-- the nodes of the tree that tokens have, latest first, or none where they have no tree; no tokens
+-- have no nodes
 abbrev pub nodes_of_tokens : List TokenKind → Option (List Node)
 nodes_of_tokens [] = Some []
 nodes_of_tokens (t ∷ ts) = run (t ∷ ts) 0 [] None []

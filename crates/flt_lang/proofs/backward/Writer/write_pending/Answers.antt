@@ -1,6 +1,6 @@
 -- Nothing waits any more.
 use Rattle.flt_lang.proofs.Writing.{settled_end}
-use Rattle.flt_lang.proofs.backward.Writer.settle.Goals as goal
+use Rattle.flt_lang.proofs.backward.Writer.write_pending.Goals as goal
 
 pub returns : goal.returns
 returns g c =
