@@ -1,4 +1,5 @@
-//! Wide code laid out, optimised where that helps.
+//! The last step from wide code, whose tests may skip any number of instructions, to a program: it
+//! is laid out, and optimised before where that helps.
 
 ghost use Rattle.std.specs.Prelude.{IfOk, IsTrue, length};
 ghost use Rattle.std.specs.Option.{IfSome};
@@ -20,26 +21,29 @@ const TOO_MANY: usize = 0x4000_0000;
 
 /// Code of at most this many instructions isn't optimised: they seldom become fewer, and that takes
 /// longer than all else that makes a program.
-const FEW: usize = 28;
+const FEW_LEFT: usize = 28;
 
 /// Code that was written with more instructions than this, and more than twice as many as it has
-/// now, says the same again and again: it becomes much shorter, however few are left.
-const MANY: usize = 64;
+/// now, says the same again and again: it is optimised, since it becomes much shorter, however few
+/// are left.
+const MANY_WRITTEN: usize = 64;
 
-/// Whether code isn't optimised, of which `left` instructions are left of `written`.
+/// Whether code is laid out as it is, without the optimiser: it has `left` instructions, and had
+/// `written` before it was threaded and shortened.
 fn skips_optimiser(left: usize, written: usize) -> bool {
-    left <= FEW && (written <= MANY || written / 2 <= left)
+    left <= FEW_LEFT && (written <= MANY_WRITTEN || written / 2 <= left)
 }
 
-/// Whether no instruction is a `ja`. (`flt_opt` and `flt_short` have it too, with clauses of their
-/// own.)
+/// Whether no instruction is a `ja`, which code may have that isn't laid out yet. (`flt_opt` and
+/// `flt_short` have it too, with clauses of their own.)
 fn has_no_jump(code: &[Wide]) -> bool
     ensures { IsTrue result → HasNoJump code.now }
 {
     code.iter().all(|insn| insn.code != JUMP)
 }
 
-/// The code optimised and laid out, if that is valid and has at most `most` instructions.
+/// A program of the code, which is optimised and laid out, if it is valid and has at most `most`
+/// instructions. `None`: it isn't or has more, or what the optimiser made can't be laid out.
 fn optimised_insns<A: Allocator + Clone>(
     alloc: A,
     plain: Vec<Wide, A>,
@@ -63,8 +67,9 @@ fn optimised_insns<A: Allocator + Clone>(
 }
 
 /// A program that returns what wide code returns: the code laid out, or optimised before, where it
-/// has more than a few instructions, or was written with many, and the optimiser finds no longer
-/// program. `written` is how many it had before it was threaded and shortened.
+/// has more than a few instructions, or was written with many, and what the optimiser finds is a
+/// program no longer than that. `written` is how many instructions the code had before it was
+/// threaded and shortened.
 ///
 /// An error is a failed allocation, an allocator that cannot be cloned, or that the code has 2^30
 /// instructions or more.

@@ -141,7 +141,7 @@ impl<A: Allocator> Follower<'_, A> {
     fn step(&self, way: &Way, node: Node) -> Step {
         match node.flow() {
             Flow::Ends => Step::Ends,
-            Flow::Goes => self.after_operation(way, node),
+            Flow::GoesOn => self.after_operation(way, node),
             Flow::Branches => self.after_test(way, node),
         }
     }

@@ -1,5 +1,5 @@
-//! All passes over code, one after the other. Each result is taken only if it is seen to do what
-//! the code did.
+//! All passes over code, in a few turns. A result is taken only if `flt_opt` sees that it returns
+//! what the code returns.
 
 ghost use Rattle.std.specs.Prelude.{IsTrue, IfOk};
 ghost use Rattle.flt_opt.specs.Replaces.{Replaces};
@@ -11,11 +11,11 @@ use flt_bpf::Wide;
 use flt_opt::replaces;
 use std::alloc::{AllocError, Allocator};
 
-/// How often all passes are made, unless nothing changes any more.
-const TURNS: usize = 4;
+/// How often all passes are made at most; it ends before where nothing changes any more.
+const MOST_TURNS: usize = 4;
 
 /// The passes of the first turn, in the order in which they are made.
-const FIRST: [Pass; 5] = [
+const FIRST_PASSES: [Pass; 5] = [
     Pass::Thread,
     Pass::Gather,
     Pass::Bits,
@@ -23,8 +23,9 @@ const FIRST: [Pass; 5] = [
     Pass::Share,
 ];
 
-/// Those of later turns.
-const LATER: [Pass; 5] = [
+/// The passes of later turns: `ThreadFar` in place of `Thread` goes past tests that aren't decided,
+/// too.
+const LATER_PASSES: [Pass; 5] = [
     Pass::ThreadFar,
     Pass::Gather,
     Pass::Bits,
@@ -32,18 +33,18 @@ const LATER: [Pass; 5] = [
     Pass::Share,
 ];
 
-/// Code that passes made of other code.
+/// Code that passes made of other code, and how often they changed it.
 #[derive(Drop)]
 pub struct Improved<A: Allocator> {
     pub code: Vec<Wide, A>,
-    /// How many results of passes weren't taken, since they weren't seen to do the same.
+    /// How many results of passes weren't taken, since they weren't seen to return the same.
     pub refusals: usize,
-    /// How many were taken.
+    /// How many results of passes were taken.
     pub changes: usize,
 }
 
-/// Whether new code is seen to return what old code returns: notes are found, and `flt_opt` accepts
-/// them.
+/// Whether new code is seen to return what old code returns: notes on both are found, and `flt_opt`
+/// accepts them. `false` says nothing: it may return the same and not be seen to.
 fn is_seen_to_replace<A: Allocator + Clone>(
     alloc: A,
     old: &[Wide],
@@ -57,7 +58,7 @@ fn is_seen_to_replace<A: Allocator + Clone>(
     }
 }
 
-/// Whether two instructions are the same.
+/// Whether two instructions are the same in all four fields.
 fn is_same_insn(one: &Wide, other: &Wide) -> bool {
     one.code == other.code && one.k == other.k && one.yes == other.yes && one.no == other.no
 }
@@ -71,7 +72,8 @@ fn is_same_code(one: &[Wide], other: &[Wide]) -> bool {
             .all(|(insn, other)| is_same_insn(insn, other))
 }
 
-/// What passes make of code, if it is other code and no longer.
+/// The code that passes make of some code, if it is other code and no longer. `None`: it isn't, or
+/// they make none.
 fn useful_code<A: Allocator + Clone>(
     alloc: A,
     code: &[Wide],
@@ -84,9 +86,10 @@ fn useful_code<A: Allocator + Clone>(
     Ok(is_useful.then_some(new))
 }
 
-/// Code after all of these passes at once, if they make something of use that is seen to do the
-/// same.
-fn after_passes<A: Allocator + Clone>(
+/// Makes all of these passes, and then one comparison: what they make is taken if it is of use and
+/// seen to return the same, which counts as one change. Else the code stays as it is; that it
+/// wasn't seen to return the same counts as one refusal.
+fn improve_at_once<A: Allocator + Clone>(
     alloc: A,
     from: Improved<A>,
     passes: &[Pass],
@@ -119,9 +122,9 @@ fn after_passes<A: Allocator + Clone>(
     })
 }
 
-/// Code after these passes one by one: each result is compared, and taken or not.
+/// Makes these passes one by one: the result of each is compared, and taken or not.
 #[tactic(auto, using(crate::proofs::Improving::improves_over))]
-fn after_each<A: Allocator + Clone>(
+fn improve_one_by_one<A: Allocator + Clone>(
     alloc: A,
     from: Improved<A>,
     passes: &[Pass],
@@ -131,15 +134,16 @@ fn after_each<A: Allocator + Clone>(
     let mut made = from;
     // The label names the loop in its proof.
     'passes: for pass in passes {
-        made = after_passes(alloc.clone()?, made, &[*pass])?;
+        made = improve_at_once(alloc.clone()?, made, &[*pass])?;
     }
     Ok(made)
 }
 
-/// Code after one more turn: by all of its passes at once, or by one after the other where what
-/// they make of it isn't seen to do the same.
+/// Makes one more turn: all of its passes at once; where what they make isn't seen to return the
+/// same, one by one, so that only those are left out of which that is so. A refusal of all at once
+/// isn't counted.
 #[tactic(auto, using(crate::proofs::Improving::improves_over))]
-fn after_turn<A: Allocator + Clone>(
+fn make_turn<A: Allocator + Clone>(
     alloc: A,
     from: Improved<A>,
     passes: &[Pass],
@@ -147,7 +151,7 @@ fn after_turn<A: Allocator + Clone>(
     ensures { IfOk result (λ made. Improves made.code.items from.code.items) }
 {
     let refusals = from.refusals;
-    let made = after_passes(alloc.clone()?, from, passes)?;
+    let made = improve_at_once(alloc.clone()?, from, passes)?;
     if made.refusals == refusals {
         return Ok(made);
     }
@@ -157,11 +161,12 @@ fn after_turn<A: Allocator + Clone>(
         refusals,
         changes,
     };
-    after_each(alloc, from, passes)
+    improve_one_by_one(alloc, from, passes)
 }
 
-/// Code that returns what this code returns, with fewer instructions or on shorter ways, and how
-/// often what a pass made was refused.
+/// Code that returns what this code returns, made by all passes in up to four turns so that it has
+/// fewer instructions or shorter ways through them, and how often what passes made was taken or
+/// refused. It is never longer than this code, but that isn't proved.
 #[tactic(auto, using(crate::proofs::Improving::improves_over))]
 pub fn optimised_counted<A: Allocator + Clone>(
     alloc: A,
@@ -175,10 +180,14 @@ pub fn optimised_counted<A: Allocator + Clone>(
         changes: 0,
     };
     // The label names the loop in its proof.
-    'turns: for turn in 0..TURNS {
+    'turns: for turn in 0..MOST_TURNS {
         let before = made.changes;
-        let passes = if turn == 0 { &FIRST } else { &LATER };
-        made = after_turn(alloc.clone()?, made, passes)?;
+        let passes = if turn == 0 {
+            &FIRST_PASSES
+        } else {
+            &LATER_PASSES
+        };
+        made = make_turn(alloc.clone()?, made, passes)?;
         // The first turn lacks `ThreadFar`, so a second one is always made.
         if made.changes == before && turn > 0 {
             break;
@@ -187,7 +196,8 @@ pub fn optimised_counted<A: Allocator + Clone>(
     Ok(made)
 }
 
-/// Code that returns what this code returns, with fewer instructions or on shorter ways.
+/// Code that returns what this code returns, made by all passes so that it has fewer instructions
+/// or shorter ways through them; `optimised_counted` without its counts.
 pub fn optimised<A: Allocator + Clone>(
     alloc: A,
     code: Vec<Wide, A>,

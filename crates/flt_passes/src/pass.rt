@@ -1,8 +1,8 @@
-//! The passes by name, and code after some of them.
+//! The passes by name, and the code that some of them make of other code.
 
 use crate::bits::join_instructions;
 use crate::gather::gather_tests;
-use crate::graph::{Node, nodes_of};
+use crate::graph::{Node, nodes_of_code};
 use crate::search::search_tests;
 use crate::share::share_nodes;
 use crate::thread::thread_edges;
@@ -10,19 +10,20 @@ use crate::write::write_code;
 use flt_bpf::Wide;
 use std::alloc::{AllocError, Allocator};
 
-/// How many tests that aren't decided `ThreadFar` passes, one on a side of the other.
+/// `ThreadFar` goes past at most this many tests on one way that what is known doesn't decide.
 const MOST_SPLITS: usize = 2;
 
-/// What is done to code.
+/// A pass: what is done to the graph of some code.
 #[derive(Clone, Copy)]
 pub enum Pass {
-    /// Each edge goes on as far as what is known decides.
+    /// Each edge leads on, as far as what is known on the way to it decides the tests there.
     Thread,
     /// The same, also past tests that aren't decided, where both sides come together.
     ThreadFar,
-    /// Chains of tests go field by field.
+    /// Chains of tests whether fields are numbers go field by field, so that fewer loads are left.
     Gather,
-    /// One instruction for several that do the same, one after the other.
+    /// One instruction for several that do the same, one after the other: a test of bits for a mask
+    /// and a test, a load at a fixed place for one at X.
     Bits,
     /// Tests of one register become a search by halves.
     Search,
@@ -30,8 +31,8 @@ pub enum Pass {
     Share,
 }
 
-/// What a pass makes of a graph, in which all edges lead to later nodes.
-fn after_pass<A: Allocator + Clone>(
+/// The graph that a pass makes of one. In both all edges lead to later nodes.
+fn apply_pass<A: Allocator + Clone>(
     alloc: A,
     nodes: Vec<Node, A>,
     pass: Pass,
@@ -46,18 +47,18 @@ fn after_pass<A: Allocator + Clone>(
     }
 }
 
-/// What passes make of code, one after the other. `None`: an instruction has an unknown code, or
-/// the result would be more than twice as long.
+/// The code that passes make of some code, one after the other. `None`: an instruction has an
+/// unknown code, or the result would be more than twice as long, or without an instruction.
 pub fn passed<A: Allocator + Clone>(
     alloc: A,
     code: &[Wide],
     passes: &[Pass],
 ) -> Result<Option<Vec<Wide, A>>, AllocError> {
-    let Some(mut nodes) = nodes_of(alloc.clone()?, code)? else {
+    let Some(mut nodes) = nodes_of_code(alloc.clone()?, code)? else {
         return Ok(None);
     };
     for pass in passes {
-        nodes = after_pass(alloc.clone()?, nodes, *pass)?;
+        nodes = apply_pass(alloc.clone()?, nodes, *pass)?;
     }
     let most = code.len().saturating_mul(2);
     write_code(alloc, &nodes, most)

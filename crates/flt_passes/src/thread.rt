@@ -107,7 +107,7 @@ impl<A: Allocator + Clone> Threading<A> {
         let Some(node) = self.nodes.get(at) else {
             return false;
         };
-        node.flow() != Flow::Goes || known.tells_of(*node)
+        node.flow() != Flow::GoesOn || known.tells_of(*node)
     }
 
     /// Leads the beginning of all runs on. Returns where they begin.
@@ -200,7 +200,7 @@ impl<A: Allocator + Clone> Threading<A> {
         if self
             .nodes
             .get(to)
-            .is_some_and(|next| next.flow() == Flow::Goes)
+            .is_some_and(|next| next.flow() == Flow::GoesOn)
         {
             to = node.yes;
         }
@@ -218,7 +218,7 @@ impl<A: Allocator + Clone> Threading<A> {
         };
         match node.flow() {
             Flow::Ends => Ok(()),
-            Flow::Goes => self.lead_on(at, node, known.after_node(node)),
+            Flow::GoesOn => self.lead_on(at, node, known.after_node(node)),
             Flow::Branches => self.lead_test(at, node, &known),
         }
     }

@@ -47,8 +47,8 @@ impl<A: Allocator + Clone> Writer<'_, A> {
         let top = self.backwards.len();
         let (yes, no) = match node.flow() {
             Flow::Ends => (0, 0),
-            Flow::Goes if self.is_next(node.yes) => (0, 0),
-            Flow::Goes => return None,
+            Flow::GoesOn if self.is_next(node.yes) => (0, 0),
+            Flow::GoesOn => return None,
             Flow::Branches => (
                 distance(top, self.place(node.yes))?,
                 distance(top, self.place(node.no))?,
@@ -87,7 +87,7 @@ impl<A: Allocator + Clone> Writer<'_, A> {
                 break;
             };
             tail.push(at)?;
-            if node.flow() != Flow::Goes {
+            if node.flow() != Flow::GoesOn {
                 break;
             }
             at = node.yes;
@@ -99,7 +99,7 @@ impl<A: Allocator + Clone> Writer<'_, A> {
     /// one and those after it, up to a test or a return, are written once more between.
     fn put_before(&mut self, at: usize, alloc: A) -> Result<(), AllocError> {
         if let Some(node) = self.node(at)
-            && node.flow() == Flow::Goes
+            && node.flow() == Flow::GoesOn
             && !self.is_next(node.yes)
         {
             let tail = self.tail(node.yes, alloc)?;
@@ -115,7 +115,7 @@ impl<A: Allocator + Clone> Writer<'_, A> {
 fn last_before<A: Allocator>(alloc: A, nodes: &[Node]) -> Result<Vec<usize, A>, AllocError> {
     let mut before = vec![in alloc; NOWHERE; nodes.len()]?;
     for (at, node) in nodes.iter().enumerate() {
-        if node.flow() == Flow::Goes
+        if node.flow() == Flow::GoesOn
             && let Some(last) = before.get_mut(node.yes)
         {
             *last = at;

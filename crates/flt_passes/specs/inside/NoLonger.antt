@@ -7,7 +7,7 @@ use Rattle.flt_bpf.specs.Machine.{start}
 use Rattle.flt_bpf.specs.Valid.{IsValid}
 
 -- a valid program of at most this many instructions returns what the code returns, and has jumps
--- only where they are needed, and none where it is short
+-- only where they are needed, and none where it has at most 256 instructions
 pub record IsNoLonger (new wide : List Insn) (most : ℕ) : Type 0 where
   pub no_longer : length new ≤ most
   pub valid : IsValid new
