@@ -5,7 +5,7 @@
 
 use crate::edges::{edge_counts, has_one_edge};
 use crate::graph::Node;
-use crate::held::{Field, Held, field_of, held_at};
+use crate::held::{Field, Held, held_by_node, loaded_field};
 use crate::live::{Live, live_at, lives_of_graph};
 use crate::order::order_nodes;
 use flt_bpf::operation::{Operand, Operation, Test, decode};
@@ -57,7 +57,8 @@ struct Gathering<A: Allocator> {
     alloc: A,
     nodes: Vec<Node, A>,
     lives: Vec<Live, A>,
-    edges: Vec<usize, A>,
+    /// How many edges lead to each node.
+    edge_counts: Vec<usize, A>,
     held: Vec<Held, A>,
     /// The tests that are in a chain.
     done: Vec<bool, A>,
@@ -73,16 +74,16 @@ impl<A: Allocator + Clone> Gathering<A> {
     /// The next test of a chain, from where that goes on, and the field that it tests. `field` is
     /// in A.
     fn next_link(&self, at: usize, target: usize, field: Field) -> Option<(Field, usize)> {
-        if !has_one_edge(&self.edges, at) {
+        if !has_one_edge(&self.edge_counts, at) {
             return None;
         }
         if self.test_with_target(at, target).is_some() {
             return Some((field, at));
         }
         let load = self.nodes.get(at).copied()?;
-        let loaded = field_of(load)?;
+        let loaded = loaded_field(load)?;
         self.test_with_target(load.yes, target)?;
-        has_one_edge(&self.edges, load.yes).then_some((loaded, load.yes))
+        has_one_edge(&self.edge_counts, load.yes).then_some((loaded, load.yes))
     }
 
     /// Puts a test at the end of a chain.
@@ -274,8 +275,8 @@ pub(crate) fn gather_tests<A: Allocator + Clone>(
     let mut gathering = Gathering {
         alloc: alloc.clone()?,
         lives: lives_of_graph(alloc.clone()?, &nodes)?,
-        edges: edge_counts(alloc.clone()?, &nodes)?,
-        held: held_at(alloc.clone()?, &nodes)?,
+        edge_counts: edge_counts(alloc.clone()?, &nodes)?,
+        held: held_by_node(alloc.clone()?, &nodes)?,
         done: vec![in alloc.clone()?; false; count]?,
         nodes,
     };

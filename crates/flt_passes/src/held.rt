@@ -1,28 +1,32 @@
-//! Which load A comes from, where a run reaches a node.
+//! Which load A comes from, where a run reaches a node: the pass `Gather` asks which field a test
+//! compares.
 
 use crate::graph::{Flow, Node};
 use flt_bpf::operation::Operation;
 use std::alloc::{AllocError, Allocator};
 
-/// A load, as its instruction has it.
+/// A field of the packet, named by the load that takes it: at a fixed place, or at X.
 #[derive(Clone, Copy, PartialEq, Eq)]
 pub(crate) struct Field {
+    /// The code of the load's instruction.
     pub code: u16,
+    /// The constant of the load's instruction.
     pub k: u32,
 }
 
-/// What A holds.
+/// What A holds where a run reaches a node.
 #[derive(Clone, Copy, PartialEq, Eq)]
 pub(crate) enum Held {
     /// No run was seen to come there.
     Unreached,
-    /// What this load put there, with X as it is.
+    /// This field, as its load put it there. For a load at X, X hasn't changed since.
     Field(Field),
+    /// Nothing is known of it.
     Anything,
 }
 
-/// The field that a node loads into A, if it does.
-pub(crate) fn field_of(node: Node) -> Option<Field> {
+/// The field that a node loads into A. `None`: the node is no load from the packet into A.
+pub(crate) fn loaded_field(node: Node) -> Option<Field> {
     match node.operation {
         Operation::LoadAbsolute(_) | Operation::LoadIndirect(_) => Some(Field {
             code: node.operation.code(),
@@ -32,7 +36,8 @@ pub(crate) fn field_of(node: Node) -> Option<Field> {
     }
 }
 
-/// What A holds where two ways meet. A run comes on the second one.
+/// What A holds where two ways meet: what it holds on both, if that is the same. The first way may
+/// be `Unreached`, the second one not.
 fn common_held(one: Held, other: Held) -> Held {
     if one == Held::Unreached || one == other {
         other
@@ -41,31 +46,36 @@ fn common_held(one: Held, other: Held) -> Held {
     }
 }
 
-/// What A holds after a node, where it held this in front of it.
-fn held_after(held: Held, node: Node) -> Held {
-    match field_of(node) {
+/// What A holds after a node, in front of which it held `before`: a load's field, after a test what
+/// it held, after any other node anything, since that may change A or X.
+fn held_after(before: Held, node: Node) -> Held {
+    match loaded_field(node) {
         Some(field) => Held::Field(field),
-        None if node.flow() == Flow::Branches => held,
+        None if node.flow() == Flow::Branches => before,
         None => Held::Anything,
     }
 }
 
-/// One more way leads to a node, on which A holds `came`.
-fn join_held<A: Allocator>(held: &mut Vec<Held, A>, at: usize, came: Held) {
+/// One more way leads to the node `at`, on which A holds `arriving`: what `held` has for the node
+/// becomes what holds on all of them. Nothing is noted of `NOWHERE`.
+fn join_held<A: Allocator>(held: &mut Vec<Held, A>, at: usize, arriving: Held) {
     if let Some(here) = held.get_mut(at) {
-        *here = common_held(*here, came);
+        *here = common_held(*here, arriving);
     }
 }
 
-/// What A holds where a run reaches each node. All edges lead to later nodes.
-pub(crate) fn held_at<A: Allocator>(alloc: A, nodes: &[Node]) -> Result<Vec<Held, A>, AllocError> {
+/// For each node of a graph what A holds where a run reaches it. All edges lead to later nodes.
+pub(crate) fn held_by_node<A: Allocator>(
+    alloc: A,
+    nodes: &[Node],
+) -> Result<Vec<Held, A>, AllocError> {
     let mut held = vec![in alloc; Held::Unreached; nodes.len()]?;
     join_held(&mut held, 0, Held::Anything);
     for (at, node) in nodes.iter().enumerate() {
-        let came = held.get(at).copied().unwrap_or(Held::Anything);
-        let on = held_after(came, *node);
-        join_held(&mut held, node.yes, on);
-        join_held(&mut held, node.no, on);
+        let before = held.get(at).copied().unwrap_or(Held::Anything);
+        let after = held_after(before, *node);
+        join_held(&mut held, node.yes, after);
+        join_held(&mut held, node.no, after);
     }
     Ok(held)
 }

@@ -11,7 +11,7 @@ use flt_bpf::Wide;
 use flt_opt::replaces;
 use std::alloc::{AllocError, Allocator};
 
-/// How often all passes are made at most; it ends before where nothing changes any more.
+/// How often all passes are made at most; less often where nothing changes any more.
 const MOST_TURNS: usize = 4;
 
 /// The passes of the first turn, in the order in which they are made.

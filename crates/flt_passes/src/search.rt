@@ -19,7 +19,8 @@ const LEAST_APART: usize = 8;
 struct Searching<A: Allocator> {
     alloc: A,
     nodes: Vec<Node, A>,
-    edges: Vec<usize, A>,
+    /// How many edges lead to each node.
+    edge_counts: Vec<usize, A>,
     /// The first test of those that each test is searched with.
     heads: Vec<usize, A>,
 }
@@ -89,7 +90,7 @@ impl<A: Allocator + Clone> Searching<A> {
                 break;
             };
             for next in [node.yes, node.no] {
-                if has_one_edge(&self.edges, next) && !self.is_in_region(head, next) {
+                if has_one_edge(&self.edge_counts, next) && !self.is_in_region(head, next) {
                     self.enter_test(head, next, &mut work)?;
                 }
             }
@@ -326,7 +327,7 @@ pub(crate) fn search_tests<A: Allocator + Clone>(
     let count = nodes.len();
     let mut searching = Searching {
         alloc: alloc.clone()?,
-        edges: edge_counts(alloc.clone()?, &nodes)?,
+        edge_counts: edge_counts(alloc.clone()?, &nodes)?,
         heads: vec![in alloc.clone()?; NOWHERE; count]?,
         nodes,
     };
