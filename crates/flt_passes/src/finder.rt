@@ -3,10 +3,10 @@
 //! are finished one after the other, and ways lead only to later ones.
 
 use crate::graph::place_after;
-use crate::known::{Facts, NO_FACTS, common_facts, facts_after, facts_after_test};
+use crate::known::{Facts, NO_FACTS, common_facts, facts_after_operation, facts_after_test};
 use crate::live::{Live, Reads, is_of_use, live_at, lives_of_code};
 use crate::rules::{Rule, may_be_own, rule_at};
-use crate::sets::pieces_for_all;
+use crate::sets::new_piece_list;
 use crate::walk::{Arrival, common_both, walk_to_replaced};
 use flt_bpf::Wide;
 use flt_bpf::operation::{Operation, decode};
@@ -244,7 +244,7 @@ impl<A: Allocator + Clone> Finder<'_, A> {
                 old: self.old_place_after(rule, way.old.old, true),
                 both,
             },
-            facts: facts_after(&way.facts, operation, insn.k, way.old.both.new),
+            facts: facts_after_operation(&way.facts, operation, insn.k, way.old.both.new),
         }
     }
 
@@ -416,7 +416,7 @@ pub(crate) fn find_notes<A: Allocator + Clone>(
         found: Found {
             notes: Vec::new(alloc.clone()?),
             facts: Vec::new(alloc.clone()?),
-            pieces: pieces_for_all(alloc.clone()?)?,
+            pieces: new_piece_list(alloc.clone()?)?,
         },
         drafts: Vec::new(alloc.clone()?),
         free: Vec::new(alloc.clone()?),

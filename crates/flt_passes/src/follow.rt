@@ -2,7 +2,7 @@
 //! and `ThreadFar`.
 
 use crate::graph::{Flow, Node};
-use crate::known::{Known, loads};
+use crate::known::{Known, loads_from_packet};
 use crate::live::{Live, live_at};
 use flt_bpf::operation::Operation;
 use flt_opt::{
@@ -97,7 +97,7 @@ impl<A: Allocator> Follower<'_, A> {
         is_sure(
             operation,
             k,
-            loads(operation) && self.is_there(operation, k, registers),
+            loads_from_packet(operation) && self.is_there(operation, k, registers),
         )
     }
 
@@ -105,7 +105,7 @@ impl<A: Allocator> Follower<'_, A> {
     fn after_operation(&self, way: &Way, node: Node) -> Step {
         let operation = node.operation;
         let succeeds = self.succeeds(operation, node.k, way.registers);
-        if !succeeds && !loads(operation) {
+        if !succeeds && !loads_from_packet(operation) {
             return Step::Ends;
         }
         Step::To(Way {

@@ -1,9 +1,11 @@
 //! What is known of a run where it reaches a node: what its registers hold, and facts of the
-//! packet.
+//! packet. The words are those of `flt_opt`: a *term* says what a register holds (a number, a field
+//! of the packet, a header's length ..), and a *fact* that a term has a value, so that its bytes
+//! are captured, and in which set of numbers that is. A set is a span of a list of pieces (`sets`).
 
 use crate::graph::Node;
 use crate::live::{Reads, is_of_use};
-use crate::sets::{ALL, narrow_set, unite_sets};
+use crate::sets::{ALL_NUMBERS, narrow_set, unite_sets};
 use flt_bpf::operation::{Operation, Test};
 use flt_opt::{
     Both, Fact, Knowledge, Learnt, Piece, Registers, Span, Term, after, asked, decided, is_known,
@@ -11,20 +13,20 @@ use flt_opt::{
 };
 use std::alloc::{AllocError, Allocator};
 
-/// The most facts that are known at once. The oldest one goes.
+/// The most facts that are known at once. Where one more comes, the oldest one goes.
 const MOST_FACTS: usize = 8;
 
-/// An entry of a list of facts that is not used.
+/// What an entry of a list of facts holds while it isn't used.
 const NO_FACT: Fact = Fact {
     term: Term::Anything,
-    pieces: ALL,
+    pieces: ALL_NUMBERS,
 };
 
-/// A few facts, each on another term, the oldest first.
+/// A few facts of the packet, each on another term, the oldest first.
 #[derive(Clone, Copy)]
 pub(crate) struct Facts {
     list: [Fact; MOST_FACTS],
-    /// At most MOST_FACTS.
+    /// How many entries are used, from the first on: at most `MOST_FACTS`.
     len: usize,
 }
 
@@ -43,14 +45,14 @@ impl Facts {
         }
     }
 
-    /// The set of numbers that a term may be, if a fact says that it is there.
-    pub(crate) fn numbers(&self, term: Term) -> Option<Span> {
+    /// The set of numbers that a term may be. `None`: no fact is on it, so it may have no value.
+    pub(crate) fn numbers_of(&self, term: Term) -> Option<Span> {
         let fact = self.as_slice().iter().find(|fact| fact.term == term)?;
         Some(fact.pieces)
     }
 
-    /// Whether a test of a register with k holds, where the facts tell it of the term that the
-    /// register holds.
+    /// Whether a test of A with k holds, where A holds this term. `None`: the facts don't decide
+    /// it, or there is no test.
     pub(crate) fn decide(
         &self,
         pieces: &[Piece],
@@ -69,7 +71,9 @@ impl Facts {
         decided(test?, k, term, &knowledge)
     }
 
-    /// Whether something may be known of a term's numbers; a quick test before a thorough one.
+    /// Whether something may be known of a term's numbers; a quick test before a thorough one. A
+    /// number is known, a field that is masked is bounded by its mask, and of all else only facts
+    /// on the same field or header tell.
     fn may_tell(&self, term: Term) -> bool {
         let is_bounded = match term {
             Term::Anything => return false,
@@ -85,7 +89,7 @@ impl Facts {
                 .any(|fact| source(fact.term) == field)
     }
 
-    /// Puts a fact last, on a term that no other one is on, if there is room.
+    /// Puts a fact last, if there is room. No other one is on its term.
     fn push_fact(&mut self, fact: Fact) {
         if let Some(place) = self.list.get_mut(self.len) {
             *place = fact;
@@ -98,7 +102,8 @@ impl Facts {
         self.len == 0
     }
 
-    /// Drops the facts that are of no use to runs that read no more than this.
+    /// Drops the facts that are of no use to any of these runs (`is_of_use`). The others keep their
+    /// order.
     pub(crate) fn keep_useful(&mut self, reads: &[Reads]) {
         let mut kept: usize = 0;
         for at in 0..self.len {
@@ -113,8 +118,8 @@ impl Facts {
         self.len = kept;
     }
 
-    /// The facts with this one last. Another one on its term is dropped, or else, where there is no
-    /// room, the oldest one.
+    /// The facts and this one, which is put last. A fact on the same term is dropped; if there is
+    /// none and no room, the oldest one.
     fn with_fact(&self, fact: Fact) -> Facts {
         let mut facts = *self;
         let same = self
@@ -130,7 +135,7 @@ impl Facts {
         facts
     }
 
-    /// Drops the fact with an index.
+    /// Drops the fact with an index; those after it move to the front by one.
     fn remove_fact(&mut self, at: usize) {
         for next in at.saturating_add(1)..self.len {
             if let Some(fact) = self.list.get(next).copied()
@@ -143,12 +148,13 @@ impl Facts {
     }
 }
 
-/// The term that a register holds where two ways meet: that of both, if they have the same.
+/// The term that a register holds where two ways meet: that of both, if they have the same, else
+/// anything.
 fn common_term(one: Term, other: Term) -> Term {
     if one == other { one } else { Term::Anything }
 }
 
-/// What the registers hold where two ways meet: what they hold on each.
+/// What the registers hold where two ways meet: each what it holds on both.
 pub(crate) fn common_registers(one: Registers, other: Registers) -> Registers {
     Registers {
         accumulator: common_term(one.accumulator, other.accumulator),
@@ -165,7 +171,7 @@ pub(crate) fn common_facts<A: Allocator>(
 ) -> Result<Facts, AllocError> {
     let mut facts = NO_FACTS;
     for fact in one.as_slice() {
-        if let Some(numbers) = other.numbers(fact.term) {
+        if let Some(numbers) = other.numbers_of(fact.term) {
             let pieces = unite_sets(pieces, fact.pieces, numbers)?;
             facts.push_fact(Fact { pieces, ..*fact });
         }
@@ -173,7 +179,8 @@ pub(crate) fn common_facts<A: Allocator>(
     Ok(facts)
 }
 
-/// The facts after a test that has shown this.
+/// The facts after a test, with one on the term that it is about: the numbers that its outcome
+/// `learnt` leaves. Where that term is a number or anything, no fact comes of it.
 pub(crate) fn facts_after_test<A: Allocator>(
     pieces: &mut Vec<Piece, A>,
     facts: &Facts,
@@ -183,26 +190,33 @@ pub(crate) fn facts_after_test<A: Allocator>(
     if matches!(term, Term::Anything | Term::Number(_)) {
         return Ok(*facts);
     }
-    let numbers = facts.numbers(term).unwrap_or(ALL);
+    let numbers = facts.numbers_of(term).unwrap_or(ALL_NUMBERS);
     let pieces = narrow_set(pieces, numbers, learnt)?;
     Ok(facts.with_fact(Fact { term, pieces }))
 }
 
-/// Whether an operation loads from the packet.
-pub(crate) fn loads(operation: Operation) -> bool {
+/// Whether an operation loads bytes of the packet, into A or X; where they aren't captured, the run
+/// rejects the packet. (`is_load` of `flt_opt` is for loads into A alone.)
+pub(crate) fn loads_from_packet(operation: Operation) -> bool {
     matches!(
         operation,
         Operation::LoadAbsolute(_) | Operation::LoadIndirect(_) | Operation::LoadHeaderLength
     )
 }
 
-/// The facts after an operation that led on: what it loaded is there.
-pub(crate) fn facts_after(facts: &Facts, operation: Operation, k: u32, before: Registers) -> Facts {
-    let term = asked(operation, k, before);
-    if !loads(operation) || !is_known(term) {
+/// The facts after an operation with the constant k, which led on from where the registers held
+/// this: what it loaded from the packet is there, if it is known what that was.
+pub(crate) fn facts_after_operation(
+    facts: &Facts,
+    operation: Operation,
+    k: u32,
+    registers: Registers,
+) -> Facts {
+    let term = asked(operation, k, registers);
+    if !loads_from_packet(operation) || !is_known(term) {
         return *facts;
     }
-    let pieces = facts.numbers(term).unwrap_or(ALL);
+    let pieces = facts.numbers_of(term).unwrap_or(ALL_NUMBERS);
     facts.with_fact(Fact { term, pieces })
 }
 
@@ -213,7 +227,7 @@ pub(crate) struct Known {
     pub facts: Facts,
 }
 
-/// What is known where a run begins.
+/// What is known where a run begins: A and X are 0.
 pub(crate) const AT_START: Known = Known {
     registers: Registers {
         accumulator: Term::Number(0),
@@ -223,8 +237,9 @@ pub(crate) const AT_START: Known = Known {
 };
 
 impl Known {
-    /// What is known where two ways meet: what is known on each.
-    pub(crate) fn in_both<A: Allocator>(
+    /// What is known where this way and another one meet: what is known on both. Sets of numbers
+    /// that this takes are added to `pieces`.
+    pub(crate) fn common_with<A: Allocator>(
         &self,
         other: &Known,
         pieces: &mut Vec<Piece, A>,
@@ -235,21 +250,22 @@ impl Known {
         })
     }
 
-    /// What is known after a node that is no test.
+    /// What is known after a node that is no test, where a run goes on.
     pub(crate) fn after_node(&self, node: Node) -> Known {
         Known {
             registers: after(node.operation, node.k, self.registers),
-            facts: facts_after(&self.facts, node.operation, node.k, self.registers),
+            facts: facts_after_operation(&self.facts, node.operation, node.k, self.registers),
         }
     }
 
-    /// Whether all that a node does, which is no test, is known before: what it makes, and that it
-    /// is there.
-    pub(crate) fn tells_of(&self, node: Node) -> bool {
+    /// Whether the result of a node, which is no test, is known before a run does it: of a load
+    /// from the packet, that its bytes are captured, of any other node, which term it makes.
+    pub(crate) fn tells_result_of(&self, node: Node) -> bool {
         let term = asked(node.operation, node.k, self.registers);
-        if !loads(node.operation) {
+        if !loads_from_packet(node.operation) {
             return is_known(term);
         }
+        // `is_there` asks of two runs; here there is one.
         let both = Both {
             new: self.registers,
             old: self.registers,
@@ -259,7 +275,8 @@ impl Known {
         is_there(term, self.facts.as_slice(), &both)
     }
 
-    /// What is known after a test that has shown this.
+    /// What is known after a test with this outcome. The set of numbers that it leaves is added to
+    /// `pieces`.
     pub(crate) fn after_test<A: Allocator>(
         &self,
         learnt: &Learnt,

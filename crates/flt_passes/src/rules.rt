@@ -1,7 +1,7 @@
 //! The rules by which an instruction of new code replaces some of the old code. They are those of
 //! `flt_opt::validator`: here they find the notes that it then checks.
 
-use crate::known::loads;
+use crate::known::loads_from_packet;
 use flt_bpf::Wide;
 use flt_bpf::operation::{AluOperation, Operand, Operation, Test, decode};
 use flt_opt::{
@@ -93,7 +93,7 @@ pub(crate) fn may_be_own(new: Wide, both: &Both, facts: &[Fact]) -> bool {
         Some(Operation::JumpIf(_, _)) => true,
         Some(operation) => {
             let term = asked(operation, new.k, both.new);
-            let there = loads(operation) && is_there(term, facts, both);
+            let there = loads_from_packet(operation) && is_there(term, facts, both);
             is_sure(operation, new.k, there)
         }
     }

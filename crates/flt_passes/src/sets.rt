@@ -1,16 +1,19 @@
-//! Sets of numbers: pieces that ascend, all in one list.
+//! Sets of numbers of 32 bits: those that a term may be. A set is a span of pieces (from a number
+//! to another one) that ascend and don't overlap. All sets are in one list of pieces: a new one is
+//! put at its end, and none is taken out.
 
 use flt_opt::{Learnt, Piece, Span};
 use std::alloc::{AllocError, Allocator};
 
-/// The set of all numbers, in a list that `pieces_for_all` made.
-pub(crate) const ALL: Span = Span { start: 0, end: 1 };
+/// The set of all numbers: it is the first of a list that `new_piece_list` made.
+pub(crate) const ALL_NUMBERS: Span = Span { start: 0, end: 1 };
 
-/// A set that would have more pieces becomes one piece, with all numbers between.
+/// A set that would have more pieces becomes one piece, with all numbers between: it then says less
+/// of a term, and nothing wrong.
 const MOST_PIECES: usize = 64;
 
 /// A new list of pieces, with the set of all numbers alone.
-pub(crate) fn pieces_for_all<A: Allocator>(alloc: A) -> Result<Vec<Piece, A>, AllocError> {
+pub(crate) fn new_piece_list<A: Allocator>(alloc: A) -> Result<Vec<Piece, A>, AllocError> {
     let all = Piece {
         low: 0,
         high: u32::MAX,
@@ -18,7 +21,8 @@ pub(crate) fn pieces_for_all<A: Allocator>(alloc: A) -> Result<Vec<Piece, A>, Al
     Ok(vec![in alloc; all]?)
 }
 
-/// The piece with an index of the list, if it is one of a set.
+/// The piece of a set with this index of the list, which is no lower than the first one's. `None`:
+/// it is past the end of the set.
 fn piece_at(pieces: &[Piece], span: Span, at: usize) -> Option<Piece> {
     if at < span.end {
         pieces.get(at).copied()
@@ -32,7 +36,8 @@ fn piece_count(span: Span) -> usize {
     span.end.saturating_sub(span.start)
 }
 
-/// The numbers that are in both pieces. (`flt_opt` has it too, with a clause.)
+/// The numbers that are in both pieces; where there are none, `low` is greater than `high`.
+/// (`flt_opt` has it too, with a clause.)
 fn overlap(one: Piece, other: Piece) -> Piece {
     Piece {
         low: one.low.max(other.low),
@@ -40,8 +45,9 @@ fn overlap(one: Piece, other: Piece) -> Piece {
     }
 }
 
-/// Adds a piece to the set with which the list ends, from `start` on: it joins the last one that it
-/// touches.
+/// Adds a piece to the set with which the list ends, from index `start` on. It begins no lower than
+/// the set's last piece, and is joined to that where it overlaps or follows it. One without a
+/// number isn't added.
 fn add_piece<A: Allocator>(
     pieces: &mut Vec<Piece, A>,
     start: usize,
@@ -61,7 +67,7 @@ fn add_piece<A: Allocator>(
     Ok(())
 }
 
-/// The set with which the list ends, from `start` on; one piece where it would have too many.
+/// The set with which the list ends, from index `start` on; made one piece where it has too many.
 fn finish_set<A: Allocator>(pieces: &mut Vec<Piece, A>, start: usize) -> Result<Span, AllocError> {
     if pieces.len().saturating_sub(start) > MOST_PIECES
         && let (Some(first), Some(last)) = (pieces.get(start).copied(), pieces.last().copied())
@@ -78,8 +84,8 @@ fn finish_set<A: Allocator>(pieces: &mut Vec<Piece, A>, start: usize) -> Result<
     })
 }
 
-/// The set of those numbers of a set that the outcome of a test leaves. It is put last into the
-/// list.
+/// The set of those of some numbers that are left by the outcome of a test. It is put at the end of
+/// the list.
 pub(crate) fn narrow_set<A: Allocator>(
     pieces: &mut Vec<Piece, A>,
     numbers: Span,
@@ -95,7 +101,7 @@ pub(crate) fn narrow_set<A: Allocator>(
     finish_set(pieces, start)
 }
 
-/// The set of the numbers of two sets. It is put last into the list, unless both are the same.
+/// The set of the numbers of two sets. It is put at the end of the list, unless both are the same.
 pub(crate) fn unite_sets<A: Allocator>(
     pieces: &mut Vec<Piece, A>,
     one: Span,
@@ -105,6 +111,7 @@ pub(crate) fn unite_sets<A: Allocator>(
         return Ok(one);
     }
     let start = pieces.len();
+    // Of the next pieces of both sets the one that begins first is added.
     let (mut next, mut next_other) = (one.start, other.start);
     for _ in 0..piece_count(one).saturating_add(piece_count(other)) {
         let first = piece_at(pieces, one, next);

@@ -6,7 +6,7 @@ use crate::graph::{Flow, NOWHERE, Node};
 use crate::known::{AT_START, Known};
 use crate::live::{Live, Reads, is_of_use, live_at, lives_of_graph};
 use crate::order::{entry_at, order_nodes};
-use crate::sets::pieces_for_all;
+use crate::sets::new_piece_list;
 use flt_opt::{Piece, outcome};
 use std::alloc::{AllocError, Allocator};
 
@@ -47,7 +47,7 @@ impl<A: Allocator + Clone> Threading<A> {
         match self.waiting.get_mut(slot) {
             None => self.wait(at, known),
             Some(held) => {
-                *held = held.in_both(&known, &mut self.pieces)?;
+                *held = held.common_with(&known, &mut self.pieces)?;
                 Ok(())
             }
         }
@@ -107,7 +107,7 @@ impl<A: Allocator + Clone> Threading<A> {
         let Some(node) = self.nodes.get(at) else {
             return false;
         };
-        node.flow() != Flow::GoesOn || known.tells_of(*node)
+        node.flow() != Flow::GoesOn || known.tells_result_of(*node)
     }
 
     /// Leads the beginning of all runs on. Returns where they begin.
@@ -243,7 +243,7 @@ pub(crate) fn thread_edges<A: Allocator + Clone>(
     let mut threading = Threading {
         alloc: alloc.clone()?,
         lives: lives_of_graph(alloc.clone()?, &nodes)?,
-        pieces: pieces_for_all(alloc.clone()?)?,
+        pieces: new_piece_list(alloc.clone()?)?,
         waiting: Vec::new(alloc.clone()?),
         slots: vec![in alloc.clone()?; NOWHERE; nodes.len()]?,
         free: Vec::new(alloc.clone()?),

@@ -2,7 +2,7 @@
 //! It is the search for what `flt_opt::walk` then checks.
 
 use crate::graph::place_after;
-use crate::known::{Facts, common_registers, loads};
+use crate::known::{Facts, common_registers, loads_from_packet};
 use crate::rules::rule_at;
 use flt_bpf::Wide;
 use flt_bpf::operation::{Operation, decode};
@@ -98,9 +98,10 @@ impl<A: Allocator> Walker<'_, A> {
     fn after_operation(&self, way: &Way, operation: Operation, k: u32) -> Step {
         let here = &way.here;
         let term = asked(operation, k, here.both.old);
-        let there = loads(operation) && is_there(term, self.facts.as_slice(), &here.both);
+        let there =
+            loads_from_packet(operation) && is_there(term, self.facts.as_slice(), &here.both);
         let succeeds = is_sure(operation, k, there);
-        if !succeeds && !loads(operation) {
+        if !succeeds && !loads_from_packet(operation) {
             return Step::Ends;
         }
         Step::To(Way {
