@@ -1,5 +1,6 @@
-//! What is read from a place on: registers before something is put into them, and fields. It tells
-//! which knowledge is of no use any more.
+//! What is read from a place on (compilers call it live): registers before something is put into
+//! them, and fields. By it a pass sees whether a register may be changed there, and which knowledge
+//! is of no use any more.
 
 use crate::graph::{Node, place_after};
 use flt_bpf::Wide;
@@ -7,35 +8,40 @@ use flt_bpf::operation::{Operation, Source, Width, decode};
 use flt_opt::{Term, reads_accumulator, reads_index, sets_accumulator, sets_index, source};
 use std::alloc::{AllocError, Allocator};
 
-/// What a run reads from a place on.
+/// What runs read from a place on.
 #[derive(Clone, Copy)]
 pub(crate) struct Live {
+    /// A is read, before anything is put into it.
     pub accumulator: bool,
+    /// X is read, before anything is put into it.
     pub index: bool,
-    /// A bit for what is loaded. Several fields may have one bit.
+    /// A bit for each field that is loaded, and for the original length (`bit_of_load`). Several
+    /// fields may have the same one: then one of them seems to be loaded that isn't, and knowledge
+    /// is kept in vain.
     pub fields: u64,
 }
 
 /// Nothing is read.
-const NONE: Live = Live {
+const NOTHING_LIVE: Live = Live {
     accumulator: false,
     index: false,
     fields: 0,
 };
 
 /// The bit of the original length.
-const LENGTH: u64 = 1;
+const LENGTH_BIT: u64 = 1;
 
-/// The bit of all fields past an IPv4 header.
-const PAST_HEADER: u64 = 2;
+/// The bit of all fields past an IPv4 header: those that are loaded at X.
+const PAST_HEADER_BIT: u64 = 2;
 
-/// What is read from a place on, or nothing where there is none.
+/// What is read from the place `at` on, by a list of all places; nothing where there is no such
+/// place, as of `NOWHERE`.
 pub(crate) fn live_at(lives: &[Live], at: usize) -> Live {
-    lives.get(at).copied().unwrap_or(NONE)
+    lives.get(at).copied().unwrap_or(NOTHING_LIVE)
 }
 
 impl Live {
-    /// What is read from either of two places on.
+    /// What is read from one of two places on, or from both.
     pub(crate) fn or(self, other: Live) -> Live {
         Live {
             accumulator: self.accumulator || other.accumulator,
@@ -45,31 +51,39 @@ impl Live {
     }
 }
 
-/// What a run reads from a place on, where A holds a term.
+/// What a run reads from a place on, and what A holds there.
 #[derive(Clone, Copy)]
 pub(crate) struct Reads {
     pub live: Live,
     pub accumulator: Term,
 }
 
-/// Whether what is known of a term may be of use to one of these runs.
+/// Whether what is known of a term may be of use to one of these runs: it loads the term's field
+/// once more, or reads A, which holds that field.
 pub(crate) fn is_of_use(term: Term, reads: &[Reads]) -> bool {
     let bit = bit_of_term(term);
     reads.iter().any(|run| run.live.fields & bit != 0)
         || reads.iter().any(|run| run.live.accumulator && source(run.accumulator) == source(term))
 }
 
-/// A prime near 2^32 divided by the golden ratio: the upper bits of a product by it spread well.
-const SPREAD: u32 = 0x9E37_79B1;
+/// The factor of a multiplicative hash, a prime near 2^32 divided by the golden ratio: the upper
+/// bits of a product by it spread well.
+const HASH_FACTOR: u32 = 0x9E37_79B1;
 
-/// One of the 62 bits for fields (all but `LENGTH` and `PAST_HEADER`), for a field of a kind (0 to
-/// 3) at this byte. Other fields may have it too.
-fn bit_at(at: u32, kind: u32) -> u64 {
-    let mixed = at.wrapping_mul(4).wrapping_add(kind).wrapping_mul(SPREAD);
+/// The kind of field that a header's length is (see `width_kind`).
+const HEADER_LENGTH_KIND: u32 = 3;
+
+/// The bit of a field of a kind (0 to 3) that begins at byte `at` of the packet. Other fields may
+/// have it too: there are 62, since the lowest two of 64 are `LENGTH_BIT` and `PAST_HEADER_BIT`.
+fn bit_of_field(at: u32, kind: u32) -> u64 {
+    let mixed = at
+        .wrapping_mul(4)
+        .wrapping_add(kind)
+        .wrapping_mul(HASH_FACTOR);
     4 << (mixed >> 16).wrapping_rem(62)
 }
 
-/// A number for each width of a field; 3 is a header's length.
+/// The kind of a field of this width, for `bit_of_field`.
 fn width_kind(width: Width) -> u32 {
     match width {
         Width::Byte => 0,
@@ -78,31 +92,31 @@ fn width_kind(width: Width) -> u32 {
     }
 }
 
-/// The bit of the field that a term is about; no bit where it is about none.
+/// The bit of the field that a term is about; 0 where it is about none.
 fn bit_of_term(term: Term) -> u64 {
     match term {
         Term::Anything | Term::Number(_) => 0,
-        Term::Length => LENGTH,
-        Term::HeaderLength { at, .. } => bit_at(at, 3),
+        Term::Length => LENGTH_BIT,
+        Term::HeaderLength { at, .. } => bit_of_field(at, HEADER_LENGTH_KIND),
         Term::Field(load) => match load.header {
-            None => bit_at(load.at, width_kind(load.width)),
-            Some(_) => PAST_HEADER,
+            None => bit_of_field(load.at, width_kind(load.width)),
+            Some(_) => PAST_HEADER_BIT,
         },
     }
 }
 
-/// The bit of what an operation loads; no bit where it loads nothing of the packet.
+/// The bit of the field that an operation with the constant k loads; 0 where it loads none.
 fn bit_of_load(operation: Operation, k: u32) -> u64 {
     match operation {
-        Operation::LoadAbsolute(width) => bit_at(k, width_kind(width)),
-        Operation::LoadIndirect(_) => PAST_HEADER,
-        Operation::LoadHeaderLength => bit_at(k, 3),
-        Operation::Load(_, Source::Length) => LENGTH,
+        Operation::LoadAbsolute(width) => bit_of_field(k, width_kind(width)),
+        Operation::LoadIndirect(_) => PAST_HEADER_BIT,
+        Operation::LoadHeaderLength => bit_of_field(k, HEADER_LENGTH_KIND),
+        Operation::Load(_, Source::Length) => LENGTH_BIT,
         _ => 0,
     }
 }
 
-/// What is read from an operation on, if `following` is read after it.
+/// What is read from an operation with the constant k on, if `following` is read after it.
 fn live_before(operation: Operation, k: u32, following: Live) -> Live {
     Live {
         accumulator: reads_accumulator(operation)
@@ -112,12 +126,12 @@ fn live_before(operation: Operation, k: u32, following: Live) -> Live {
     }
 }
 
-/// What is read from each node of a graph on. Its edges lead to later nodes.
+/// For each node of a graph what is read from it on. All edges lead to later nodes.
 pub(crate) fn lives_of_graph<A: Allocator>(
     alloc: A,
     nodes: &[Node],
 ) -> Result<Vec<Live, A>, AllocError> {
-    let mut lives = vec![in alloc; NONE; nodes.len()]?;
+    let mut lives = vec![in alloc; NOTHING_LIVE; nodes.len()]?;
     for (at, node) in nodes.iter().enumerate().rev() {
         let following = live_at(&lives, node.yes).or(live_at(&lives, node.no));
         if let Some(live) = lives.get_mut(at) {
@@ -127,7 +141,7 @@ pub(crate) fn lives_of_graph<A: Allocator>(
     Ok(lives)
 }
 
-/// What is read after the instruction `at` of code.
+/// What is read after the instruction `at` of code, by a list that is filled from there to the end.
 fn live_after(lives: &[Live], at: usize, insn: Wide, operation: Operation) -> Live {
     match operation {
         Operation::Jump => live_at(lives, place_after(at, insn.k)),
@@ -138,12 +152,12 @@ fn live_after(lives: &[Live], at: usize, insn: Wide, operation: Operation) -> Li
     }
 }
 
-/// What is read from each instruction of code on.
+/// For each instruction of code what is read from it on; nothing from one of an unknown code.
 pub(crate) fn lives_of_code<A: Allocator>(
     alloc: A,
     code: &[Wide],
 ) -> Result<Vec<Live, A>, AllocError> {
-    let mut lives = vec![in alloc; NONE; code.len()]?;
+    let mut lives = vec![in alloc; NOTHING_LIVE; code.len()]?;
     for (at, insn) in code.iter().enumerate().rev() {
         let Some(operation) = decode(insn.code) else {
             continue;
