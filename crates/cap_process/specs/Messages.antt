@@ -13,16 +13,17 @@ use Rattle.flt_bpf.specs.Message.{check_message, listing_message}
 use Rattle.cap_filter.specs.declared.refusal.Refusal.{Refusal}
 use Rattle.cap_filter.specs.declared.refusal.Refusal.TheVariants.{Expression, Listing, Program}
 
+-- the end of a line
 abbrev pub line_feed : List ℕ
 line_feed = 10 ∷ []
 
--- a fault at an offset of an input
+-- a fault at an offset, in bytes, of the input of this name
 abbrev pub fault_message : List ℕ → ℕ → Fault → List ℕ
 fault_message name offset fault =
     codes "capkit: " ++ name ++ codes ": offset " ++ decimal offset ++ codes ": "
     ++ fault_text fault ++ line_feed
 
--- the output's device failed
+-- the device of the output of this name failed
 abbrev pub write_failed_message : List ℕ → List ℕ
 write_failed_message name = codes "capkit: " ++ name ++ codes ": write failed" ++ line_feed
 
@@ -30,10 +31,11 @@ write_failed_message name = codes "capkit: " ++ name ++ codes ": write failed" +
 abbrev pub no_memory_message : List ℕ
 no_memory_message = codes "capkit: no memory" ++ line_feed
 
--- what is wrong with an expression or a listing
+-- what is wrong with an expression
 abbrev pub expression_message : List ℕ → List ℕ
 expression_message text = codes "capkit: expression: " ++ text ++ line_feed
 
+-- what is wrong with a listing, or with the program that it has
 abbrev pub code_message : List ℕ → List ℕ
 code_message text = codes "capkit: code: " ++ text ++ line_feed
 

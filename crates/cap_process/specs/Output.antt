@@ -11,13 +11,14 @@ use Rattle.cap_process.specs.declared.output.Writing.TheVariants as writing
 use Rattle.cap_process.specs.Outcome.{Form, AsCapture, AsReports, AsLines, lines_text}
 use Rattle.cap_process.specs.Reports.{Report, reports_text}
 
--- a capture; or text or the lines of packets, with the bytes that the output took, a count of its
--- failures, and how many bytes it takes in all before it fails
+-- What is written into: a capture; or a text or the lines of packets, with the bytes that the
+-- output took, a count of its failures, and how many bytes it takes in all before it fails.
 pub data Target : Type 0 where
   Capture : (sink : SinkView) → Target
   Text : (written : List ℕ) → (failures room : ℕ) → Target
   Lines : (options : Options) → (written : List ℕ) → (failures room : ℕ) → Target
 
+-- what a device of the code is, by what its output shows of its bytes, its failures and its room
 abbrev pub target_of : {O Z : Type 0} → (O → List ℕ) → (O → ℕ) → (O → ℕ) → Device O Z → Target
 target_of written failures room (device.Capture sink) = Capture sink
 target_of written failures room (device.Text output) =
@@ -32,28 +33,31 @@ target_at (writing.Capture format) written failures room =
 target_at writing.Text written failures room = Text written failures room
 target_at (writing.Lines options) written failures room = Lines options written failures room
 
+-- in which form packets and reports are written into it
 abbrev pub form_to : List (List ℕ) → Target → Form
 form_to names (Capture sink) = AsCapture sink.format
 form_to names (Text written failures room) = AsReports names
 form_to names (Lines options written failures room) = AsLines options
 
+-- the bytes that its output took
 abbrev pub written_to : Target → List ℕ
 written_to (Capture sink) = sink.written
 written_to (Text written failures room) = written
 written_to (Lines options written failures room) = written
 
+-- how often its output failed
 abbrev pub failures_to : Target → ℕ
 failures_to (Capture sink) = sink.failures
 failures_to (Text written failures room) = failures
 failures_to (Lines options written failures room) = failures
 
--- how many bytes it takes in all before it fails
+-- how many bytes its output takes in all before it fails
 abbrev pub room_to : Target → ℕ
 room_to (Capture sink) = sink.room
 room_to (Text written failures room) = room
 room_to (Lines options written failures room) = room
 
--- no more interfaces than a file may have, with names of few bytes
+-- a capture has no more interfaces than a file may have, with names of at most 255 bytes
 abbrev pub HasFewOutputInterfaces : Target → Type 0
 HasFewOutputInterfaces (Capture sink) = FitFile sink.interfaces
 HasFewOutputInterfaces target = Unit {0}

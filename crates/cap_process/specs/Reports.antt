@@ -21,6 +21,7 @@ pub record Tally : Type 0 where
   -- no time is less than the one before it; equal times are in order
   pub ascends : Bool
 
+-- the tally of no packets
 abbrev pub nothing_counted : Tally
 nothing_counted =
     record {
@@ -33,6 +34,7 @@ nothing_counted =
       ascends = true;
     }
 
+-- a tally with one packet more
 abbrev pub tally_with : Tally → Captured → Tally
 tally_with t p = record {
   count = t.count + 1;
@@ -44,36 +46,40 @@ tally_with t p = record {
   ascends = t.ascends && nat_le t.last p.time;
 }
 
+-- what is reported of an input: which it is, its format, its size in bytes, and its packets
 pub record Report : Type 0 where
   pub input : ℕ
   pub kind : Option Kind
   pub size : ℕ
   pub tally : Tally
 
--- a file of no kind has a fault, and no report
+-- the name of a format; a file of no format has a fault, and no report
 abbrev pub kind_name : Option Kind → List ℕ
 kind_name None = []
 kind_name (Some kind.Pcap) = format_name format.Pcap
 kind_name (Some kind.NsecPcap) = format_name format.NsecPcap
 kind_name (Some kind.Pcapng) = format_name format.Pcapng
 
+-- a time as a date, or "none" of no packets
 abbrev pub date_or_none : ℕ → ℕ → List ℕ
 date_or_none count time = if count == 0 then codes "none" else date_text time
 
--- a number of nanoseconds in seconds
+-- a number of nanoseconds in seconds, with a point and nine digits
 abbrev pub seconds : ℕ → List ℕ
 seconds time = decimal (time / NANOS_PER_SECOND) ++ 46 ∷ digits 9 (time % NANOS_PER_SECOND)
 
+-- the word "yes" or "no"
 abbrev pub yes_or_no : Bool → List ℕ
 yes_or_no true = codes "yes"
 yes_or_no false = codes "no"
 
--- `LABEL: VALUE` on a line each, and what comes after them
+-- `LABEL: VALUE` on a line each, and what comes after them; 58, 32 and 10 are a colon, a space and
+-- the end of a line
 abbrev pub lines : List (List ℕ × List ℕ) → List ℕ → List ℕ
 lines [] following = following
 lines ((label, value) ∷ more) following = label ++ (58 ∷ 32 ∷ (value ++ 10 ∷ lines more following))
 
--- on a file's format, its size and the sizes of its packets
+-- labels and values on a file's format, its size and the sizes of its packets
 abbrev pub size_lines : Option Kind → ℕ → Tally → List (List ℕ × List ℕ)
 size_lines kind size t =
     (codes "Type", kind_name kind)
@@ -83,7 +89,7 @@ size_lines kind size t =
     ∷ (codes "Captured size", decimal t.captured_size)
     ∷ []
 
--- on the times of the packets
+-- labels and values on the times of the packets
 abbrev pub time_lines : Tally → List (List ℕ × List ℕ)
 time_lines t =
     (codes "Earliest", date_or_none t.count t.least)
@@ -97,9 +103,11 @@ unfoldable pub file_report : List ℕ → Option Kind → ℕ → Tally → List
 file_report name kind size t =
     lines ((codes "File", name) ∷ (size_lines kind size t ++ time_lines t)) (10 ∷ [])
 
+-- the name with this index; empty where there is none
 abbrev pub name_at : List (List ℕ) → ℕ → List ℕ
 name_at names i = unwrap_or (slice_get names i) []
 
+-- the text of a report, by the names of the inputs
 abbrev pub report_text : List (List ℕ) → Report → List ℕ
 report_text names r = file_report (name_at names r.input) r.kind r.size r.tally
 

@@ -17,6 +17,7 @@ use Rattle.cap_process.specs.Verdict.{Policy, Edit, Filter, KeepAll, Count, Edit
 use Rattle.cap_process.specs.Reports.{Tally}
 use Rattle.cap_io.specs.Reading.{most_in_unit}
 
+-- a selector: its policy, what it met, and its programs
 pub record SelectorView : Type 0 where
   pub policy : Policy
   pub state : SelectorState
@@ -27,6 +28,7 @@ pub record SelectorView : Type 0 where
 abbrev pub state_of : ℕ → List Mark → Tally → SelectorState
 state_of passed marks tally = record { passed = passed; window = marks; tally = tally }
 
+-- what an edit of the command does to packets
 abbrev pub edit_rule_of : {Z : Type 0} → command_edit.Edit Z → EditRule
 edit_rule_of edit = record {
   ranges = edit.ranges.items;
@@ -40,6 +42,7 @@ edit_rule_of edit = record {
   window = edit.window;
 }
 
+-- by what a policy of the code judges
 abbrev pub policy_of : {Z : Type 0} → code_policy.Policy Z → Policy
 policy_of (policy.Edit edit) = Edit (edit_rule_of edit)
 policy_of (policy.Filter filter count) = Filter (rule_of filter) count
@@ -79,25 +82,26 @@ abbrev pub spent_by_verdict : Policy → ℕ → Captured → List Content → L
 spent_by_verdict policy number p programs =
     if is_too_many policy number then programs else spent_by policy p programs
 
--- whether reports are asked
+-- whether packets are only counted, for reports
 abbrev pub is_count : Policy → Bool
 is_count Count = true
 is_count other = false
 
+-- the marks in a window, if there is one
 abbrev pub marks_in : Option WindowView → List Mark
 marks_in None = []
 marks_in (Some w) = w.marks
 
--- how many packets in a row are looked through for duplicates, the last among them
+-- among how many packets in a row, the current one among them, duplicates are searched for
 abbrev pub window_of : Policy → Option ℕ
 window_of (Edit s) = s.window
 window_of other = None
 
--- how many marks that takes
+-- how many marks a window for as many packets in a row has: one fewer, or none
 abbrev pub places : Option ℕ → ℕ
 places None = 0
 places (Some n) = n - 1
 
--- no more than these numbers of packets have
+-- the sums of a tally are no more than n packets may have
 abbrev pub IsWithin : ℕ → Tally → Type 0
 IsWithin n t = (t.count ≤ n) × (t.data_size ≤ n * 2 ^ 32) × (t.captured_size ≤ n * most_in_unit)

@@ -33,6 +33,7 @@ pub record EditRule : Type 0 where
   pub shift : Shift
   pub window : Option ℕ
 
+-- by what a job judges packets
 pub data Policy : Type 0 where
   Edit : (s : EditRule) → Policy
   Filter : (rule : Rule) → (count : Option ℕ) → Policy
@@ -49,11 +50,13 @@ pub record SelectorState : Type 0 where
   pub window : List Mark
   pub tally : Tally
 
+-- before the first packet
 abbrev pub initial_state : SelectorState
 initial_state = record { passed = 0; window = []; tally = nothing_counted }
 
 -- ---- what becomes of a packet
 
+-- what becomes of a packet; with a packet that passes, what it passes as
 pub data Verdict : Type 0 where
   Pass : (p : Captured) → Verdict
   -- it passes, and nothing after it is read
@@ -61,56 +64,65 @@ pub data Verdict : Type 0 where
   Skip : Verdict
   Refuse : (fault : Fault) → Verdict
 
+-- what becomes of a packet, and what is met with it
 pub record Judgement : Type 0 where
   pub verdict : Verdict
   pub state : SelectorState
 
+-- the packet passes, and is one packet more of those that passed
 abbrev pub passes : SelectorState → Captured → Judgement
 passes s p = record { verdict = Pass p; state = record s { passed = s.passed + 1 } }
 
+-- the packet is skipped; nothing is kept of it
 abbrev pub skip_judgement : SelectorState → Judgement
 skip_judgement s = record { verdict = Skip; state = s }
 
+-- the packet is refused for this fault, where the job ends
 abbrev pub refuses : SelectorState → Fault → Judgement
 refuses s fault = record { verdict = Refuse fault; state = s }
 
 -- ---- edits
 
+-- whether a time is `start` or later, if there is a start
 abbrev pub is_from_start : Option ℕ → ℕ → Bool
 is_from_start None time = true
 is_from_start (Some start) time = nat_le start time
 
+-- whether a time is earlier than `stop`, if there is a stop
 abbrev pub is_before_stop : Option ℕ → ℕ → Bool
 is_before_stop None time = true
 is_before_stop (Some stop) time = nat_lt time stop
 
+-- whether an edit keeps a packet by its number (its ranges) and by its time as it was read
 abbrev pub is_selected : EditRule → ℕ → Captured → Bool
 is_selected s number p =
     is_kept s.ranges s.keep number && (is_from_start s.start p.time && is_before_stop s.stop p.time)
 
+-- the bytes without the last n; none of n or fewer
 abbrev pub without_last : ℕ → List ℕ → List ℕ
 without_last n bytes = take (length bytes - n) bytes
 
--- the start is removed before the end; what is shorter becomes empty
+-- the bytes whose start is removed, and then their end; what is shorter becomes empty
 abbrev pub bytes_after_chop : EditRule → List ℕ → List ℕ
 bytes_after_chop s bytes = without_last s.chop_end (drop s.chop_start bytes)
 
--- at most a given number of bytes
+-- the first bytes, as many as a snap length keeps; all without one
 abbrev pub bytes_within_snap : Option ℕ → List ℕ → List ℕ
 bytes_within_snap None bytes = bytes
 bytes_within_snap (Some snap) bytes = take snap bytes
 
--- the original length and the comment stay
+-- the packet as an edit writes it at this time; its original length and its comment stay
 abbrev pub edited_packet_with : EditRule → Captured → ℕ → Captured
 edited_packet_with s p time =
     record p { time = time; bytes = bytes_within_snap s.snap (bytes_after_chop s p.bytes) }
 
--- a time that is moved, where it is from 0 to 2^63 - 1 nanoseconds then
+-- a time that a shift moves; none where it isn't from 0 to 2^63 - 1 nanoseconds then
 abbrev pub shifted_time : Shift → ℕ → Option ℕ
 shifted_time shift.None time = Some time
 shifted_time (shift.Later by) time = if nat_lt (time + by) TIME_END then Some (time + by) else None
 shifted_time (shift.Earlier by) time = if nat_le by time then Some (time - by) else None
 
+-- the state with one mark more in its window, of which the last `most` are kept
 abbrev pub with_mark : ℕ → Mark → SelectorState → SelectorState
 with_mark most mark s = record s { window = last most (s.window ++ mark ∷ []) }
 
@@ -123,10 +135,13 @@ unique (Some n) s p =
     if has_same s.window (mark_of p.bytes) then skip_judgement
     (with_mark (n - 1) (mark_of p.bytes) s) else passes (with_mark (n - 1) (mark_of p.bytes) s) p
 
+-- a selected packet by its moved time: refused where there is none
 abbrev pub judgement_by_time : EditRule → SelectorState → Captured → Option ℕ → Judgement
 judgement_by_time s state p None = refuses state TimeOutOfRange
 judgement_by_time s state p (Some time) = unique s.window state (edited_packet_with s p time)
 
+-- what an edit makes of the packet with this number: it is skipped where it isn't selected, or is a
+-- duplicate
 abbrev pub selects : EditRule → SelectorState → ℕ → Captured → Judgement
 selects s state number p =
     if is_selected s number p then judgement_by_time s state p (shifted_time s.shift p.time)
@@ -134,17 +149,19 @@ selects s state number p =
 
 -- ---- filters
 
+-- whether the packet that passed as number `passed` is the last that may
 abbrev pub is_last : Option ℕ → ℕ → Bool
 is_last None passed = false
 is_last (Some count) passed = passed == count
 
--- the packet passes, and is the last where `count` passed
+-- the packet passes; it is the last where `count` packets passed with it
 abbrev pub counts : Option ℕ → SelectorState → Captured → Judgement
 counts count s p = record {
   verdict = if is_last count (s.passed + 1) then PassLast p else Pass p;
   state = record s { passed = s.passed + 1 };
 }
 
+-- what becomes of a packet by the decision of a filter
 abbrev pub filters : Decision → Option ℕ → SelectorState → Captured → Judgement
 filters chosen.Keep count s p = counts count s p
 filters chosen.Skip count s p = skip_judgement s
@@ -152,6 +169,7 @@ filters (chosen.Refuse fault) count s p = refuses s fault
 
 -- ---- all of it
 
+-- what becomes of the packet with this number by a policy
 abbrev pub judge_by : Policy → SelectorState → ℕ → Captured → Judgement
 judge_by (Edit s) state number p = selects s state number p
 judge_by (Filter rule count) state number p = filters (rule_decides rule p) count state p
@@ -159,11 +177,12 @@ judge_by KeepAll state number p = passes state p
 judge_by Count state number p =
     skip_judgement (record state { tally = tally_with state.tally p })
 
--- packets have numbers, but where they are counted alone
+-- whether a number is too great for a packet; where packets are counted alone none is
 abbrev pub is_too_many : Policy → ℕ → Bool
 is_too_many Count number = false
 is_too_many policy number = nat_le PACKET_NUMBER_END number
 
+-- the same; a packet whose number is too great is refused
 abbrev pub judge : Policy → SelectorState → ℕ → Captured → Judgement
 judge policy state number p =
     if is_too_many policy number then refuses state TooManyPackets

@@ -38,7 +38,8 @@ fn is_before_stop(stop: Option<u64>, time: u64) -> bool
     }
 }
 
-/// Whether a packet is kept, by its number and by its time as it was read.
+/// Whether an edit keeps a packet, by its number, from 1 on in the input, and by its time as it was
+/// read, before any shift.
 fn is_selected<A: Allocator>(edit: &Edit<A>, number: u64, packet: &Packet<'_>) -> bool
     ensures { result ≡ is_selected (edit_rule_of edit.now) number (captured packet.now) }
 {
@@ -46,7 +47,7 @@ fn is_selected<A: Allocator>(edit: &Edit<A>, number: u64, packet: &Packet<'_>) -
     edit.keeps(number) && in_time
 }
 
-/// What follows the first `count` bytes; nothing where there are no more than these.
+/// The bytes without the first `count`; none where there are no more than these.
 fn without_first(count: u32, bytes: &[u8]) -> &[u8]
     ensures { result.now ≡ drop count bytes.now }
 {
@@ -54,7 +55,7 @@ fn without_first(count: u32, bytes: &[u8]) -> &[u8]
     &bytes[count..]
 }
 
-/// What is before the last `count` bytes; nothing of fewer.
+/// The bytes without the last `count`; none where there are no more than these.
 fn without_last(count: u32, bytes: &[u8]) -> &[u8]
     ensures { result.now ≡ without_last count bytes.now }
 {
@@ -62,8 +63,9 @@ fn without_last(count: u32, bytes: &[u8]) -> &[u8]
     &bytes[..count]
 }
 
-/// The first `snap` bytes, or all where there are fewer or no `snap` is given.
-fn snapped(snap: Option<u32>, bytes: &[u8]) -> &[u8]
+/// The first `snap` bytes, as a snap length keeps them; all where there are fewer or no `snap` is
+/// given.
+fn bytes_within_snap(snap: Option<u32>, bytes: &[u8]) -> &[u8]
     ensures { result.now ≡ bytes_within_snap snap bytes.now }
 {
     match snap {
@@ -72,8 +74,9 @@ fn snapped(snap: Option<u32>, bytes: &[u8]) -> &[u8]
     }
 }
 
-/// A time moved by a shift, in nanoseconds; `None` where it would be before 1970, or 2^63 or more.
-fn moved(shift: Shift, time: u64) -> Option<u64>
+/// A time moved by a shift, both in nanoseconds; `None` where it would be before 1970, or 2^63 or
+/// more.
+fn shifted_time(shift: Shift, time: u64) -> Option<u64>
     requires { time < 2 ^ 63 }
     ensures value { result ≡ shifted_time shift time }
     ensures range { IfSome result (λ time. time < 2 ^ 63) }
@@ -91,9 +94,9 @@ fn moved(shift: Shift, time: u64) -> Option<u64>
     }
 }
 
-/// The packet at this time, with the bytes that the edit leaves of it: its start is cut, then its
-/// end, then what is past the snap length. Its original length and its comment are kept.
-fn changed<'a, A: Allocator>(edit: &Edit<A>, packet: &Packet<'a>, time: u64) -> Packet<'a>
+/// The packet as an edit writes it, at its moved time: its start is cut, then its end, then what is
+/// past the snap length. Its original length and its comment are kept.
+fn edited_packet<'a, A: Allocator>(edit: &Edit<A>, packet: &Packet<'a>, time: u64) -> Packet<'a>
     requires { time < 2 ^ 63 }
     ensures value { captured result
         ≡ edited_packet_with (edit_rule_of edit.now) (captured packet.now) time }
@@ -107,13 +110,13 @@ fn changed<'a, A: Allocator>(edit: &Edit<A>, packet: &Packet<'a>, time: u64) -> 
         name: packet.name,
         time,
         orig: packet.orig,
-        bytes: snapped(edit.snap, chopped),
+        bytes: bytes_within_snap(edit.snap, chopped),
         comment: packet.comment,
     }
 }
 
-/// Whether a packet is no duplicate of one that the window remembers; from now on it is remembered
-/// too. Without a window none is a duplicate.
+/// Whether a packet is no duplicate of one that the window remembers. Either way its mark enters
+/// the window, which keeps the last ones. Without a window none is a duplicate.
 fn is_unique<A: Allocator>(window: &mut Option<Window<A>>, packet: &Packet<'_>) -> bool
     requires { length packet.now.bytes.now ≤ most_in_unit }
     ensures exact { (n : Option ℕ) (passed : ℕ) (tally : Tally) → IsWindowFor n window.old
@@ -128,10 +131,10 @@ fn is_unique<A: Allocator>(window: &mut Option<Window<A>>, packet: &Packet<'_>) 
     }
 }
 
-/// Whether a packet passes an edit: it is selected by its number and its time, and no duplicate
-/// once its bytes are cut. One that passes is changed into what it passes as. The one error is
-/// `TimeOutOfRange`: its time, moved, is out of range.
-pub(crate) fn selects<A: Allocator>(
+/// Edits a packet, and returns whether it passes: it is selected by its number and its time, and no
+/// duplicate once its bytes are cut. One that passes is changed into what it passes as. The one
+/// error is `TimeOutOfRange`: its time, moved, is before 1970, or 2^63 nanoseconds or more.
+pub(crate) fn edit_packet<A: Allocator>(
     edit: &Edit<A>,
     window: &mut Option<Window<A>>,
     number: u64,
@@ -149,10 +152,10 @@ pub(crate) fn selects<A: Allocator>(
     if !is_selected(edit, number, packet) {
         return Ok(false);
     }
-    let Some(time) = moved(edit.shift, packet.time) else {
+    let Some(time) = shifted_time(edit.shift, packet.time) else {
         return Err(Fault::TimeOutOfRange);
     };
-    *packet = changed(edit, packet, time);
+    *packet = edited_packet(edit, packet, time);
     Ok(is_unique(window, packet))
 }
 

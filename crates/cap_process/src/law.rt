@@ -7,8 +7,8 @@ ghost use Rattle.cap_process.specs.Whole.{CutsGivePrefixes, NegationParts};
 
 use cap_io::laws::items_back;
 
-/// What is counted packet by packet is what the list of a file's packets has: how many there are,
-/// the sums of their lengths, their least, greatest and last time, and whether times ascend.
+/// What `infos` counts packet by packet is what the list of a file's packets has: how many there
+/// are, the sums of their lengths, their least, greatest and last time, and whether times ascend.
 pub fn report_counts_all()
     ensures { CountsAll }
 {}
@@ -19,13 +19,14 @@ pub fn print_passes_filtered()
     ensures { PassesFiltered }
 {}
 
-/// The window of an edit has the marks of the last n - 1 packets that were selected.
+/// The window of an edit that looks for duplicates among n packets in a row has the marks (lengths
+/// and digests) of the last n - 1 packets that were selected.
 pub fn window_has_last_marks()
     ensures { HasLastMarks }
 {}
 
-/// The selection of an edit ends at the first packet that is selected and whose time, once moved, is
-/// out of range, and for a time nowhere else. What passes is what is unique of what is selected
+/// The selection of an edit ends at the first packet that is selected and whose time, once moved,
+/// is out of range, and for a time nowhere else. What passes is what is unique of what is selected
 /// before it.
 pub fn edit_ends_without_time()
     ensures { EndsWithoutTime }
@@ -73,15 +74,17 @@ pub fn edit_keeps_what_is_carried()
     items_back();
 }
 
-/// There an edit without options of what such an edit wrote writes the same bytes.
+/// Where its format carries all packets of a file, which has some, an edit without options of what
+/// such an edit wrote writes the same bytes.
 pub fn edit_again_is_alike()
     ensures { EditsAlike }
 {
     items_back();
 }
 
-/// Of packets with link types that expressions are read on, an expression, its negation and
-/// rejection make three lists; each packet is in one of them, once.
+/// Of packets with link types that expressions are read on, three lists are made: those that match
+/// an expression, those that match its negation, and those that it rejects. Each packet is in one
+/// of them, once.
 pub fn negation_parts_packets()
     ensures { NegationParts }
 {}

@@ -58,8 +58,8 @@ pub fn report_write_failed<O: Output>(output: &mut O, name: &str) -> Result<(), 
     write_parts(output, &parts)
 }
 
-/// Reports that memory ran out where no unit was read, so that there is no input and no offset to
-/// name.
+/// Reports that memory ran out before a unit was read, to begin a job or to read its filter. So
+/// there is no input and no offset to name.
 pub fn report_no_memory<O: Output>(output: &mut O) -> Result<(), DeviceFault>
     ensures exact { IsTrue O.tells → AppendsOrStops result (O.written output.old) no_memory_message
         (O.written output.new) }
@@ -68,21 +68,21 @@ pub fn report_no_memory<O: Output>(output: &mut O) -> Result<(), DeviceFault>
     write_parts(output, &[b"capkit: no memory\n"])
 }
 
-/// Writes the message of a refusal: what is refused (`of`), why (`text`), and where: words and a
-/// number in digits, both empty where there is no place to name.
+/// Writes the message of a refusal: what is refused (`subject`), why (`text`), and where: `words`
+/// as " at line ", then a number in `digits`; both are empty where there is no place to name.
 fn write_refusal<'a, O: Output>(
     output: &mut O,
-    of: &'a [u8],
+    subject: &'a [u8],
     text: &'a [u8],
     words: &'a [u8],
     digits: &'a [u8],
 ) -> Result<(), DeviceFault>
     ensures exact { IsTrue O.tells → AppendsOrStops result (O.written output.old)
-        (codes "capkit: " ++ of.now ++ codes ": " ++ text.now ++ words.now ++ digits.now
+        (codes "capkit: " ++ subject.now ++ codes ": " ++ text.now ++ words.now ++ digits.now
         ++ line_feed) (O.written output.new) }
     ensures failed { O.failures output.new ≡ O.failures output.old + failures_of result }
 {
-    let parts: [&'a [u8]; 7] = [b"capkit: ", of, b": ", text, words, digits, b"\n"];
+    let parts: [&'a [u8]; 7] = [b"capkit: ", subject, b": ", text, words, digits, b"\n"];
     write_parts(output, &parts)
 }
 

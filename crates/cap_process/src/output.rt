@@ -1,4 +1,6 @@
-//! Where a job writes.
+//! Where a job writes: into a capture, or lines or a text.
+//!
+//! An error of these functions means that the device failed, unless a function says otherwise.
 ghost use Rattle.std.specs.Prelude.{◌≡◌, ◌+◌, IfErr, IsTrue, true};
 ghost use Rattle.cap_octet.specs.Device.{AppendsOrStops, failures_of};
 ghost use Rattle.cap_octet.specs.Packet.{captured};
@@ -31,7 +33,7 @@ pub enum Writing {
 pub(crate) enum Device<O: Output, A: Allocator> {
     Capture(Sink<O, A>),
     Text(O),
-    /// The buffer is for one line.
+    /// The options of lines, a buffer for one line, and the output.
     Lines(Options, Text, O),
 }
 
@@ -58,7 +60,8 @@ impl<O: Output, A: Allocator> JobOutput<O, A> {
     ghost use Rattle.cap_process.specs.Reports.{file_report};
     ghost use Rattle.flt_bpf.specs.Listing.{listing};
 
-    /// An output to which nothing is written yet. It takes no memory.
+    /// An output to which nothing is written yet: `output` is the device, `writing` what is to be
+    /// written. It takes no memory.
     pub fn new(alloc: A, writing: Writing, output: O) -> Self
     where
         A: Copy,
@@ -74,6 +77,7 @@ impl<O: Output, A: Allocator> JobOutput<O, A> {
     }
 
     /// Writes a packet into a capture, or its line; a text has no packets, and is left unchanged.
+    /// The errors are those of `Sink::put` for a capture, and `WriteFailed` for a line.
     pub fn put(&mut self, packet: &Packet<'_>) -> Result<(), Fault>
         ensures exact { IsTrue O.tells
             → PutsIntoOutput (captured packet.now) self.old result self.new }
@@ -113,7 +117,7 @@ impl<O: Output, A: Allocator> JobOutput<O, A> {
         }
     }
 
-    /// Writes the listing of a program, as text.
+    /// Writes the listing of a program. Only an output of text is asked for one.
     pub fn list(&mut self, program: &Program<A>) -> Result<(), DeviceFault>
         requires { is_text self.old ≡ true }
         ensures exact { IsTrue O.tells
@@ -129,14 +133,14 @@ impl<O: Output, A: Allocator> JobOutput<O, A> {
     }
 
     /// Ends what is written: a capture without packets gets its file header, with this link type,
-    /// or 1 where there is none.
-    pub fn finish(&mut self, first: Option<u16>) -> Result<(), DeviceFault>
-        ensures exact { IsTrue O.tells → EndsOutput first self.old result self.new }
+    /// or 1, that of Ethernet, where there is none.
+    pub fn finish(&mut self, first_link: Option<u16>) -> Result<(), DeviceFault>
+        ensures exact { IsTrue O.tells → EndsOutput first_link self.old result self.new }
         ensures room { room_to self.new ≡ room_to self.old }
         ensures upper_bound { HasFewOutputInterfaces self.old → HasFewOutputInterfaces self.new }
     {
         match &mut self.device {
-            Device::Capture(sink) => end_capture(sink, first),
+            Device::Capture(sink) => end_capture(sink, first_link),
             Device::Text(_) | Device::Lines(_, _, _) => Ok(()),
         }
     }
@@ -157,7 +161,8 @@ impl<O: Output, A: Allocator> JobOutput<O, A> {
     }
 }
 
-/// Writes the line of a packet, and its bytes where they are asked for.
+/// Writes the line of a packet into `text`, a buffer, and from there to the output; its bytes too,
+/// where the options ask for them. The one error is `WriteFailed`.
 fn put_line<O: Output>(
     text: &mut Text,
     options: Options,
@@ -192,18 +197,19 @@ fn put_listing<O: Output, A: Allocator>(
     }
 }
 
-/// Ends a capture, which gets its file header here where it has no packets.
+/// Ends a capture, which gets its file header here where it has no packets, with the link type
+/// `first_link`, or that of Ethernet where there is none.
 fn end_capture<O: Output, A: Allocator>(
     sink: &mut Sink<O, A>,
-    first: Option<u16>,
+    first_link: Option<u16>,
 ) -> Result<(), DeviceFault>
     ensures exact { IsTrue O.tells
-        → EndsOutput first (Capture sink.old) result (Capture sink.new) }
+        → EndsOutput first_link (Capture sink.old) result (Capture sink.new) }
     ensures room { sink.new.room ≡ sink.old.room }
     ensures upper_bound { HasFewOutputInterfaces (Capture sink.old)
         → HasFewOutputInterfaces (Capture sink.new) }
 {
-    match sink.finish(first) {
+    match sink.finish(first_link) {
         Ok(()) => Ok(()),
         Err(_) => Err(DeviceFault),
     }

@@ -1,4 +1,7 @@
-//! The report of a file.
+//! The report of a file, as `infos` prints it.
+//!
+//! An error of these functions means that the device failed in the call, after a prefix of the text
+//! that isn't the whole.
 ghost use Rattle.std.specs.Prelude.{◌≡◌, ◌+◌, ◌==◌, [], ◌∷◌, IsTrue, codes, if◌then◌else◌};
 ghost use Rattle.cap_octet.specs.Device.{AppendsOrStops, failures_of};
 ghost use Rattle.cap_process.specs.Reports.{file_report, kind_name, lines, size_lines, time_lines};
@@ -13,15 +16,14 @@ use itoa::Buffer;
 /// What is reported of a file.
 #[derive(Clone, Copy)]
 pub struct Report {
-    /// Its format, by its first bytes.
+    /// Its format, by its first bytes; `None` where they are of no format.
     pub kind: Option<Kind>,
     /// Its size in bytes.
     pub size: u64,
     pub tally: Tally,
 }
 
-/// Writes the report of the file of this name. An error is a failure of the device in this call,
-/// after a prefix of the report that isn't the whole.
+/// Writes the report of the file of this name: a line for each property, then an empty line.
 pub fn write_report<O: Output>(
     output: &mut O,
     name: &str,
@@ -102,7 +104,8 @@ fn yes_or_no(yes: bool) -> &'static [u8]
     if yes { b"yes" } else { b"no" }
 }
 
-/// Writes the lines on the times of packets, and the empty line that ends the report.
+/// Writes the lines on the times of packets, with the duration in seconds and nine digits of a
+/// fraction, and the empty line that ends the report.
 fn write_times<O: Output>(output: &mut O, tally: Tally) -> Result<(), DeviceFault>
     ensures exact { IsTrue O.tells → AppendsOrStops result (O.written output.old)
         (lines (time_lines tally) (10 ∷ [])) (O.written output.new) }

@@ -1,4 +1,5 @@
-//! What becomes of each packet.
+//! What becomes of each packet: a selector judges packets in turn by its policy, which is an edit,
+//! a filter, that all are kept, or that all are counted.
 ghost use Rattle.std.specs.Prelude.{◌≡◌, ℕ, ◌+◌, ◌-◌, ◌<◌, ◌≤◌, [], IfOk, None, Some, false};
 ghost use Rattle.std.specs.Prelude.{if◌then◌else◌, length};
 ghost use Rattle.cap_octet.specs.Packet.{Captured, captured};
@@ -16,7 +17,7 @@ ghost use Rattle.cap_process.specs.inside.Selector.{verdict_of};
 ghost use Rattle.cap_process.specs.Reports.{Tally, nothing_counted};
 ghost use Rattle.cap_window.specs.View.{window};
 
-use crate::edit::selects;
+use crate::edit::edit_packet;
 use crate::tally::Tally;
 use cap_command::{Edit, PACKET_NUMBER_END};
 use cap_filter::filter::Filter;
@@ -81,8 +82,8 @@ impl<A: Allocator> Model for Selector<A> {
     ghost invariant = { λ j. IsWindowFor (window_of (policy_of j.policy)) j.window };
 }
 
-/// Whether the packet with which `passed` packets have passed is the last one; without a `count`
-/// none is.
+/// Whether the packet that passed as number `passed` is the last one that may, by the most packets,
+/// `count`; without a `count` none is.
 fn is_last(count: Option<u64>, passed: u64) -> bool
     ensures { result ≡ is_last count passed }
 {
@@ -105,9 +106,10 @@ where
 impl<A: Allocator> Policy<A> {
     /// Whether a packet passes; an edit changes it into what it passes as. The errors are
     /// `LinkTypeNotFiltered`, where an expression isn't read on its link type, and
-    /// `TimeOutOfRange`, of an edit.
+    /// `TimeOutOfRange`, where the time that an edit moves is out of range.
     ///
-    /// Where packets are only counted `judge` doesn't call it, and the clause `exact` says nothing.
+    /// Where packets are only counted `judge` doesn't call this function, and the clause `exact`
+    /// says nothing.
     fn keeps(
         &mut self,
         window: &mut Option<Window<A>>,
@@ -130,16 +132,16 @@ impl<A: Allocator> Policy<A> {
             + most_spent (policy_of self.old) }
     {
         match self {
-            Policy::Edit(edit) => selects(edit, window, number, packet),
+            Policy::Edit(edit) => edit_packet(edit, window, number, packet),
             Policy::Filter(filter, _) => filter.passes(packet),
             Policy::KeepAll => Ok(true),
             Policy::Count => Ok(false),
         }
     }
 
-    /// The window of an edit that searches for duplicates, still empty; `None` of all others. An
-    /// error means that memory ran out.
-    fn window(&self, alloc: A) -> Result<Option<Window<A>>, AllocError>
+    /// The window of an edit that searches for duplicates, still empty; `None` of all other
+    /// policies. An error means that memory ran out.
+    fn empty_window(&self, alloc: A) -> Result<Option<Window<A>>, AllocError>
     where
         A: Copy,
         ensures window { IfOk result (IsWindowFor (window_of (policy_of self.now))) }
@@ -161,7 +163,7 @@ impl<A: Allocator> Policy<A> {
         matches!(self, Policy::Count)
     }
 
-    /// After how many packets that pass nothing more is read; `None` where all are.
+    /// After how many packets that pass nothing more is read; `None` where all packets are read.
     fn count_limit(&self) -> Option<u64>
         ensures { result ≡ count_limit (policy_of self.now) }
     {
@@ -184,8 +186,8 @@ impl<A: Allocator> Selector<A> {
     ghost use Rattle.cap_process.specs.Selector.{spent_by_verdict};
     ghost use Rattle.cap_process.specs.inside.Selector.{state_with};
 
-    /// A selector that has met nothing. Where it looks for duplicates it takes the memory of their
-    /// window here.
+    /// A selector of which no packet was judged yet. Where it looks for duplicates it takes the
+    /// memory of their window here; the error means that memory ran out.
     pub fn new(alloc: A, policy: Policy<A>) -> Result<Self, AllocError>
     where
         A: Copy + Drop,
@@ -196,7 +198,7 @@ impl<A: Allocator> Selector<A> {
           programs = programs_in policy;
         }) }
     {
-        let window = policy.window(alloc)?;
+        let window = policy.empty_window(alloc)?;
         Ok(Selector {
             policy,
             window,
@@ -205,8 +207,8 @@ impl<A: Allocator> Selector<A> {
         })
     }
 
-    /// A selector that has met nothing, by a filter, up to `count` packets that pass where there is
-    /// a number. It takes no memory.
+    /// A selector by a filter, of which no packet was judged yet. After `count` packets that pass,
+    /// where there is a number, nothing more is read. It takes no memory.
     pub fn filtering(filter: Filter<A>, count: Option<u64>) -> Self
         ensures { result ≡ record {
           policy = AskedFilter (rule_of filter) count;
@@ -254,16 +256,16 @@ impl<A: Allocator> Selector<A> {
             return Ok(Verdict::Skip);
         }
         let passed = self.passed;
-        // Always so, as fewer packets passed than were judged: it bounds the sum.
+        // Always so, as fewer packets passed than were judged: the test shows that the sum fits.
         if passed < number {
             self.passed = passed + 1;
         }
         let last = is_last(self.policy.count_limit(), self.passed);
-        Ok(passing(last))
+        Ok(pass_verdict(last))
     }
 
-    /// What was counted of the current input, and counts anew for the next one; `None` where
-    /// packets aren't counted.
+    /// Returns what was counted of the packets of the current input, at its end, and begins the
+    /// count of the next one. It returns `None`, and changes nothing, where packets aren't counted.
     pub fn close(&mut self) -> Option<Tally>
         ensures closes { TakesTally (is_count self.old.policy) (policy_state self.old) result
             (policy_state self.new) }
@@ -280,7 +282,7 @@ impl<A: Allocator> Selector<A> {
 }
 
 /// The verdict on a packet that passes, by whether it is the last one.
-fn passing(last: bool) -> Verdict
+fn pass_verdict(last: bool) -> Verdict
     ensures { (p : Captured) → verdict_of result p ≡ verdict_if p last }
 {
     if last {

@@ -55,7 +55,7 @@ impl Tally {
     ghost use Rattle.cap_process.specs.Reports.{tally_with, nothing_counted};
     ghost use Rattle.cap_process.specs.inside.Reports.{FitsTally};
 
-    /// No packets.
+    /// The tally of no packets.
     pub fn new() -> Self
         ensures { result ≡ nothing_counted }
     {

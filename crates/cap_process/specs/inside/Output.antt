@@ -26,7 +26,7 @@ pub record Prints (bytes written : List ℕ) (failures : ℕ) (r : Result (Unit 
   pub fault : IfErr r (λ fault. fault ≡ WriteFailed)
   pub is : new ≡ lines after (failures + failures_of r)
 
--- a packet is written, where packets are
+-- a packet is written into a capture or as a line; a text stays
 abbrev pub PutsIntoOutput : Captured → Target → Result (Unit {0}) Fault → Target → Type 0
 PutsIntoOutput p (Capture sink) r new = PutsInto p sink r new
 PutsIntoOutput p (Text written failures room) r new =
@@ -47,7 +47,7 @@ is_text (Capture sink) = false
 is_text (Text written failures room) = true
 is_text (Lines options written failures room) = false
 
--- a report or a listing is written, where text is
+-- a report or a listing is appended to a text; other outputs stay
 abbrev pub Reports : List ℕ → Target → Result (Unit {0}) DeviceFault → Target → Type 0
 Reports bytes (Capture sink) r new = (r ≡ Ok tt) × (new ≡ Capture sink)
 Reports bytes (Text written failures room) r new = AppendsText bytes written failures room r new
@@ -62,7 +62,7 @@ pub record FinishesInto (first : Option ℕ) (old : SinkView) (r : Result (Unit 
   pub finishes : sinks.Finishes old.state old first r sink
   pub writes : FinishWrites old.state old first r sink
 
--- what is written is ended, or the device failed
+-- the output is ended: a capture without packets gets its file header; or the device failed
 abbrev pub EndsOutput : Option ℕ → Target → Result (Unit {0}) DeviceFault → Target → Type 0
 EndsOutput first (Capture sink) (Ok done) new = FinishesInto first sink (Ok done) new
 EndsOutput first (Capture sink) (Err failed) new =

@@ -16,9 +16,11 @@ pub record PolicyState : Type 0 where
   pub policy : Policy
   pub state : SelectorState
 
+-- the policy and the state of a selector
 abbrev pub policy_state : SelectorView → PolicyState
 policy_state j = record { policy = j.policy; state = j.state }
 
+-- after how many packets that pass nothing more is read, if there is a limit
 abbrev pub count_limit : Policy → Option ℕ
 count_limit (Filter rule count) = count
 count_limit policy = None
@@ -29,6 +31,7 @@ verdict_of code_verdict.Pass p = Pass p
 verdict_of code_verdict.PassLast p = PassLast p
 verdict_of code_verdict.Skip p = judged.Skip
 
+-- a packet passes, as the last one or not
 abbrev pub verdict_if : Captured → Bool → Verdict
 verdict_if p true = PassLast p
 verdict_if p false = Pass p
@@ -46,7 +49,7 @@ ReturnsVerdict count j (Ok false) p state = (j.verdict ≡ judged.Skip) × (j.st
 ReturnsVerdict count j (Ok true) p state = j ≡ counts count state p
 ReturnsVerdict count j (Err fault) p state = j.verdict ≡ Refuse fault
 
--- there is a window of that size, where one is asked
+-- there is a window for n packets in a row, of n - 1 marks at most, where one is asked; else none
 abbrev pub IsWindowFor : Option ℕ → Option WindowView → Type 0
 IsWindowFor None None = Unit {0}
 IsWindowFor None (Some w) = ⊥
@@ -57,13 +60,13 @@ IsWindowFor (Some n) (Some w) = (w.capacity ≡ n - 1) × (length w.marks ≤ n 
 abbrev pub HasFewMarks : Policy → SelectorState → Type 0
 HasFewMarks policy state = length state.window ≤ places (window_of policy)
 
--- no more was added than a packet has
+-- no more was added to a tally than one packet has
 abbrev pub GrowsByOne : Tally → Tally → Type 0
 GrowsByOne old new =
     (new.count ≤ old.count + 1) × (new.data_size ≤ old.data_size + 2 ^ 32)
     × (new.captured_size ≤ old.captured_size + most_in_unit)
 
--- nothing is counted
+-- the state of a selector that counts anew
 abbrev pub with_empty_tally : SelectorState → SelectorState
 with_empty_tally s = record { passed = s.passed; window = s.window; tally = nothing_counted }
 
@@ -74,6 +77,6 @@ TakesTally true old r new =
     (r ≡ Some old.state.tally)
     × (new ≡ record { policy = old.policy; state = with_empty_tally old.state })
 
--- the state of a selector whose window is empty
+-- the state of a selector with an empty window
 abbrev pub state_with : ℕ → Tally → SelectorState
 state_with passed tally = record { passed = passed; window = []; tally = tally }
