@@ -48,6 +48,7 @@ pub record JobProgress : Type 0 where
   pub reports : List Report
   pub end : Option SequenceEnd
 
+-- a job of which nothing is done
 abbrev pub no_progress : JobProgress
 no_progress = record { decided = 0; state = initial_state; packets = []; reports = []; end = None }
 
@@ -67,6 +68,7 @@ abbrev pub unless_refused : Option Fault → JobProgress → ℕ → Placed → 
 unless_refused None w input p decided = decided
 unless_refused (Some fault) w input p decided = end_with w (FaultIn input fault p.offset)
 
+-- how far a job is after the verdict on a packet of this input
 abbrev pub apply_verdict : Form → JobProgress → ℕ → Placed → Verdict → SelectorState → JobProgress
 apply_verdict form w input p (Pass q) state =
     unless_refused (form_refuses form w.packets q) w input p (decide w state (q ∷ []) None)
@@ -85,6 +87,7 @@ end_input Count w input kind size = record w {
 }
 end_input policy w input kind size = w
 
+-- how far a job that goes on is after an event
 abbrev pub apply_event : Policy → Form → JobProgress → Event → JobProgress
 apply_event policy form w (Packet input p) =
     apply_verdict form w input p (judge policy w.state (w.decided + 1) p.packet).verdict
@@ -105,6 +108,7 @@ abbrev pub apply_events : Policy → Form → JobProgress → List Event → Job
 apply_events policy form w [] = w
 apply_events policy form w (e ∷ es) = apply_events policy form (next_progress policy form w e) es
 
+-- a job ends so, unless it ended before
 abbrev pub end_unless_ended : JobProgress → SequenceEnd → JobProgress
 end_unless_ended w close = unless_ended w.end w (end_with w close)
 
@@ -146,20 +150,23 @@ abbrev pub closing_text : Form → Option ℕ → List Captured → List ℕ
 closing_text (AsCapture format) link [] = file_start format (link_or_ethernet link)
 closing_text form link ps = []
 
--- What the end adds. After a fault that is nothing: where no packet was kept, the output has no file
--- header either.
+-- What the end adds. After a fault that is nothing: where no packet was kept, the output has no
+-- file header either.
 abbrev pub text_at_end : Option SequenceEnd → Form → Option ℕ → List Captured → List ℕ
 text_at_end (Some Complete) form link ps = closing_text form link ps
 text_at_end end form link ps = []
 
+-- all that a job writes: its packets or reports, and what its end adds
 abbrev pub final_text : Form → Option ℕ → JobProgress → List ℕ
 final_text form link w =
     output_text form w.packets w.reports ++ text_at_end w.end form link w.packets
 
+-- what is reported of how a job ended; nothing of a clean end
 abbrev pub message : List (List ℕ) → Option SequenceEnd → List ℕ
 message names (Some (FaultIn input fault offset)) = fault_message (name_at names input) offset fault
 message names end = []
 
+-- 1 where a job ended by a fault, else 0
 abbrev pub status : Option SequenceEnd → ℕ
 status (Some (FaultIn input fault offset)) = 1
 status end = 0
@@ -176,6 +183,7 @@ pub record Work : Type 0 where
   pub policy : Policy
   pub form : Form
 
+-- the outcome of a job that is so far and ended
 abbrev pub outcome_at : Work → List (List ℕ) → List InputItems → JobProgress → Outcome
 outcome_at work names rs w = record {
   output = final_text work.form (first_link rs) w;
@@ -205,9 +213,11 @@ pub record ComeFirst (order : Sequence) (es : List Event) : Type 0 where
 abbrev pub job_progress_after : Work → List Event → JobProgress
 job_progress_after work es = apply_events work.policy work.form no_progress es
 
+-- what is written of a job that is so far, without what its end adds
 abbrev pub text_of_progress : Form → JobProgress → List ℕ
 text_of_progress form w = output_text form w.packets w.reports
 
+-- what is written after these events
 abbrev pub text_after : Work → List Event → List ℕ
 text_after work es = text_of_progress work.form (job_progress_after work es)
 
@@ -233,7 +243,8 @@ IsNextAnswer work rs es None bytes =
     AreAllEvents work rs es
     × (bytes ≡ closing_text work.form (first_link rs) (job_progress_after work es).packets)
 
--- A packet comes next after these events that passes, isn't refused, and takes memory to be written.
+-- A packet comes next after these events that passes, isn't refused, and takes memory to be
+-- written.
 pub record NeedsMemory (work : Work) (rs : List InputItems) (es : List Event) (input : ℕ)
     (packet : Placed) : Type 0 where
   pub next : IsNextEvent work rs es (Packet input packet)

@@ -1,5 +1,5 @@
--- What whole commands write, in the words of lists: the packets of their inputs, which of them pass,
--- and up to the first that isn't written.
+-- What whole commands write, in the words of lists: the packets of their inputs, which of them
+-- pass, and up to the first that isn't written.
 use Rattle.std.specs.Prelude.{◌≡◌, ℕ, zero, suc, ◌+◌, ◌^◌, ◌<◌, Bool, true, false, if◌then◌else◌, List, [], ◌∷◌, ◌++◌, length, take, Option, None, Some, IfSome}
 use Rattle.std.specs.List.{sum_by}
 use Rattle.std.specs.Option.{is_some}
@@ -25,6 +25,7 @@ use Rattle.cap_process.specs.Lists.{at_most, packets_kept, packets_of, tally_of}
 
 -- ---- what is written of packets that pass
 
+-- a packet and those after it, unless it is refused
 abbrev pub written_unless : Option Fault → Captured → List Captured → List Captured
 written_unless None p rest = p ∷ rest
 written_unless (Some fault) p rest = []
@@ -52,6 +53,7 @@ file_packets file = packets_of (items file).packets
 
 -- ---- edit
 
+-- what an edit that writes this format does
 abbrev pub edit_work : EditRule → Format → Work
 edit_work s format = record { order = InTurn; policy = Edit s; form = AsCapture format }
 
@@ -71,6 +73,7 @@ EditWrites =
 
 -- ---- print
 
+-- what a print by this filter does, which ends after `count` packets, where there is a count
 abbrev pub print_work : Rule → Option ℕ → Form → Work
 print_work rule count form = record { order = InTurn; policy = Filter rule count; form = form }
 
@@ -97,6 +100,7 @@ PrintLines =
 
 -- ---- merge
 
+-- what a merge in this order that writes this format does
 abbrev pub merge_work : PacketOrder → Format → Work
 merge_work order format = record { order = order; policy = KeepAll; form = AsCapture format }
 
@@ -122,6 +126,7 @@ MergeWrites =
 
 -- ---- infos
 
+-- what a report on the inputs of these names does
 abbrev pub infos_work : List (List ℕ) → Work
 infos_work names = record { order = InTurn; policy = Count; form = AsReports names }
 
@@ -178,12 +183,12 @@ pub record HasCarried (format : Format) (file : List ℕ) (p : Captured) (ps : L
   pub few : length (p ∷ ps) < 2 ^ 63
   pub carried : Carries format (p ∷ ps)
 
--- what an edit without options writes of a file
+-- the bytes that an edit without options writes of a file
 abbrev pub copy_of : Format → List (List ℕ) → List ℕ → List ℕ
 copy_of format names file = (outcome (edit_work no_options format) names (whole_input file ∷ [])).output
 
--- Where the format carries all packets of a file, which has some, an edit without options keeps them,
--- as they are.
+-- Where the format carries all packets of a file, which has some, an edit without options keeps
+-- them, as they are.
 abbrev pub EditKeeps : Type 0
 EditKeeps =
     (format : Format) (names : List (List ℕ)) (file : List ℕ) (p : Captured) (ps : List Captured)
@@ -198,6 +203,7 @@ EditsAlike =
 
 -- ---- an expression and its negation
 
+-- whether an expression rejects a packet
 abbrev pub is_rejection : MatchResult → Bool
 is_rejection Rejected = true
 is_rejection r = false
@@ -207,6 +213,7 @@ abbrev pub is_rejected_on : TruthTree → Option Link → Captured → Bool
 is_rejected_on a None p = false
 is_rejected_on a (Some link) p = is_rejection (holds (truth a) link p.bytes p.orig)
 
+-- the packets that an expression rejects, in their order
 abbrev pub packets_rejected : TruthTree → List Captured → List Captured
 packets_rejected a [] = []
 packets_rejected a (p ∷ ps) =
@@ -218,8 +225,8 @@ abbrev pub AreRead : List Captured → Type 0
 AreRead [] = Unit {0}
 AreRead (p ∷ ps) = (is_some (link_of p.link) ≡ true) × AreRead ps
 
--- Of packets with link types that expressions are read on, an expression, its negation and rejection
--- make three lists; each packet is in one of them, once, whatever is summed of it.
+-- Of packets with link types that expressions are read on, an expression, its negation and
+-- rejection make three lists; each packet is in one of them, once, whatever is summed of it.
 abbrev pub NegationParts : Type 0
 NegationParts =
     (a : TruthTree) (ps : List Captured) (f : Captured → ℕ) → AreRead ps

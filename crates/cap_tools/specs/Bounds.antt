@@ -29,8 +29,8 @@ pub record ReadsOn (tells : Bool) (old : JobView) (input : ℕ) (answer : Result
       ≡ false → new.state.output ≡ old.state.output
   pub programs : new.programs ≡ old.programs
 
--- The packet that waits of the input that is next was judged, and nothing is read. It cost one run of
--- a program at most.
+-- The packet that waits of the input that is next was judged, and nothing is read. It cost one run
+-- of a program at most.
 pub record JudgesOne (old : JobView) (input : ℕ) (new : JobView) : Type 0 where
   pub next : next_of old.state.inputs ≡ next.Decide input
   pub cursor : InputView
@@ -47,6 +47,7 @@ pub record ReadsNothing (old new : JobView) : Type 0 where
   pub decided : new.state.decided ≡ old.state.decided
   pub programs : new.programs ≡ old.programs
 
+-- whether an input was read on to a fault
 abbrev pub is_fault : Result Bool Fault → Bool
 is_fault (Ok found) = false
 is_fault (Err fault) = true
@@ -70,7 +71,8 @@ abbrev pub reads_of : List InputView → ℕ
 reads_of [] = 0
 reads_of (h ∷ hs) = end_offset h.source + reads_of hs
 
--- two steps for each byte, one for each input, and one that reads a filter
+-- the most steps of a job that read so far: two for each byte, one for each input, and one that
+-- reads a filter
 abbrev pub most_turns : InputsView → ℕ
 most_turns f = 2 * reads_of f.cursors + length f.cursors + 1
 
@@ -79,19 +81,21 @@ abbrev pub names_weight : List (List ℕ) → ℕ
 names_weight [] = 0
 names_weight (name ∷ names) = 19 + length name + names_weight names
 
+-- the bytes of the interfaces that are declared; of pcap there are none
 abbrev pub declared_weight : Declared → ℕ
 declared_weight (PcapngFile first section) = names_weight (map (λ i. i.name) section.interfaces)
 declared_weight declared = 0
 
--- of an input: the block that holds its units, the interfaces of its section, and 40 for the rest
+-- the bytes held of an input: the block with its unit, its section's interfaces, 40 for the rest
 abbrev pub input_weight : InputView → ℕ
 input_weight h = h.source.room + declared_weight h.source.declared + 40
 
+-- the bytes held of all inputs
 abbrev pub inputs_weight : List InputView → ℕ
 inputs_weight [] = 0
 inputs_weight (h ∷ hs) = input_weight h + inputs_weight hs
 
--- of the output: its interfaces
+-- the bytes held of the output: those of its interfaces
 abbrev pub target_weight : Target → ℕ
 target_weight (Capture sink) = names_weight (map (λ i. i.name) sink.interfaces)
 target_weight target = 0
@@ -116,6 +120,7 @@ pub record IsSmall (h : InputView) : Type 0 where
   pub block : h.source.room ≤ most_in_unit
   pub section : SectionFits h.source.declared
 
+-- what is held of each input and of the output is bounded
 abbrev pub IsBounded : InputsView → Target → Type 0
 IsBounded inputs target = All IsSmall inputs.cursors × HasFewOutputInterfaces target
 

@@ -36,6 +36,8 @@ pub record RefusesFilter (asked : FilterAsked) (tells : Bool) (old : JobView) (s
   pub why : IsWhy asked.words asked.code refusal
   pub refuses : RefusesStart refusal tells old status new
 
+-- the first step of a print: its filter is read and the job goes on, or it is refused and the job
+-- ends
 abbrev pub FilterGives : FilterAsked → Bool → JobView → Turn → JobView → Type 0
 FilterGives asked tells old turn.More new = IsFiltered asked old new
 FilterGives asked tells old (turn.Done status) new = RefusesFilter asked tells old status new
@@ -54,6 +56,7 @@ pub record RefusesExpression (words : List ℕ) (tells : Bool) (old : JobView) (
   pub why : IsTextFault words fault
   pub refuses : RefusesStart (refusal.Expression fault) tells old status new
 
+-- the one step of a compilation: a listing is written, or the expression is refused
 abbrev pub CompileGives : List ℕ → Link → Bool → JobView → Turn → JobView → Type 0
 CompileGives words link tells old turn.More new = ⊥
 CompileGives words link tells old (turn.Done status) new =
@@ -68,11 +71,12 @@ PreparesBy (Some (ReadsFilter asked)) output_tells tells old r new =
 PreparesBy (Some (Compiles words link)) output_tells tells old r new =
     IsTrue output_tells → CompileGives words link tells old r new
 
--- so much is to be done at most
+-- the steps that are left before the first packet
 abbrev pub preparing_left : Option Preparing → ℕ
 preparing_left None = 0
 preparing_left (Some preparing) = 1
 
+-- how many steps are left at most
 abbrev pub job_left : JobView → ℕ
 job_left j = preparing_left j.preparing + steps_left_in j.state.inputs.cursors
 
@@ -100,6 +104,7 @@ pub record PreparesOnly (old new : JobView) : Type 0 where
   pub decided : new.state.decided ≡ old.state.decided
   pub unspent : spent_in new.programs ≡ spent_in old.programs
 
+-- what a step reads: while something is prepared nothing, else what a step over packets does
 abbrev pub StepReadsBy : Option Preparing → (tells goes : Bool) → JobView → JobView → Type 0
 StepReadsBy None tells goes old new = StepReads tells goes old new
 StepReadsBy (Some preparing) tells goes old new = PreparesOnly old new

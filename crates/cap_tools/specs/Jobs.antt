@@ -18,6 +18,7 @@ use Rattle.cap_command.specs.Call.{Call}
 use Rattle.flt_bpf.specs.Content.{Content}
 use Rattle.cap_tools.specs.Packets.{JobState, PacketsDecided, GoesOn, StepGives}
 
+-- what contracts see of a job
 pub record JobView : Type 0 where
   -- what is done before the first packet; nothing once it is done
   pub preparing : Option Preparing
@@ -31,7 +32,7 @@ pub record JobView : Type 0 where
   -- the status, where it ended
   pub done : Option ℕ
 
--- of the parts of a job
+-- the state of a job that has these parts
 abbrev pub state_at : List (List ℕ) → InputsView → SelectorView → Target → ℕ → JobState
 state_at names inputs selector output decided =
     record {
@@ -68,13 +69,14 @@ pub record Decided (ss : List InputPast) (before : List ℕ) (j : JobView) : Typ
   pub packets : PacketsDecided ss before j.state
   pub programs : HavePrograms j.state.policy j.programs
 
--- what is reported of it
+-- the message of a job that ended so: none of a clean end
 abbrev pub end_message : List (List ℕ) → List InputView → JobEnd → List ℕ
 end_message names cursors end.Complete = []
 end_message names cursors (end.FaultIn input fault) =
     fault_message (name_at names input) (offset_at cursors input) fault
 end_message names cursors end.OutputFailed = write_failed_message (name_at names (length cursors))
 
+-- the status of a job that ended so
 abbrev pub end_status : JobEnd → ℕ
 end_status end.Complete = 0
 end_status other = 1
@@ -96,22 +98,24 @@ pub record StaysDecided {ss : List InputPast} {before : List ℕ} {old : JobView
   pub goes : GoesOn d.packets new.state
   pub programs : HavePrograms new.state.policy new.programs
 
--- a job that goes on reports nothing
+-- what a step over packets gives: a job that goes on reports nothing; else it ends in one way
 abbrev pub JobGives : Bool → JobView → Turn → JobView → Type 0
 JobGives tells old turn.More new =
     (new.err ≡ old.err)
     × ((ss : List InputPast) (before : List ℕ) (d : Decided ss before old) → StaysDecided d new)
 JobGives tells old (turn.Done status) new = EndsJob tells old status new
 
+-- whether the job goes on
 abbrev pub turn_goes_on : Turn → Bool
 turn_goes_on turn.More = true
 turn_goes_on (turn.Done status) = false
 
--- 0 done, 1 a fault, 2 a refusal
+-- the status of a job that ended is 0, 1 (a fault) or 2 (a refusal)
 abbrev pub IsStatus : Turn → Type 0
 IsStatus turn.More = Unit {0}
 IsStatus (turn.Done status) = status ≤ 2
 
+-- the status after a step, where the job ended
 abbrev pub done_by : Turn → Option ℕ
 done_by turn.More = None
 done_by (turn.Done status) = Some status

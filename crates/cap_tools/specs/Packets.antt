@@ -30,6 +30,7 @@ pub record JobState : Type 0 where
   -- how many packets are decided
   pub decided : ℕ
 
+-- in which form a job writes
 abbrev pub output_form : JobState → Form
 output_form m = form_to m.names m.output
 
@@ -37,15 +38,19 @@ output_form m = form_to m.names m.output
 abbrev pub work_of : JobState → Work
 work_of m = record { order = m.inputs.order; policy = m.policy; form = output_form m }
 
+-- the bytes that its output took
 abbrev pub written_by : JobState → List ℕ
 written_by m = written_to m.output
 
+-- how often its output failed
 abbrev pub failures_by : JobState → ℕ
 failures_by m = failures_to m.output
 
+-- how many bytes its output takes in all before it fails
 abbrev pub room_by : JobState → ℕ
 room_by m = room_to m.output
 
+-- the whole inputs, of which some bytes are done
 abbrev pub wholes_of : List InputPast → List InputItems
 wholes_of ss = map whole_input (map (λ (s : InputPast). s.text) ss)
 
@@ -113,7 +118,7 @@ pub record AppendsOnce (form : Form) (link : Option ℕ) (far next : JobProgress
   pub appended : written_to new ≡ written_to old ++ bytes
   pub one : OneAnswer form link far next bytes
 
--- how far the job is
+-- how far a job is of which these packets are decided
 abbrev pub progress_of : {ss : List InputPast} {before : List ℕ} {m : JobState}
     → PacketsDecided ss before m → JobProgress
 progress_of {ss} {before} {m} d = progress_at m d.packets d.reports
@@ -218,6 +223,7 @@ WhyBroken {ss} {before} {old} d new input fault after =
     CompletesOutput (wholes_of ss) d new (FaultIn input fault after.offset)
     ⊎ EndsByCut d new input fault after ⊎ WantsMemory d new input fault after
 
+-- the job ends by a fault in this input
 pub record BreaksAt {ss : List InputPast} {before : List ℕ} {old : JobState}
     (d : PacketsDecided ss before old) (new : JobState) (input : ℕ)
     (fault : Fault) : Type 0 where
@@ -225,17 +231,20 @@ pub record BreaksAt {ss : List InputPast} {before : List ℕ} {old : JobState}
   pub among : slice_get new.inputs.cursors input ≡ Some cursor
   pub why : WhyBroken d new input fault cursor.source
 
+-- what a step leaves that ends the job so
 abbrev pub EndLeaves : {ss : List InputPast} {before : List ℕ} {old : JobState}
     → PacketsDecided ss before old → JobEnd → JobState → Type 0
 EndLeaves {ss} {before} {old} d end.Complete new = CompletesOutput (wholes_of ss) d new Complete
 EndLeaves {ss} {before} {old} d (end.FaultIn input fault) new = BreaksAt d new input fault
 EndLeaves {ss} {before} {old} d end.OutputFailed new = StopsWriting d new
 
+-- what a step leaves, by the decided packets before it: the job goes on, or ends
 abbrev pub StepLeaves : {ss : List InputPast} {before : List ℕ} {old : JobState}
     → PacketsDecided ss before old → Option JobEnd → JobState → Type 0
 StepLeaves {ss} {before} {old} d None new = GoesOn d new
 StepLeaves {ss} {before} {old} d (Some e) new = EndLeaves d e new
 
+-- the same, whatever was decided before it
 abbrev pub StepGives : JobState → Option JobEnd → JobState → Type 0
 StepGives old r new =
     (ss : List InputPast) (before : List ℕ) (d : PacketsDecided ss before old) → StepLeaves d r new

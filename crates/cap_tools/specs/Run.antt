@@ -44,11 +44,13 @@ IsPolicy (Some (ReadsFilter filter)) asked policy =
     (rule : Rule) × IsRule filter.words filter.code rule × (policy ≡ Filter rule filter.count)
 IsPolicy (Some (Compiles words link)) asked policy = ⊥
 
+-- the work that a command asks of this call: its order, its policy and its form
 pub record IsWork (asked : Assignment) (call : Call) (work : Work) : Type 0 where
   pub order : work.order ≡ asked.order
   pub policy : IsPolicy asked.preparing asked.policy work.policy
   pub form : work.form ≡ form_asked call.names asked.writing
 
+-- the whole inputs of a call, with their packets
 abbrev pub whole_inputs : Call → List InputItems
 whole_inputs call = map (λ (input : FreshInput). whole_input input.text) call.inputs
 
@@ -62,13 +64,16 @@ IsWhyRefused (Some (ReadsFilter filter)) why = IsWhy filter.words filter.code wh
 IsWhyRefused (Some (Compiles words link)) (refusal.Expression fault) = IsTextFault words fault
 IsWhyRefused (Some (Compiles words link)) why = ⊥
 
+-- nothing is written, and the refusal is reported
 abbrev pub refusal_outcome : Refusal → Outcome
 refusal_outcome why =
     record { output = []; messages = refusal_message why; status = refusal_status why }
 
+-- a listing is written
 abbrev pub listing_outcome : List Insn → Outcome
 listing_outcome prog = record { output = listing prog; messages = []; status = 0 }
 
+-- what was written before a fault, its message, and the status 1
 abbrev pub fault_outcome : (output messages : List ℕ) → Outcome
 fault_outcome output messages = record { output = output; messages = messages; status = 1 }
 

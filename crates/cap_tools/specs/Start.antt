@@ -21,6 +21,7 @@ pub record FilterAsked : Type 0 where
   pub code : Option (List ℕ)
   pub count : Option ℕ
 
+-- the filter that a print asks for
 abbrev pub asked_by : {Z : Type 0} → Print Z → FilterAsked
 asked_by print =
     record { words = string_bytes print.expr; code = listing_of print; count = print.count }
@@ -31,6 +32,7 @@ pub data Preparing : Type 0 where
   ReadsFilter : FilterAsked → Preparing
   Compiles : (words : List ℕ) → (link : Link) → Preparing
 
+-- what the code's preparation does
 abbrev pub preparing_of : {Z : Type 0} → Preparation Z → Preparing
 preparing_of (preparation.Filter print) = ReadsFilter (asked_by print)
 preparing_of (preparation.Listing compile) = Compiles (string_bytes compile.expr) compile.link
@@ -43,11 +45,12 @@ pub record Assignment : Type 0 where
   pub order : PacketOrder
   pub writing : Writing
 
--- packets in a format where there is one, else their lines
+-- what a print writes: packets in a format where there is one, else their lines
 abbrev pub lines_unless : Option Format → Options → Writing
 lines_unless None options = writing.Lines options
 lines_unless (Some format) options = writing.Capture format
 
+-- what a command asks of its job
 abbrev pub assignment : {Z : Type 0} → Command Z → Assignment
 assignment (command.Edit edit) =
     record {

@@ -14,7 +14,7 @@ ghost use Rattle.cap_tools.specs.Start.{assignment};
 
 use crate::messages::Messages;
 use crate::start::{Assignment, Preparation, assignment_of, read_filter};
-use crate::step::{JobEnd, close, decide, end_after, unwritten};
+use crate::step::{JobEnd, close, decide, end_after, end_of_failed_write};
 use cap_command::{Command, Compile, Print};
 use cap_filter::compile::compile_text;
 use cap_filter::filter::Filter;
@@ -27,7 +27,8 @@ use flt_bpf::Program;
 use std::alloc::Allocator;
 use std::marker::Model;
 
-/// What a step leaves to do; the status where the job ended.
+/// Whether the job goes on after a step; where it is done, its status: 0, 1 or 2, as `run` has
+/// them.
 #[derive(Clone, Copy)]
 pub enum Turn {
     More,
@@ -99,7 +100,7 @@ impl<I: Input, O: Output, E: Output, A: Allocator> Model for Job<I, O, E, A> {
         }) };
 }
 
-/// The status of a job that ended so: 0 where all is written, else 1.
+/// The status of a job that ended so: 0 where all is written, 1 after a fault or a failed write.
 fn status_at_end(end: JobEnd) -> u8
     ensures { result ≡ end_status end }
 {
@@ -126,8 +127,8 @@ impl<I: Input, O: Output, E: Output, A: Allocator + Copy + Drop> Job<I, O, E, A>
     ghost use Rattle.cap_tools.specs.Start.{asked_by};
     ghost use Rattle.cap_tools.specs.inside.Step.{IsStep, ending};
 
-    /// The job of a proper command. `names` are those of the inputs, then of the output. Where
-    /// there is no memory nothing was read or written.
+    /// The job of a proper command. `names` are those of the inputs, then of the output. The error
+    /// means that memory ran out: nothing was read or written, and `out` and `err` are handed back.
     pub fn new(
         alloc: A,
         command: Command<A>,
@@ -174,9 +175,10 @@ impl<I: Input, O: Output, E: Output, A: Allocator + Copy + Drop> Job<I, O, E, A>
         })
     }
 
-    /// One step on. The first one reads the filter or compiles, where that is asked for; each other
-    /// one reads one input on, decides one packet, or ends the output. It reports how the job ended
-    /// where it did. A message that can't be written is lost.
+    /// Makes one step. The first one reads the filter or compiles, where that is asked for; each
+    /// other one reads one input on, decides one packet, or ends the output. It reports how the job
+    /// ended where it did. A message that can't be written is lost. After the end a step returns
+    /// the status again, and does nothing.
     #[inline(always)]
     pub fn step(&mut self) -> Turn
         ensures after { (s : ℕ) → self.old.done ≡ Some s → (result ≡ Turn.Done s)
@@ -190,12 +192,12 @@ impl<I: Input, O: Output, E: Output, A: Allocator + Copy + Drop> Job<I, O, E, A>
     {
         // Most steps have nothing to take; `take` would move the whole place each time.
         if self.preparation.is_none() {
-            return self.go_on();
+            return self.step_prepared();
         }
         match self.preparation.take() {
             Some(Preparation::Filter(print)) => self.start_filtering(&print),
             Some(Preparation::Listing(compile)) => self.compile(&compile),
-            None => self.go_on(),
+            None => self.step_prepared(),
         }
     }
 
@@ -230,11 +232,12 @@ impl<I: Input, O: Output, E: Output, A: Allocator + Copy + Drop> Job<I, O, E, A>
         }
     }
 
-    /// One step on after what is prepared: reads one input on, decides one packet or ends the
-    /// output, and reports how the job ended where it did.
-    // Two calls a packet: in the loop they save about 70 instructions.
+    /// One step of a job that has nothing to prepare any more: reads one input on, decides one
+    /// packet or ends the output, and reports how the job ended where it did. After the end it
+    /// returns the status again, and does nothing.
+    // It runs twice for each packet; being inlined there saves about 70 instructions.
     #[inline(always)]
-    fn go_on(&mut self) -> Turn
+    fn step_prepared(&mut self) -> Turn
         requires { self.old.preparing ≡ None }
         ensures after { (s : ℕ) → self.old.done ≡ Some s → (result ≡ Turn.Done s)
             × (self.new ≡ self.old) }
@@ -289,12 +292,13 @@ impl<I: Input, O: Output, E: Output, A: Allocator + Copy + Drop> Job<I, O, E, A>
                 self.decided = number;
                 end_after(verdict)
             }
-            Err(fault) => Some(unwritten(input, fault)),
+            Err(fault) => Some(end_of_failed_write(input, fault)),
         }
     }
 
     /// Reads an input on. Where somebody may be waiting for the output, and the read may wait, what
-    /// was written is released first. It returns the end where the job ends here.
+    /// was written is released first. It returns the end where the job ends here: by a fault of the
+    /// input, or since the output failed.
     fn read_next(&mut self, input: usize) -> Option<JobEnd>
         requires prepared { self.old.preparing ≡ None }
         requires next { input_spec.IsNext self.old.state.inputs (Next.Read input) }
@@ -307,8 +311,8 @@ impl<I: Input, O: Output, E: Output, A: Allocator + Copy + Drop> Job<I, O, E, A>
         self.read_input(input)
     }
 
-    /// Releases the output before an input is read on, unless the input's next packet is at hand.
-    /// It returns false where the output couldn't be released.
+    /// Before an input is read on, makes the output's device pass on what it holds back, unless the
+    /// input's next packet is at hand. It returns false where the device couldn't.
     // Out of line, since few jobs have an output that is awaited.
     #[inline(never)]
     fn release_before(&mut self, input: usize) -> bool
@@ -319,7 +323,8 @@ impl<I: Input, O: Output, E: Output, A: Allocator + Copy + Drop> Job<I, O, E, A>
     }
 
     /// Reads an input on: to its next packet, its clean end, where it is reported if reports are
-    /// asked for, or a fault, which ends the job.
+    /// asked for, or a fault. It returns the end where the job ends here: by that fault, or since
+    /// the report couldn't be written.
     fn read_input(&mut self, input: usize) -> Option<JobEnd>
         requires prepared { self.old.preparing ≡ None }
         requires next { input_spec.IsNext self.old.state.inputs (Next.Read input) }
@@ -344,7 +349,8 @@ impl<I: Input, O: Output, E: Output, A: Allocator + Copy + Drop> Job<I, O, E, A>
         }
     }
 
-    /// Ends the output, and with it the job: all inputs were read.
+    /// Ends the output after the last packet of all inputs. It always returns the end, complete or
+    /// by a failed write, since the job ends here.
     fn finish(&mut self) -> Option<JobEnd>
         requires prepared { self.old.preparing ≡ None }
         requires next { input_spec.IsNext self.old.state.inputs Next.Finish }
@@ -357,7 +363,8 @@ impl<I: Input, O: Output, E: Output, A: Allocator + Copy + Drop> Job<I, O, E, A>
         }
     }
 
-    /// Reports how the job ended. A message that can't be written is lost.
+    /// Ends the job, which is one step: reports how it ended, and returns its status. A message
+    /// that can't be written is lost.
     fn end(&mut self, end: JobEnd) -> Turn
         requires prepared { self.old.preparing ≡ None }
         requires upper_bound { self.old.turns ≤ most_steps }
@@ -389,7 +396,8 @@ impl<I: Input, O: Output, E: Output, A: Allocator + Copy + Drop> Job<I, O, E, A>
         Turn::More
     }
 
-    /// Reports why an expression or a listing is refused, and ends the job.
+    /// Reports why an expression or a listing is refused, and ends the job: with the status 2, or 1
+    /// where memory ran out. A message that can't be written is lost.
     fn refuse(&mut self, refusal: Refusal) -> Turn
         requires fresh { IsFresh self.old }
         requires taken { self.old.preparing ≡ None }
@@ -404,7 +412,8 @@ impl<I: Input, O: Output, E: Output, A: Allocator + Copy + Drop> Job<I, O, E, A>
         Turn::Done(status)
     }
 
-    /// Writes the listing of a program, and ends the job.
+    /// Writes the listing of a program, and ends the job, by a failed write where the output's
+    /// device failed.
     fn list(&mut self, program: &Program<A>) -> Turn
         requires fresh { IsFresh self.old }
         requires taken { self.old.preparing ≡ None }
@@ -442,7 +451,7 @@ impl<I: Input, O: Output, E: Output, A: Allocator + Copy + Drop> Job<I, O, E, A>
         )
     }
 
-    /// The output and the messages' device, as they stand. The inputs are let go.
+    /// The output and the messages' device, as the last step left them. The inputs are dropped.
     pub fn close(self) -> (O, E)
     where
         I: Drop,

@@ -61,7 +61,7 @@ impl<E: Output, A: Allocator> Messages<E, A> {
         name_of(&self.names, index)
     }
 
-    /// Reports how a job ended.
+    /// Reports how a job ended, if by a fault or a failed write. What can't be written is lost.
     pub fn end<I: Input>(&mut self, inputs: &Inputs<I, A>, end: JobEnd)
     where
         A: Copy + Drop,
@@ -70,10 +70,10 @@ impl<E: Output, A: Allocator> Messages<E, A> {
         ensures quiet { end ≡ JobEnd.Complete → self.new ≡ self.old }
         ensures names { self.new.names ≡ self.old.names }
     {
-        let _ = tell(&mut self.device, &self.names, inputs, end);
+        let _ = write_end_message(&mut self.device, &self.names, inputs, end);
     }
 
-    /// Reports why an expression or a listing is refused.
+    /// Reports why an expression or a listing is refused. What can't be written is lost.
     pub fn refuse(&mut self, refusal: Refusal)
         ensures exact { IsTold E.tells self.old.device (refusal_message refusal)
             self.new.device }
@@ -82,7 +82,7 @@ impl<E: Output, A: Allocator> Messages<E, A> {
         let _ = report_refusal(&mut self.device, refusal);
     }
 
-    /// The device, as it stands.
+    /// The messages' device, as the last message left it.
     pub fn into_device(self) -> E
     where
         A: Drop,
@@ -92,8 +92,10 @@ impl<E: Output, A: Allocator> Messages<E, A> {
     }
 }
 
-/// Writes the message of how a job ended, if it has one: none where all is written.
-fn tell<I: Input, E: Output, A: Allocator + Copy + Drop>(
+/// Writes the message of how a job ended: a fault by the name and the offset of its input, a failed
+/// write by the name of the output, which follows those of the inputs. Where all is written there
+/// is no message, and the device isn't called. An error means that the device failed.
+fn write_end_message<I: Input, E: Output, A: Allocator + Copy + Drop>(
     device: &mut E,
     names: &Vec<String<A>, A>,
     inputs: &Inputs<I, A>,

@@ -24,12 +24,14 @@ pub enum Preparation<A: Allocator> {
     Listing(Compile<A>),
 }
 
-/// What a command asks for.
+/// What a command asks of its job.
 #[derive(Drop)]
 pub struct Assignment<A: Allocator> {
+    /// What is done before the first packet, if anything is.
     pub preparation: Option<Preparation<A>>,
     /// By what packets are judged.
     pub policy: Policy<A>,
+    /// What is written: a capture, lines or a text.
     pub writing: Writing,
     /// Whether the inputs are merged by the times of their packets; else they are read one after
     /// another.
@@ -52,9 +54,13 @@ fn writing_of<A: Allocator>(print: &Print<A>) -> Writing
     }
 }
 
-/// What a command asks for that prepares nothing: packets are judged by this policy from the first
-/// step on.
-fn packets_alone<A: Allocator>(policy: Policy<A>, writing: Writing, merges: bool) -> Assignment<A>
+/// The assignment of a command that prepares nothing: packets are judged by this policy from the
+/// first step on.
+fn without_preparation<A: Allocator>(
+    policy: Policy<A>,
+    writing: Writing,
+    merges: bool,
+) -> Assignment<A>
     ensures preparing { result.preparation ≡ None }
     ensures policy { result.policy ≡ policy }
     ensures writing { result.writing ≡ writing }
@@ -68,9 +74,9 @@ fn packets_alone<A: Allocator>(policy: Policy<A>, writing: Writing, merges: bool
     }
 }
 
-/// What a command asks for that reads a filter or compiles first. By its policy no packet is
-/// judged: the filter takes its place, and a compilation has no packets.
-fn prepared_by<A: Allocator>(preparation: Preparation<A>, writing: Writing) -> Assignment<A>
+/// The assignment of a command that reads a filter or compiles first. By the policy here no packet
+/// is judged: the filter takes its place, and a compilation has no packets.
+fn with_preparation<A: Allocator>(preparation: Preparation<A>, writing: Writing) -> Assignment<A>
     ensures preparing { result.preparation ≡ Some preparation }
     ensures policy { result.policy ≡ Policy.KeepAll }
     ensures writing { result.writing ≡ writing }
@@ -84,7 +90,7 @@ fn prepared_by<A: Allocator>(preparation: Preparation<A>, writing: Writing) -> A
     }
 }
 
-/// What a command asks for. The filter of a print is read in the first step.
+/// What a command asks of its job. The filter of a print isn't read here, but in the first step.
 pub fn assignment_of<A: Allocator>(command: Command<A>) -> Assignment<A>
     ensures preparing { option_map preparing_of result.preparation
         ≡ (assignment command).preparing }
@@ -97,26 +103,26 @@ pub fn assignment_of<A: Allocator>(command: Command<A>) -> Assignment<A>
     match command {
         Command::Edit(edit) => {
             let writing = Writing::Capture(edit.format);
-            packets_alone(Policy::Edit(edit), writing, false)
+            without_preparation(Policy::Edit(edit), writing, false)
         }
         Command::Merge(merge) => {
-            packets_alone(
+            without_preparation(
                 Policy::KeepAll,
                 Writing::Capture(merge.format),
                 !merge.append,
             )
         }
-        Command::Infos => packets_alone(Policy::Count, Writing::Text, false),
+        Command::Infos => without_preparation(Policy::Count, Writing::Text, false),
         Command::Print(print) => {
             let writing = writing_of(&print);
-            prepared_by(Preparation::Filter(print), writing)
+            with_preparation(Preparation::Filter(print), writing)
         }
-        Command::Compile(compile) => prepared_by(Preparation::Listing(compile), Writing::Text),
+        Command::Compile(compile) => with_preparation(Preparation::Listing(compile), Writing::Text),
     }
 }
 
 /// The filter that a print is asked for, of its listing if it has one, else of its words; or why it
-/// is refused.
+/// is refused, which may be that memory ran out.
 pub fn read_filter<A: Allocator + Copy + Drop>(
     alloc: A,
     print: &Print<A>,

@@ -19,14 +19,16 @@ use std::alloc::Allocator;
 pub enum JobEnd {
     /// All is written.
     Complete,
-    /// An input ends by this fault at its offset, or its current packet is refused.
+    /// By this fault the input with this index ends at its offset, or its current packet is
+    /// refused.
     FaultIn(usize, Fault),
     /// The output's device failed.
     OutputFailed,
 }
 
-/// Writes a packet if it passes; one that is skipped leaves the output unchanged.
-fn put<O: Output, A: Allocator>(
+/// Writes a packet if it passes by its verdict; one that is skipped leaves the output unchanged.
+/// The errors are those of `JobOutput::put`.
+fn put_by_verdict<O: Output, A: Allocator>(
     verdict: Verdict,
     packet: &Packet<'_>,
     output: &mut JobOutput<O, A>,
@@ -43,8 +45,8 @@ fn put<O: Output, A: Allocator>(
     }
 }
 
-/// Decides the current packet of an input, the `number`-th of the job, and writes it if it passes.
-/// An error is why it is refused, or why it can't be written.
+/// Decides the current packet of an input, the `number`-th of the job from 1 on, and writes it if
+/// it passes. The input has one. An error is why the packet is refused, or why it can't be written.
 pub(crate) fn decide<I: Input, O: Output, A: Allocator + Copy + Drop>(
     cursor: &InputCursor<I, A>,
     selector: &mut Selector<A>,
@@ -67,7 +69,7 @@ pub(crate) fn decide<I: Input, O: Output, A: Allocator + Copy + Drop>(
 {
     let mut packet = cursor.packet().unwrap();
     let verdict = selector.judge(number, &mut packet)?;
-    put(verdict, &packet, output)?;
+    put_by_verdict(verdict, &packet, output)?;
     Ok(verdict)
 }
 
@@ -82,8 +84,8 @@ pub(crate) fn end_after(verdict: Verdict) -> Option<JobEnd>
     }
 }
 
-/// Reports an input that was read to its end, where packets are counted, and begins their count
-/// anew. It returns the end where the job ends here: the output's device failed.
+/// Reports an input that was read to its end, where packets are counted, and begins the count of
+/// the next one. It returns the end where the job ends here: the output's device failed.
 pub(crate) fn close<I: Input, O: Output, E: Output, A: Allocator>(
     inputs: &Inputs<I, A>,
     input: usize,
@@ -105,7 +107,7 @@ pub(crate) fn close<I: Input, O: Output, E: Output, A: Allocator>(
         → output.new ≡ output.old }
 {
     let cursor = inputs.cursor(input);
-    // A count of merged inputs, which no command asks for, would be of no one input.
+    // No command counts the packets of merged inputs: a count would be of all, not of this one.
     if !inputs.is_in_turn() {
         return None;
     }
@@ -125,7 +127,7 @@ pub(crate) fn close<I: Input, O: Output, E: Output, A: Allocator>(
 
 /// How a job ends whose current packet, of this input, was not decided: the output's device failed,
 /// or the packet is refused by this fault.
-pub(crate) fn unwritten(input: usize, fault: Fault) -> JobEnd
+pub(crate) fn end_of_failed_write(input: usize, fault: Fault) -> JobEnd
     ensures { result ≡ end_of_failed_write input fault }
 {
     match fault {

@@ -5,6 +5,7 @@ use Rattle.cap_inputs.specs.Inputs.{InputView, InputsView}
 use Rattle.cap_inputs.specs.inside.Inputs.{owed_by}
 use Rattle.cap_tools.specs.Bounds.{most_turns}
 
+-- whether a job goes on after a step
 abbrev pub step_goes_on : Option JobEnd → Bool
 step_goes_on None = true
 step_goes_on (Some end) = false
@@ -14,6 +15,7 @@ abbrev pub owed_in : List InputView → ℕ
 owed_in [] = 0
 owed_in (h ∷ hs) = owed_by h + owed_in hs
 
+-- the steps of all inputs that follow without a byte more
 abbrev pub steps_owed_in_all : InputsView → ℕ
 steps_owed_in_all f = owed_in f.cursors
 

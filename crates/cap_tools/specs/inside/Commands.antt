@@ -12,6 +12,7 @@ abbrev pub HasMadeNoStep : Preparing → JobView → Type 0
 HasMadeNoStep (ReadsFilter asked) j = IsFresh j
 HasMadeNoStep (Compiles words link) j = IsFresh j × (is_text j.state.output ≡ true)
 
+-- where something is still to be prepared, the job made no step
 abbrev pub IsReadyIf : Option Preparing → JobView → Type 0
 IsReadyIf None j = Unit {0}
 IsReadyIf (Some preparing) j = HasMadeNoStep preparing j

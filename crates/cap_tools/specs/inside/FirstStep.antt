@@ -22,6 +22,7 @@ pub record IsFresh (j : JobView) : Type 0 where
   pub left : steps_left j.state.inputs < most_steps
   pub upper_bound : steps_owed_in_all j.state.inputs < most_turns j.state.inputs
 
+-- the step that writes a listing ends the job: all is written, or the output's device failed
 abbrev pub EndsList : List Insn → Bool → JobView → Turn → JobView → Type 0
 EndsList insns tells old turn.More new = ⊥
 EndsList insns tells old (turn.Done status) new =
@@ -38,10 +39,11 @@ refusing refusal err j = record {
   done = Some (refusal_status refusal);
 }
 
--- the output
+-- what the output of a job holds, and how often it failed
 abbrev pub output_by : JobState → OutputView
 output_by m = output_view (written_by m) (failures_by m)
 
+-- the same, of the whole job
 abbrev pub output_of : JobView → OutputView
 output_of j = output_by j.state
 

@@ -34,16 +34,17 @@ report_at input h tally =
       tally = tally;
     }
 
--- a packet that passes is put into the output
+-- a packet is written into the output, where its verdict is that it passes
 abbrev pub Offers : code.Verdict → Captured → Target → Result (Unit {0}) Fault → Target → Type 0
 Offers code_verdict.Skip p old r new = (r ≡ Ok tt) × (new ≡ old)
 Offers verdict p old r new = PutsIntoOutput p old r new
 
--- what judges, and where what passes goes
+-- a selector, and the output that what passes is written into
 pub record Sieve : Type 0 where
   pub selector : PolicyState
   pub output : Target
 
+-- a selector and an output as one
 abbrev pub sieve : PolicyState → Target → Sieve
 sieve selector output = record { selector = selector; output = output }
 
@@ -63,7 +64,8 @@ pub record Rejects (p : Captured) (number : ℕ) (old : Sieve) (fault : Fault)
       (Err fault) p new.selector.state
   pub same : new.output ≡ old.output
 
--- a packet is judged, and put where it passes; or it isn't put, or it is refused
+-- A packet is judged, and written where it passes; or the write fails, or it is refused. There is a
+-- current packet.
 abbrev pub DecidesPacket : Option Captured → ℕ → Sieve → Result code.Verdict Fault → Sieve
     → Type 0
 DecidesPacket None number old r new = ⊥
@@ -72,18 +74,19 @@ DecidesPacket (Some p) number old (Err fault) new =
     ((verdict : code.Verdict) × Judges p number old verdict (Err fault) new)
     ⊎ Rejects p number old fault new
 
--- the last packet that passes ends the job
+-- how the job ends after a packet with this verdict: the last that passes ends it
 abbrev pub end_after : code.Verdict → Option JobEnd
 end_after code_verdict.PassLast = Some end.Complete
 end_after verdict = None
 
--- what deciding the current packet cost
+-- the runs of programs that deciding the current packet cost, and their bound
 abbrev pub Spends : Option Captured → SelectorView → ℕ → SelectorView → Type 0
 Spends None old number new = ⊥
 Spends (Some p) old number new =
     (new.programs ≡ spent_by_verdict old.policy number p old.programs)
     × (spent_in new.programs ≤ spent_in old.programs + most_spent old.policy)
 
+-- the job ends where its output failed, and else goes on
 abbrev pub unless_failed : Result (Unit {0}) DeviceFault → Option JobEnd
 unless_failed (Ok done) = None
 unless_failed (Err fault) = Some end.OutputFailed
@@ -98,19 +101,21 @@ pub record ReportsOn (names : List (List ℕ)) (input : ℕ) (cursor : InputView
   pub selector_is : new.selector
       ≡ record { policy = old.selector.policy; state = with_empty_tally old.selector.state }
 
+-- an input at its end is reported where reports are asked; else all stays
 abbrev pub ClosesBy : Bool → List (List ℕ) → ℕ → InputView → Sieve → Option JobEnd → Sieve
     → Type 0
 ClosesBy false names input cursor old r new =
     (r ≡ None) × (new.selector ≡ old.selector) × (new.output ≡ old.output)
 ClosesBy true names input cursor old r new = ReportsOn names input cursor old r new
 
--- an input was read to its end
+-- an input that was read to its end is reported, where reports are asked
 pub record Closes (names : List (List ℕ)) (inputs : InputsView) (input : ℕ) (old : Sieve)
     (r : Option JobEnd) (new : Sieve) : Type 0 where
   pub cursor : InputView
   pub among : slice_get inputs.cursors input ≡ Some cursor
   pub by : ClosesBy (asks_report inputs.order old.selector.policy) names input cursor old r new
 
+-- how a job ends whose current packet was not decided: its output failed, or it is refused
 abbrev pub end_of_failed_write : ℕ → Fault → JobEnd
 end_of_failed_write input WriteFailed = end.OutputFailed
 end_of_failed_write input fault = end.FaultIn input fault
@@ -155,5 +160,6 @@ pub record NextClosing {ss : List InputPast} {before : List ℕ} {old : JobState
   pub bytes_are : bytes ≡ closing_text (output_form old) (first_link (wholes_of ss)) d.packets
   pub inputs : new.inputs ≡ old.inputs
 
+-- the texts of some inputs
 abbrev pub texts : List InputPast → List (List ℕ)
 texts ss = map (λ (s : InputPast). s.text) ss

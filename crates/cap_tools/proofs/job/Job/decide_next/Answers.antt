@@ -70,7 +70,7 @@ returns-in-Err g c =
     let tells = subst N (sym c.self.view_is) c.requires.next in
     let h = held c.cursor.result.now.source.packet c.self.inside.selector (c.self.inside.decided + 1) c.decide.new.selector c.decide.ensures.spends in
     let P : JobView → Type 0 = λ v. IsStep g.I.Input.tells g.O.Output.tells v (Some (end_of_failed_write c.args.input c.in-Err.fault)) new in
-    rw c.unwritten.ensures (subst P c.self.view_is (record {
+    rw c.end_of_failed_write.ensures (subst P c.self.view_is (record {
       exact = λ ti to ss before d.
           let K : Policy → Type 0 = λ k. EndLeaves d (end_of_failed_write c.args.input c.in-Err.fault) (left k) in
           subst K (sym c.in-Err.ensures.policy)

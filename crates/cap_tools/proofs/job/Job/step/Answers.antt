@@ -9,22 +9,22 @@ use Rattle.cap_tools.proofs.Preparing.{none-before, none-taken}
 use Rattle.cap_tools.proofs.job.Job.step.Goals as goal
 
 pub returns-then-is_none-clause-keeps : goal.returns-then-is_none-clause-keeps
-returns-then-is_none-clause-keeps g c = c.go_on.ensures.keeps
+returns-then-is_none-clause-keeps g c = c.step_prepared.ensures.keeps
 
 pub returns-then-is_none-clause-prepares : goal.returns-then-is_none-clause-prepares
 returns-then-is_none-clause-prepares g c =
     let none : c.args.self.now.preparing ≡ None = ap (λ (v : JobView). v.preparing) (sym c.self.view_is) ∙ none-before c.self.inside.preparation c.if-is_none.ensures in
-    let Q : Option Preparing → Type 0 = λ p. PreparesBy p g.O.Output.tells g.E.Output.tells c.args.self.now c.go_on.result c.go_on.new.self in
+    let Q : Option Preparing → Type 0 = λ p. PreparesBy p g.O.Output.tells g.E.Output.tells c.args.self.now c.step_prepared.result c.step_prepared.new.self in
     subst Q (sym none) tt
 
 pub returns-then-is_none-clause-exact : goal.returns-then-is_none-clause-exact
-returns-then-is_none-clause-exact g c = λ ti to undone none. c.go_on.ensures.exact ti to undone
+returns-then-is_none-clause-exact g c = λ ti to undone none. c.step_prepared.ensures.exact ti to undone
 
 pub returns-then-is_none-clause-reads : goal.returns-then-is_none-clause-reads
 returns-then-is_none-clause-reads g c =
     let none : c.args.self.now.preparing ≡ None = ap (λ (v : JobView). v.preparing) (sym c.self.view_is) ∙ none-before c.self.inside.preparation c.if-is_none.ensures in
-    let Q : Option Preparing → Type 0 = λ p. StepReadsBy p g.I.Input.tells (turn_goes_on c.go_on.result) c.args.self.now c.go_on.new.self in
-    subst Q (sym none) c.go_on.ensures.reads
+    let Q : Option Preparing → Type 0 = λ p. StepReadsBy p g.I.Input.tells (turn_goes_on c.step_prepared.result) c.args.self.now c.step_prepared.new.self in
+    subst Q (sym none) c.step_prepared.ensures.reads
 
 pub returns-in-None-clause-keeps : goal.returns-in-None-clause-keeps
 returns-in-None-clause-keeps g c =
@@ -111,7 +111,7 @@ returns-in-Some-Listing-clause-reads g c =
     subst P c.self.view_is (subst Q (sym some) (first-reads (option_map preparing_of c.take.new.self) was c.compile.new.self c.compile.ensures.reads))
 
 pub returns-then-is_none-clause-after : goal.returns-then-is_none-clause-after
-returns-then-is_none-clause-after g c = c.go_on.ensures.after
+returns-then-is_none-clause-after g c = c.step_prepared.ensures.after
 
 pub returns-in-None-clause-after : goal.returns-in-None-clause-after
 returns-in-None-clause-after g c =

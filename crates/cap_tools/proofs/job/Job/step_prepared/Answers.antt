@@ -1,4 +1,5 @@
--- Where an answer is `grind` alone, the search that the check tries before it takes most of the time.
+-- Where an answer is `grind` alone, the search that the check tries before it takes most of the
+-- time.
 use Rattle.std.proofs.Common.{◌≡◌, ◌+◌, ℕ, List, true, false, subst, sym, Some, arith}
 use Rattle.std.proofs.lemmas.Grind.{common_steps}
 use Rattle.cap_inputs.specs.Inputs.{InputPast}
@@ -9,7 +10,7 @@ use Rattle.cap_tools.specs.Jobs.{state_at, JobView, Decided, end_status}
 use Rattle.cap_tools.proofs.Ends.{step-ends}
 use Rattle.cap_tools.proofs.Kept.{reads-kept}
 use Rattle.cap_tools.proofs.Weights.{is-light}
-use Rattle.cap_tools.proofs.job.Job.go_on.Goals as goal
+use Rattle.cap_tools.proofs.job.Job.step_prepared.Goals as goal
 
 pub returns-in-None-clause-reads : goal.returns-in-None-clause-reads
 returns-in-None-clause-reads g c =
