@@ -14,7 +14,7 @@ use Rattle.cap_command.specs.declared.command.Shift.TheVariants as shift
 abbrev pub PACKET_NUMBER_END : ℕ
 PACKET_NUMBER_END = 2 ^ 63
 
--- the numbers of a range: from 1 on, in order
+-- the numbers of a range: from 1 on, in order, below 2^63
 abbrev pub is_range : ℕ → ℕ → Bool
 is_range first last = nat_le 1 first && nat_le first last && nat_lt last PACKET_NUMBER_END
 
@@ -45,17 +45,19 @@ is_proper_shift shift.None = true
 is_proper_shift (shift.Later span) = is_time span
 is_proper_shift (shift.Earlier span) = is_time span
 
+-- 1 or more
 abbrev pub is_at_least_one : ℕ → Bool
 is_at_least_one n = nat_le 1 n
 
--- how many packets a window for duplicates has at least, the one that is looked up among them, and
--- at most
+-- how many packets a window for duplicates has at least, the one that is looked up among them
 abbrev pub least_window : ℕ
 least_window = 2
 
+-- how many packets a window for duplicates has at most
 abbrev pub most_window : ℕ
 most_window = 1_000_000
 
+-- as many packets as a window for duplicates may have
 abbrev pub is_window : ℕ → Bool
 is_window n = nat_le least_window n && nat_le n most_window
 
@@ -84,7 +86,7 @@ is_proper_print print =
     && (has_at_most_one_output print.link print.bytes print.write
     && option_map_or is_at_least_one print.count true)
 
--- what a command and the number of its inputs keep
+-- the command may be run on this number of inputs
 abbrev pub is_proper : {Z : Type 0} → Command Z → ℕ → Bool
 is_proper (command.Edit edit) inputs = nat_eq inputs 1 && is_proper_edit edit
 is_proper (command.Merge merge) inputs = is_input_count inputs

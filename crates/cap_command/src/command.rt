@@ -1,4 +1,4 @@
-//! What is asked for.
+//! Commands: what is asked for, as values, and which of them may be run.
 ghost use Rattle.std.specs.Prelude.{◌≡◌, string_bytes, true};
 ghost use Rattle.std.specs.List.{list_all};
 ghost use Rattle.std.specs.Option.{option_map_or};
@@ -25,7 +25,7 @@ pub const MOST_INPUTS: usize = 256;
 /// How many packets a window for duplicates has at least, the one that is looked up among them.
 pub const LEAST_WINDOW: u32 = 2;
 
-/// How many packets it has at most.
+/// How many packets a window for duplicates has at most.
 pub const MOST_WINDOW: u32 = 1_000_000;
 
 /// A command, over the allocator of its lists.
@@ -185,7 +185,7 @@ impl Shift {
     }
 }
 
-/// Whether packets may be cut to `snap` bytes: 1 or more, if they are cut.
+/// Whether an edit may cut packets to `snap` bytes: 1 or more, if it cuts them.
 fn allows_snap(snap: Option<u32>) -> bool
     ensures { result ≡ option_map_or is_at_least_one snap true }
 {
@@ -236,8 +236,8 @@ impl<A: Allocator> Edit<A> {
             .any(|range| range.0 <= number && number <= range.1)
     }
 
-    /// Whether the packet with this number is kept: with `keep` those in the ranges are, else those
-    /// in none.
+    /// Whether the packet with this number is kept by the ranges: with `keep` those in some range
+    /// are, else those in none.
     pub fn keeps(&self, number: u64) -> bool
         ensures { result ≡ is_kept self.now.ranges.items self.now.keep number }
     {

@@ -18,20 +18,20 @@ pub record HasTree (text : List ℕ) (tree : Expression) : Type 0 where
   pub shallow : ¬ IsTooDeep tokens
   pub reads : IsReadAs (kinds_of tokens) tree
 
--- the tree has none of the faults of trees, and this is it with all that is left out filled in
+-- the tree has none of the faults of trees, and `e` is it with all qualifiers that it leaves out
 pub record IsSettled (tree e : Expression) : Type 0 where
   pub fits : fill_fault tree ≡ None
   pub fills : e ≡ fill_expression tree
   pub sound : check_fault e ≡ None
 
 -- the first fault of a tree: what doesn't fit a value (E7 to E9), else one of the whole (E10 to
--- E12)
+-- E12); docs/inside/COMPILER.md has these numbers
 abbrev pub HasFault : Expression → ExprFault → Type 0
 HasFault tree refusal =
     (fill_fault tree ≡ Some refusal)
     ⊎ ((fill_fault tree ≡ None) × (check_fault (fill_expression tree) ≡ Some refusal))
 
--- the text is an expression, and this is its tree with all that is left out filled in
+-- the text is an expression, and `e` its tree with all qualifiers that it leaves out
 pub record IsExpression (text : List ℕ) (e : Expression) : Type 0 where
   pub tree : Expression
   pub read : HasTree text tree

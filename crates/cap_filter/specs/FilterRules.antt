@@ -30,7 +30,7 @@ decision_of Yes = Keep
 decision_of No = Skip
 decision_of Rejected = Skip
 
--- what an expression decides on a link; where the link type is that of none, its fault
+-- what an expression decides on a link; where no link has the link type, that is refused
 abbrev pub read_on : Expression → Option Link → Captured → Decision
 read_on e None p = Refuse LinkTypeNotFiltered
 read_on e (Some link) p = decision_of (holds e link p.bytes p.orig)
@@ -52,14 +52,14 @@ rule_decides (by_answer prog) p = answering (machine prog p.bytes p.orig (length
 
 -- ---- what is asked for
 
--- the rule that words are, or that a listing is
+-- the rule that words are, or a listing where there is one
 abbrev pub IsRule : List ℕ → Option (List ℕ) → Rule → Type 0
 IsRule words None (by_reading e) = IsExpression words e
 IsRule words None (by_answer prog) = ⊥
 IsRule words (Some text) (by_reading e) = ⊥
 IsRule words (Some text) (by_answer prog) = IsListing text prog × IsValid prog
 
--- why they are none
+-- why words, or a listing where there is one, are refused
 abbrev pub IsWhy : List ℕ → Option (List ℕ) → Refusal → Type 0
 IsWhy words None (refusal.Expression fault) = IsTextFault words fault
 IsWhy words None (refusal.Listing fault) = ⊥

@@ -32,7 +32,7 @@ abbrev pub steps_of_run : Progress → ℕ
 steps_of_run (Answered answer count) = count
 steps_of_run _ = 0
 
--- what a program returns on a packet
+-- how a run of a program on a packet ends
 abbrev pub met_on : Captured → List Insn → Progress
 met_on p prog = machine prog p.bytes p.orig (length prog)
 
@@ -55,7 +55,7 @@ abbrev pub spent_in : List Content → ℕ
 spent_in [] = 0
 spent_in (program ∷ programs) = program.spent + spent_in programs
 
--- the same, or programs of which none ran
+-- programs, of which the one at this place ran on a packet; or none, without a place
 abbrev pub ran_if : Option ℕ → Captured → List Content → List Content
 ran_if None p programs = programs
 ran_if (Some i) p programs = ran_at i p programs

@@ -35,14 +35,14 @@ impl<A: Allocator> Model for Compiled<A> {
     ghost invariant = { λ c. HasPrograms c.tree.expr c.programs.items };
 }
 
-/// The place among links of the one with this link type, from 0; `None` where none has it.
+/// The index, from 0, of the link with this link type; `None` where none of the links has it.
 fn place_of_link_type(links: &[Link], number: u16) -> Option<usize>
     ensures { result ≡ position (λ link. link_type link == number) links.now }
 {
     links.iter().position(|link| link.link_type() == number)
 }
 
-/// The place in `Compiled::programs` of the program for a link type; `None` where expressions
+/// The index in `Compiled::programs` of the program for a link type; `None` where expressions
 /// aren't read on it.
 #[tactic(auto, unfolding(cap_octet::specs::Link::all_links))]
 fn program_place(number: u16) -> Option<usize>
@@ -70,8 +70,8 @@ fn make_programs<A: Allocator + Copy + Drop>(
     Ok(programs)
 }
 
-/// Runs the program at a place on a packet, and returns its answer, 0 where it doesn't accept the
-/// packet, and how many instructions the run met. The caller drops that count: the program has
+/// Runs the program at this index on a packet, and returns its answer, 0 where it doesn't accept
+/// the packet, and how many instructions the run met. The caller drops that count: the program has
 /// added it to its own.
 fn run_at<A: Allocator>(
     programs: &mut [Program<A>],
@@ -112,8 +112,8 @@ impl<A: Allocator> Compiled<A> {
         Ok(Compiled { tree, programs })
     }
 
-    /// Whether a packet matches, by one run of the program for its link type. It takes no memory;
-    /// `LinkTypeNotFiltered` is its only error.
+    /// Whether a packet matches, by one run of the program for its link type. It takes no memory.
+    /// The one error is `LinkTypeNotFiltered`: expressions aren't read on this link type.
     pub fn passes(&mut self, packet: &Packet<'_>) -> Result<bool, Fault>
         ensures answers { ReturnsDecision (expression_decides self.old.tree (captured packet.now))
             result }

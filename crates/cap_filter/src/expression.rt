@@ -7,8 +7,9 @@ use flt_lang::{Checked, Expr, check, parse, resolve};
 use flt_words::{ExprFault, lex};
 use std::alloc::Allocator;
 
-/// The tree of a text as it is written, where what it leaves out isn't filled in; or the first
-/// fault of its tokens, their nesting or the grammar.
+/// The tree of a text as it is written, where the qualifiers that it leaves out aren't filled in
+/// yet. An error is the first fault of its tokens, their nesting or the grammar, or out of memory
+/// (`ExprFault::Memory`).
 fn read_tree<A: Allocator + Copy + Drop>(alloc: A, text: &str) -> Result<Expr<A>, ExprFault>
     ensures read { IfOk result (λ tree. HasTree text.now tree) }
     ensures refused { IfErr result (IsTextFault text.now) }
@@ -19,8 +20,8 @@ fn read_tree<A: Allocator + Copy + Drop>(alloc: A, text: &str) -> Result<Expr<A>
     }
 }
 
-/// Fills in what a tree leaves out, and checks it; or the first fault: what doesn't fit a value
-/// comes before what is wrong with the whole.
+/// Fills in the qualifiers that a tree leaves out, and checks it. An error is its first fault: what
+/// doesn't fit a value comes before what is wrong with the whole.
 fn resolve_and_check<A: Allocator>(tree: Expr<A>) -> Result<Checked<A>, ExprFault>
     ensures settled { IfOk result (λ checked. IsSettled tree checked.expr) }
     ensures refused { IfErr result (HasFault tree) }
@@ -31,8 +32,8 @@ fn resolve_and_check<A: Allocator>(tree: Expr<A>) -> Result<Checked<A>, ExprFaul
     }
 }
 
-/// The checked tree of an expression's text, with what is left out filled in. An error is the first
-/// of the text's faults, or out of memory.
+/// The checked tree of an expression's text, with the qualifiers that are left out filled in. An
+/// error is the first of the text's faults, or out of memory (`ExprFault::Memory`).
 pub fn read_expression<A: Allocator + Copy + Drop>(
     alloc: A,
     text: &str,

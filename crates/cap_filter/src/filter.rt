@@ -71,8 +71,8 @@ fn filter_of_tree<A: Allocator + Copy + Drop>(
     }
 }
 
-/// The filter of an expression's words, with its programs for all links, which are made here.
-/// `None` in the clauses: there is no listing.
+/// The filter of an expression's words, with its programs for all links, which are made here. The
+/// clauses are shared with `filter_of_listing`; here they have `None` for the listing.
 ///
 /// An error is the first of the words' faults, or out of memory (`ExprFault::Memory`).
 pub fn filter_of_words<A: Allocator + Copy + Drop>(
