@@ -20,7 +20,7 @@ import os
 import re
 import sys
 
-from meaning import HEADLINE, Meaning, figures
+from meaning import TOGETHER, Meaning, figures
 from sources import ROOT, Sources
 
 INSIDE = ROOT / "docs" / "inside"
@@ -55,8 +55,7 @@ def misplaced_definitions(sources):
         yield f"{spec.path.relative_to(ROOT)}: {name} {what}"
     model = (INSIDE / "MODEL.md").read_text()
     for name, *shown in re.findall(r"^\| `?([\w: ]+)`? \| ([\d,]+) \| ([\d,]+) \|$", model, re.MULTILINE):
-        names = HEADLINE if name == "all of these" else [name]
-        count, lines, *_ = figures(sources, meaning.closure_of(names))
+        count, lines, *_ = figures(sources, meaning.closure_of(TOGETHER.get(name, [name])))
         if shown != [f"{count:,}", f"{lines:,}"]:
             yield f"docs/inside/MODEL.md: {name} rests on {count:,} definitions of {lines:,} lines"
 

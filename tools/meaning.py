@@ -57,10 +57,13 @@ PROMISED = {
     "flt_lay::laid_out", "flt_opt::replaces", "flt_passes::best_of", "flt_passes::optimised", "flt_short::shortened",
     "flt_short::threaded",
 }
-# The headline: what is written, reported and returned, and what each step costs; the compiler; the command line; files.
-HEADLINE = [
-    "cap_tools::run", "cap_tools::Job", "flt_gen::generate", "capkit::command_of", "cap_io::Source", "cap_io::Sink",
-]
+# The headline: what words ask for, what is written, reported and returned, and that a packet passes where its
+# expression matches.
+HEADLINE = ["capkit::command_of", "cap_tools::run", "flt_gen::generate"]
+# With what each step costs, and with files.
+PUBLIC = [*HEADLINE, "cap_tools::Job", "cap_io::Source", "cap_io::Sink"]
+# The rows of several paths together.
+TOGETHER = {"the headline": HEADLINE, "all of these": PUBLIC}
 
 
 class Cases:
@@ -282,13 +285,12 @@ def figures(sources, found):
 
 
 def print_closures(meaning):
-    """The table of the headline's closures, and of the commands'."""
+    """The table of the public paths' closures, and of the commands'."""
     print(f"{'':24}{'definitions':>12}{'lines':>8}{'types':>8}{'lines':>8}{'files':>8}")
-    for name in HEADLINE:
+    for name in [*COMMANDS, "library", *PUBLIC]:
         print_row(name, figures(meaning.sources, meaning.of(name)[1]))
-    print_row("all of these", figures(meaning.sources, meaning.closure_of(HEADLINE)))
-    for name in [*COMMANDS, "library"]:
-        print_row(name, figures(meaning.sources, meaning.of(name)[1]))
+    for name, paths in TOGETHER.items():
+        print_row(name, figures(meaning.sources, meaning.closure_of(paths)))
 
 
 def print_row(name, numbers):

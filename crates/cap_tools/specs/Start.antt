@@ -50,34 +50,25 @@ abbrev pub lines_unless : Option Format → Options → Writing
 lines_unless None options = writing.Lines options
 lines_unless (Some format) options = writing.Capture format
 
+-- packets alone, with nothing before them
+abbrev pub without_preparation : Policy → PacketOrder → Writing → Assignment
+without_preparation policy order to =
+    record { preparing = None; policy = policy; order = order; writing = to }
+
+-- this before the first packet
+abbrev pub with_preparation : Preparing → Writing → Assignment
+with_preparation preparing to =
+    record { preparing = Some preparing; policy = KeepAll; order = InTurn; writing = to }
+
 -- what a command asks of its job
 abbrev pub assignment : {Z : Type 0} → Command Z → Assignment
 assignment (command.Edit edit) =
-    record {
-      preparing = None;
-      policy = Edit (edit_rule_of edit);
-      order = InTurn;
-      writing = writing.Capture edit.format;
-    }
+    without_preparation (Edit (edit_rule_of edit)) InTurn (writing.Capture edit.format)
 assignment (command.Merge merge) =
-    record {
-      preparing = None;
-      policy = KeepAll;
-      order = order_of (not merge.append);
-      writing = writing.Capture merge.format;
-    }
-assignment command.Infos =
-    record { preparing = None; policy = Count; order = InTurn; writing = writing.Text }
-assignment (command.Print print) = record {
-  preparing = Some (ReadsFilter (asked_by print));
-  policy = KeepAll;
-  order = InTurn;
-  writing = lines_unless print.write (record { link = print.link; bytes = print.bytes });
-}
+    without_preparation KeepAll (order_of (not merge.append)) (writing.Capture merge.format)
+assignment command.Infos = without_preparation Count InTurn writing.Text
+assignment (command.Print print) =
+    with_preparation (ReadsFilter (asked_by print))
+    (lines_unless print.write (record { link = print.link; bytes = print.bytes }))
 assignment (command.Compile compile) =
-    record {
-      preparing = Some (Compiles (string_bytes compile.expr) compile.link);
-      policy = KeepAll;
-      order = InTurn;
-      writing = writing.Text;
-    }
+    with_preparation (Compiles (string_bytes compile.expr) compile.link) writing.Text

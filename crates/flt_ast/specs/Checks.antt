@@ -4,7 +4,7 @@ use Rattle.flt_words.specs.declared.token.Operator.{Operator}
 use Rattle.flt_words.specs.declared.token.Operator.TheVariants.{Divide, Remainder}
 use Rattle.flt_words.specs.declared.fault.ExprFault.{ExprFault}
 use Rattle.flt_words.specs.declared.fault.ExprFault.TheVariants as fault
-use Rattle.flt_ast.specs.Tree.{NumberTree, literal, len, named, load, negated, applied, TruthTree, compared, Expression}
+use Rattle.flt_ast.specs.Tree.{NumberTree, literal, load, negated, applied, TruthTree, compared, Expression}
 use Rattle.flt_ast.specs.Resolved.{some_primitive}
 use Rattle.flt_ast.specs.Counts.{words_of, bound_of}
 
@@ -21,13 +21,11 @@ is_zero _ = false
 
 -- some divisor in a number's tree is the number 0 as it is written
 abbrev pub has_zero_divisor : NumberTree → Bool
-has_zero_divisor (literal n) = false
-has_zero_divisor len = false
-has_zero_divisor (named n) = false
 has_zero_divisor (load p s a) = has_zero_divisor a
 has_zero_divisor (negated a) = has_zero_divisor a
 has_zero_divisor (applied o a b) =
     has_zero_divisor a || (has_zero_divisor b || is_division o && is_zero b)
+has_zero_divisor _ = false
 
 -- the same of a primitive: only comparisons have arithmetic
 abbrev pub divides_by_zero : TruthTree → Bool

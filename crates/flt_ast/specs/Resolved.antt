@@ -5,19 +5,17 @@ use Rattle.flt_words.specs.declared.fault.ExprFault.{ExprFault}
 use Rattle.flt_words.specs.declared.fault.ExprFault.TheVariants as fault
 use Rattle.flt_ast.specs.declared.node.Node.{Node}
 use Rattle.flt_ast.specs.declared.node.Node.TheVariants as node
-use Rattle.flt_ast.specs.Tree.{NumberTree, literal, len, named, load, negated, applied, TruthTree, cast, bare, valued, qualified, compared, denied, joined, Expression, empty, truth}
+use Rattle.flt_ast.specs.Tree.{NumberTree, load, negated, applied, TruthTree, cast, bare, valued, qualified, compared, denied, joined, Expression, empty, truth}
 use Rattle.flt_ast.specs.Nets.{is_past_mask}
 use Rattle.flt_ast.specs.Fits.{fit_of, is_misfit_fit, is_out_of_range_fit, is_net, is_proto, is_either, is_cast_misfit, is_size}
 use Rattle.flt_ast.specs.Filled.{type_or_host, expr_inherited}
 
 -- some accessor has a size that there is not
 abbrev pub has_wrong_size : NumberTree → Bool
-has_wrong_size (literal n) = false
-has_wrong_size len = false
-has_wrong_size (named n) = false
 has_wrong_size (load p s a) = has_wrong_size a || not (is_size s)
 has_wrong_size (negated a) = has_wrong_size a
 has_wrong_size (applied o a b) = has_wrong_size a || has_wrong_size b
+has_wrong_size _ = false
 
 -- the faults of a primitive: E7, E8, E9
 abbrev pub is_misfit : TruthTree → Bool

@@ -70,9 +70,7 @@ accessor_tests link Icmp6 = kind_test link kind.Ip6 ∷ []
 
 -- the protocols of the accessors of arithmetic, in the order of their words, and then the rest
 abbrev pub accessors : NumberTree → List Protocol → List Protocol
-accessors (literal k) rest = rest
-accessors (named k) rest = rest
-accessors len rest = rest
 accessors (load protocol size i) rest = protocol ∷ accessors i rest
 accessors (negated a) rest = accessors a rest
 accessors (applied operator l r) rest = accessors l (accessors r rest)
+accessors _ rest = rest
