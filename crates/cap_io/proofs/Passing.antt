@@ -196,7 +196,7 @@ time-held (PcapngFile first section) spans block known = by_interface (slice_get
 
 pub stage_between : (now : Stage) (spans : PacketSpans) (buffer : List ℕ) → phase_at now ≡ Reading → block_at now spans buffer ≡ [] → HoldsIfAny now spans buffer → now ≡ stage.Between
 stage_between stage.Between spans buffer phase none holds = refl
-stage_between stage.InHand spans buffer phase none holds =
+stage_between stage.Current spans buffer phase none holds =
     absurd (omega (arith, holds.some, holds.there, sym (length-take-le spans.size buffer holds.there) ∙ ap length none))
 stage_between stage.Ended spans buffer phase none holds = (cc)
 stage_between (stage.Failed fault) spans buffer phase none holds = (cc)

@@ -55,6 +55,7 @@ pub record Placed : Type 0 where
   pub offset : ℕ
   pub packet : Captured
 
+-- the packets of a unit at this offset
 abbrev pub placed_at : ℕ → List Captured → List Placed
 placed_at offset ps = map (λ (p : Captured). record { offset = offset; packet = p }) ps
 
@@ -87,6 +88,7 @@ abbrev pub unit_unless : Option Fault → Front → Front
 unit_unless None unit = unit
 unit_unless (Some fault) unit = NoUnit (Some fault)
 
+-- the block that a text begins with, or the fault in its place
 abbrev pub front_of_block : Option ℕ → Option Section → List ℕ → Front
 front_of_block first before text =
     unit_unless (unit_fault before text)
@@ -102,6 +104,7 @@ abbrev pub unless_empty : List ℕ → Front → Front
 unless_empty [] front = NoUnit None
 unless_empty (b ∷ bytes) front = front
 
+-- what a text begins with, after units that declare this
 abbrev pub front_of : Declared → List ℕ → Front
 front_of Nothing text =
     if is_pcapng text then front_of_block None None text
@@ -127,6 +130,7 @@ pub record Items : Type 0 where
   pub declared : Declared
   pub ending : Ending
 
+-- how a text ends where no unit follows: by a fault at this offset, or cleanly
 abbrev pub ending_by : Option Fault → ℕ → Ending
 ending_by None offset = End
 ending_by (Some fault) offset = FaultAt fault offset
@@ -162,16 +166,18 @@ items text = items_from Nothing 0 text
 
 -- ---- what is declared
 
+-- the kind of a pcap file of this resolution
 abbrev pub kind_by : Resolution → Kind
 kind_by Microseconds = Pcap
 kind_by Nanoseconds = NsecPcap
 
+-- what the capture is; None where no unit was read
 abbrev pub kind_of : Declared → Option Kind
 kind_of Nothing = None
 kind_of (PcapFile head) = Some (kind_by head.resolution)
 kind_of (PcapngFile first section) = Some Pcapng
 
--- the first link type
+-- the first link type that was declared, or None
 abbrev pub first_link_of : Declared → Option ℕ
 first_link_of Nothing = None
 first_link_of (PcapFile head) = Some head.link

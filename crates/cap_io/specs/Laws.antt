@@ -15,6 +15,7 @@ pub record Cut (text : List ℕ) : Type 0 where
   pub declared : Declared
   pub cut : IsCut text done rest packets declared
 
+-- two cuts are the same: of equal parts
 pub record IsSameCut {text : List ℕ} (one other : Cut text) : Type 0 where
   pub done : one.done ≡ other.done
   pub rest : one.rest ≡ other.rest
@@ -29,12 +30,15 @@ pub record TellsItems (text done rest : List ℕ) (packets : List Placed)
   pub items : items text
       ≡ record { packets = packets; declared = declared; ending = ending_by why (length done) }
 
+-- each text has a cut
 abbrev pub EachHasCut : Type 0
 EachHasCut = (text : List ℕ) → Cut text
 
+-- two cuts of a text are the same
 abbrev pub EachHasOneCut : Type 0
 EachHasOneCut = (text : List ℕ) (one other : Cut text) → IsSameCut one other
 
+-- the items of a text are those that its cut tells
 abbrev pub CutTellsItems : Type 0
 CutTellsItems = (text : List ℕ) (c : Cut text) → TellsItems text c.done c.rest c.packets c.declared
 
@@ -48,7 +52,7 @@ pub record GoesByPackets (sink : SinkView) (packets : List Captured) (p : Captur
   pub interfaces : interfaces_after_packet sink.format sink.interfaces p
       ≡ kept_interfaces sink.format (packets ++ p ∷ [])
 
--- a sink to which these packets were put
+-- a sink to which these packets were put decides on one more as all of them would have it
 abbrev pub EachPutGoesByPackets : Type 0
 EachPutGoesByPackets =
     (sink : SinkView) (packets : List Captured) (p : Captured) → HasPut sink packets

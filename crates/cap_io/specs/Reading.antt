@@ -18,7 +18,7 @@ use Rattle.cap_io.specs.declared.file_state.FileState.{FileState}
 use Rattle.cap_io.specs.declared.file_state.FileState.TheVariants as state
 use Rattle.cap_io.specs.Capture.{Declared, Nothing, PcapFile, PcapngFile, IsUnit, Front, Whole, NoUnit, front_of, is_pcapng}
 
--- how many bytes a unit may have
+-- the most bytes that a unit may have
 abbrev pub most_in_unit : ℕ
 most_in_unit = most_block
 
@@ -41,7 +41,8 @@ abbrev pub block_length : Option Section → List ℕ → Option ℕ
 block_length before text =
     length_by_header 12 text (frame_checks (order_before before) text) (block_size before text)
 
--- that of the next unit; none of the file header of pcap, which states no length
+-- the length of the next unit, as its header states it; none of the file header of pcap, which
+-- states no length
 abbrev pub stated_length : Declared → List ℕ → Option ℕ
 stated_length Nothing text = if is_pcapng text then block_length None text else None
 stated_length (PcapFile head) text =
@@ -101,12 +102,14 @@ abbrev pub IsReason : Declared → List ℕ → Fault → Type 0
 IsReason declared unread fault =
     (front_of declared unread ≡ NoUnit (Some fault)) ⊎ (fault ≡ ReadFailed) ⊎ (fault ≡ NoMemory)
 
+-- what is declared, by what a reader knows of the file and the interfaces of its table
 abbrev pub declared_by : FileState → List Described → Declared
 declared_by state.Unknown interfaces = Nothing
 declared_by (state.Pcap head) interfaces = PcapFile head
 declared_by (state.Pcapng order first) interfaces =
     PcapngFile first (record { order = order; interfaces = interfaces })
 
+-- the packet that lies at these spans of a unit; None where its interface isn't declared
 abbrev pub packet_in_unit : Declared → PacketSpans → List ℕ → Option Captured
 packet_in_unit Nothing spans block = None
 packet_in_unit (PcapFile head) spans block = Some (record {

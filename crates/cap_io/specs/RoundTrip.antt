@@ -42,6 +42,7 @@ HasFewInterfaces Pcap ps = Unit {0}
 HasFewInterfaces NsecPcap ps = Unit {0}
 HasFewInterfaces Pcapng ps = length (kept_interfaces Pcapng ps) ≤ most_interfaces
 
+-- a format carries these packets: each of them, and their interfaces
 pub record Carries (format : Format) (ps : List Captured) : Type 0 where
   pub each : (earlier : List Captured) (p : Captured) (later : List Captured)
       → ps ≡ earlier ++ p ∷ later → IsCarried format earlier p
@@ -58,5 +59,6 @@ Back format =
     (p : Captured) (ps : List Captured) → Carries format (p ∷ ps)
     → ReadsBack (text format (p ∷ ps)) (p ∷ ps)
 
+-- in each format what is written of packets that it carries reads back as they are
 abbrev pub ItemsBack : Type 0
 ItemsBack = (format : Format) → Back format

@@ -11,6 +11,7 @@ use Rattle.cap_io.specs.declared.sink.SinkState.{SinkState}
 use Rattle.cap_io.specs.declared.sink.SinkState.TheVariants.{Empty, Started, Broken}
 use Rattle.cap_io.specs.Text.{Interface, appended_packet, checks_in, file_start, file_start_in, interfaces_after_packet, kept_interfaces, state_after, state_after_packet, takes_memory_in, text}
 
+-- what a contract sees of a sink
 pub record SinkView : Type 0 where
   pub format : Format
   pub state : SinkState
@@ -58,8 +59,8 @@ abbrev pub write_failures : {X : Type 0} → Result X Fault → ℕ
 write_failures (Err WriteFailed) = 1
 write_failures result = 0
 
--- A packet that isn't refused is added; or there was no memory, where it takes some; or the device
--- failed.
+-- What a put returns: a refusal where there is one. Else the packet is added; or there was no
+-- memory, where it takes some; or the device failed.
 abbrev pub IsPutAnswer : Option Fault → Bool → Result (Unit {0}) Fault → Type 0
 IsPutAnswer None takes (Ok done) = Unit {0}
 IsPutAnswer None takes (Err fault) = (fault ≡ WriteFailed) ⊎ ((fault ≡ NoMemory) × (takes ≡ true))
@@ -92,25 +93,28 @@ abbrev pub BreaksOff : Fault → List ℕ → List ℕ → List ℕ → Type 0
 BreaksOff NoMemory bytes written written' = written' ≡ written
 BreaksOff fault bytes written written' = Stops written bytes written'
 
--- what it writes: all that the packet adds to the text; nothing of a packet that is refused; else a
--- beginning of what it adds, not the whole, or nothing
+-- what a put writes: all that the packet adds to the text; nothing of a packet that is refused;
+-- else a beginning of what it adds, not the whole, or nothing
 abbrev pub WritesPacket : Option Fault → List ℕ → List ℕ → Result (Unit {0}) Fault → List ℕ → Type 0
 WritesPacket refusal bytes written (Ok done) written' = written' ≡ written ++ bytes
 WritesPacket (Some refusal) bytes written (Err fault) written' = written' ≡ written
 WritesPacket None bytes written (Err fault) written' = BreaksOff fault bytes written written'
 
--- What a put does to it: it adds the packet, and where that fails, the sink has failed.
+-- What a put does to a sink that did not fail: it adds the packet, and where that fails, the sink
+-- has failed.
 pub record PutsNext (old : SinkView) (p : Captured) (r : Result (Unit {0}) Fault)
     (new : SinkView) : Type 0 where
   pub adds : AddsPacket old p r new
   pub broken : IfErr r (λ fault. new.state ≡ Broken fault)
 
--- a sink that failed returns that again, and stays
+-- What a put does to a sink in this state, whatever the device. One that failed returns that fault
+-- again, and stays.
 abbrev pub PutsPacket : SinkState → SinkView → Captured → Result (Unit {0}) Fault → SinkView
     → Type 0
 PutsPacket (Broken fault) old p r new = (r ≡ Err fault) × (new ≡ old)
 PutsPacket state old p r new = PutsNext old p r new
 
+-- what a put to a sink in this state writes; nothing where the sink has failed
 abbrev pub PutWrites : SinkState → SinkView → Captured → Result (Unit {0}) Fault → SinkView → Type 0
 PutWrites (Broken fault) old p r new = new ≡ old
 PutWrites state old p r new =
@@ -133,13 +137,15 @@ pub record FinishesEmpty (old : SinkView) (link : ℕ) (r : Result (Unit {0}) Fa
 abbrev pub link_or_ethernet : Option ℕ → ℕ
 link_or_ethernet first = unwrap_or first LINKTYPE_ETHERNET
 
+-- What a finish does to a sink in this state, whatever the device: where nothing was put it writes
+-- the header, else nothing.
 abbrev pub Finishes : SinkState → SinkView → Option ℕ → Result (Unit {0}) Fault → SinkView → Type 0
 Finishes Empty old first r new = FinishesEmpty old (link_or_ethernet first) r new
 Finishes (Started link) old first r new = (r ≡ Ok tt) × (new ≡ old)
 Finishes (Broken fault) old first r new = (r ≡ Err fault) × (new ≡ old)
 
--- the file header or section header is written where nothing was put, or a beginning of it, not the
--- whole
+-- what a finish writes: the file header or section header where nothing was put, or a beginning of
+-- it, not the whole, where the device failed; else nothing
 abbrev pub FinishWrites : SinkState → SinkView → Option ℕ → Result (Unit {0}) Fault → SinkView
     → Type 0
 FinishWrites Empty old first r new =

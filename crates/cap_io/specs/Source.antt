@@ -19,6 +19,7 @@ pub data Phase : Type 0 where
   Ended : Phase
   Failed : (fault : Fault) → Phase
 
+-- what a contract sees of a source
 pub record SourceView : Type 0 where
   pub phase : Phase
   -- what the units that were read declare
@@ -52,20 +53,24 @@ source_at unread given failures sure = record {
   room = 0;
 }
 
+-- the phase of a source in this stage
 abbrev pub phase_at : Stage → Phase
 phase_at stage.Ended = Ended
 phase_at (stage.Failed fault) = Failed fault
 phase_at other = Reading
 
+-- the bytes of the current unit, at the start of the buffer; none where no packet is current
 abbrev pub block_at : Stage → PacketSpans → List ℕ → List ℕ
-block_at stage.InHand spans buffer = take spans.size buffer
+block_at stage.Current spans buffer = take spans.size buffer
 block_at other spans buffer = []
 
+-- the current packet
 abbrev pub packet_at : Stage → PacketSpans → Declared → List ℕ → Option Captured
-packet_at stage.InHand spans declared buffer =
+packet_at stage.Current spans declared buffer =
     packet_in_unit declared spans (take spans.size buffer)
 packet_at other spans declared buffer = None
 
+-- what a contract sees of a source with these fields
 abbrev pub view_of : {I A : Type 0} → Ghosts I → Stage → UnitReader I A → ℕ → SourceView
 view_of device stage r offset = record {
   phase = phase_at stage;
@@ -91,7 +96,7 @@ pub record SkipsUnits (old new : SourceView) (rest : List ℕ) : Type 0 where
   pub room : old.room ≤ new.room
   pub fit : FitUnits new.room old.declared passed new.declared
 
--- the next packet is current
+-- units without packets were skipped, and the next packet is current
 pub record FindsPacket (old new : SourceView) : Type 0 where
   pub passes : SkipsUnits old new (new.block ++ new.unread)
   pub packet : Captured
@@ -100,7 +105,7 @@ pub record FindsPacket (old new : SourceView) : Type 0 where
   pub fits : length new.block ≤ new.room
   pub phase : new.phase ≡ Reading
 
--- there is no further packet
+-- the units that were left have no packet, and the clean end was met
 pub record FindsEnd (old new : SourceView) : Type 0 where
   pub passes : SkipsUnits old new []
   pub ends : front_of new.declared [] ≡ NoUnit None
@@ -109,7 +114,8 @@ pub record FindsEnd (old new : SourceView) : Type 0 where
   pub packet : new.packet ≡ None
   pub phase : new.phase ≡ Ended
 
--- no unit follows
+-- Units without packets were skipped, and then this fault was met: no unit is current. Why, when
+-- memory may run out, and how many bytes were taken.
 pub record IsBroken (old new : SourceView) (fault : Fault) : Type 0 where
   pub rest : List ℕ
   pub passes : SkipsUnits old new rest
@@ -120,22 +126,25 @@ pub record IsBroken (old new : SourceView) (fault : Fault) : Type 0 where
   pub block : new.block ≡ []
   pub packet : new.packet ≡ None
 
+-- this fault was met, and stays
 pub record FindsFault (old new : SourceView) (fault : Fault) : Type 0 where
   pub broken : IsBroken old new fault
   pub phase : new.phase ≡ Failed fault
 
+-- what an `advance` finds, by what it returned: a packet, the clean end or a fault
 abbrev pub Finds : SourceView → Result Bool Fault → SourceView → Type 0
 Finds old (Ok true) new = FindsPacket old new
 Finds old (Ok false) new = FindsEnd old new
 Finds old (Err fault) new = FindsFault old new fault
 
--- a source at its end or after a fault returns that again, and stays
+-- What an `advance` does from this phase, on a device that tells its bytes. A source at its end or
+-- after a fault returns that again, and stays.
 abbrev pub Advances : Phase → SourceView → Result Bool Fault → SourceView → Type 0
 Advances Reading old r new = Finds old r new
 Advances Ended old r new = (r ≡ Ok false) × (new ≡ old)
 Advances (Failed fault) old r new = (r ≡ Err fault) × (new ≡ old)
 
--- how far an answer brings a source
+-- the phase of a source after an `advance` that returned this
 abbrev pub phase_after : Result Bool Fault → Phase
 phase_after (Ok true) = Reading
 phase_after (Ok false) = Ended
@@ -150,7 +159,8 @@ abbrev pub SectionFits : Declared → Type 0
 SectionFits (PcapngFile first section) = FitSection section.interfaces
 SectionFits declared = Unit {0}
 
--- what holds of any device
+-- what an `advance` does on any device, whether it tells its bytes or not: counts, and the size of
+-- what is held
 pub record KeepsBounds (old : SourceView) (r : Result Bool Fault) (new : SourceView) : Type 0 where
   pub given : old.given ≤ new.given
   -- a failed read is told exactly where the device failed in this call
@@ -173,6 +183,7 @@ pub record KeepsBounds (old : SourceView) (r : Result Bool Fault) (new : SourceV
       ((old.given + end_offset new ≤ new.given + end_offset old)
       × (new.given + end_offset old ≤ old.given + end_offset new + most_in_unit))
 
+-- what an `advance` does from this phase, on any device
 abbrev pub Steps : Phase → SourceView → Result Bool Fault → SourceView → Type 0
 Steps Reading old r new = KeepsBounds old r new
 Steps Ended old r new = (r ≡ Ok false) × (new ≡ old)

@@ -23,16 +23,18 @@ pub record Interface : Type 0 where
   pub snap : ℕ
   pub name : List ℕ
 
+-- the interface of a packet
 abbrev pub interface_of : Captured → Interface
 interface_of p = record { link = p.link; snap = p.snap; name = p.name }
 
+-- whether two interfaces are one: of equal link type, snap length and name
 abbrev pub is_same : Interface → Interface → Bool
 is_same i j = i.link == j.link && (i.snap == j.snap && pointwise nat_eq i.name j.name)
 
 abbrev pub is_among : List Interface → Interface → Bool
 is_among interfaces i = list_any (is_same i) interfaces
 
--- an interface, where none of these is the same
+-- an interface, if it is new: none of these is the same; else none
 abbrev pub new_among : List Interface → Interface → List Interface
 new_among interfaces i = if is_among interfaces i then [] else i ∷ []
 
@@ -44,7 +46,7 @@ number_among interfaces i = position_or_len (is_same i) interfaces
 abbrev pub most_output_interfaces : ℕ
 most_output_interfaces = 4096
 
--- what holds of the interfaces of each file
+-- the interfaces of a file that is written: at most 4,096, with names of at most 255 bytes
 pub record FitFile (interfaces : List Interface) : Type 0 where
   pub count : length interfaces ≤ most_output_interfaces
   pub names : All (λ i. length i.name ≤ 255) interfaces
@@ -57,12 +59,13 @@ file_start Pcap link = pcap.file_header Microseconds link
 file_start NsecPcap link = pcap.file_header Nanoseconds link
 file_start Pcapng link = pcapng.section_text
 
+-- a pcap record: its header and the packet's bytes
 abbrev pub record_text : Resolution → Captured → List ℕ
 record_text resolution p = pcap.record_header resolution p ++ p.bytes
 
 -- ---- one packet more, by what a file keeps of those before it
 
--- the state and the interfaces after it: pcap forms have no interfaces
+-- the state and the interfaces after one packet more: pcap forms have no interfaces
 abbrev pub state_after_packet : SinkState → Captured → SinkState
 state_after_packet Empty p = Started p.link
 state_after_packet state p = state
@@ -71,34 +74,34 @@ abbrev pub interfaces_after_packet : Format → List Interface → Captured → 
 interfaces_after_packet Pcapng interfaces p = interfaces ++ new_among interfaces (interface_of p)
 interfaces_after_packet format interfaces p = interfaces
 
--- whether it has the link type of the first
+-- whether a packet has the link type of the first
 abbrev pub has_link : SinkState → Captured → Bool
 has_link (Started link) p = link == p.link
 has_link state p = true
 
--- whether there is room for its interface
+-- whether there is room for a packet's interface
 abbrev pub has_room : List Interface → Captured → Bool
 has_room interfaces p =
     nat_le (length (interfaces ++ new_among interfaces (interface_of p))) most_output_interfaces
 
--- its checks, in order
+-- the checks of a packet that is to be put, in order
 abbrev pub checks_in : Format → SinkState → List Interface → Captured → List (Bool × Fault)
 checks_in Pcapng state interfaces p =
     pcapng.block_fit_checks p ++ (has_room interfaces p, TooManyOutputInterfaces) ∷ []
 checks_in format state interfaces p = (has_link state p, LinkTypesDiffer) ∷ pcap.record_fit_checks p
 
--- whether it takes memory: in pcapng, where its interface is new
+-- whether a packet takes memory: in pcapng, where its interface is new
 abbrev pub takes_memory_in : Format → List Interface → Captured → Bool
 takes_memory_in Pcapng interfaces p = not (is_among interfaces (interface_of p))
 takes_memory_in format interfaces p = false
 
--- what is written in front of the first
+-- what is written in front of the first packet; nothing in front of others
 abbrev pub file_start_in : Format → SinkState → ℕ → List ℕ
 file_start_in format Empty link = file_start format link
 file_start_in format state link = []
 
--- its own bytes: in pcapng its interface is described in front of it where that is new, and its
--- number is how many interfaces come before it
+-- the bytes of a packet itself: in pcapng its interface is described in front of it where that is
+-- new, and the interface's number is how many come before it
 abbrev pub appended_packet : Format → List Interface → Captured → List ℕ
 appended_packet Pcap interfaces p = record_text Microseconds p
 appended_packet NsecPcap interfaces p = record_text Nanoseconds p

@@ -23,7 +23,7 @@ pub enum FileState {
 }
 
 impl FileState {
-    /// The byte order of the current section, if there is one.
+    /// The byte order of the current section; `None` where there is none, as in pcap.
     pub(crate) fn order(self) -> Option<Order>
         ensures { result ≡ known_order self }
     {
@@ -44,8 +44,9 @@ impl FileState {
         }
     }
 
-    /// The packet of the unit at the start of a buffer. `None` where nothing was read or the table
-    /// hasn't its interface, neither of which a source with a current packet has.
+    /// The packet that lies at these spans of the unit at the start of a buffer, lent from there.
+    /// `None` where nothing was read or the table hasn't its interface, neither of which a source
+    /// with a current packet has.
     #[inline(always)]
     pub(crate) fn packet<'a, A: Allocator>(
         self,
@@ -87,7 +88,7 @@ impl FileState {
     }
 }
 
-/// What came of a read of one unit.
+/// Which unit was read next.
 #[derive(Clone, Copy)]
 pub(crate) enum NextUnit {
     /// A unit of this size, without a packet.

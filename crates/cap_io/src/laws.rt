@@ -3,7 +3,8 @@ ghost use Rattle.cap_io.specs.Laws.{EachHasCut, EachHasOneCut, CutTellsItems};
 ghost use Rattle.cap_io.specs.Laws.{EachPutGoesByPackets, PutExtendsText};
 ghost use Rattle.cap_io.specs.RoundTrip.{ItemsBack};
 
-/// Each text is cut into units in one way, and the cut tells its items.
+/// Each text is cut into units in exactly one way, and the cut tells the text's items: its packets
+/// and how it ends.
 pub fn one_cut()
     ensures some { EachHasCut }
     ensures one { EachHasOneCut }

@@ -12,11 +12,12 @@ use cap_octet::{Fault, Input, read_full};
 use cap_pcapng::{PacketSpans, Table, begins_section};
 use std::alloc::Allocator;
 
-/// The bytes of the file header of pcap.
-const FILE_HEADER: usize = 24;
+/// How many bytes the file header of pcap has.
+const FILE_HEADER_LENGTH: usize = 24;
 
-/// Reads the first four bytes of a file; `NotACaptureFile` where it has fewer.
-fn read_first<I: Input>(input: &mut I) -> Result<[u8; 4], Fault>
+/// Reads the first four bytes of a file, which tell its format; `NotACaptureFile` where it has
+/// fewer, `ReadFailed` where the device failed.
+fn read_first_bytes<I: Input>(input: &mut I) -> Result<[u8; 4], Fault>
     ensures moves { Moves I.Input input.old input.new 0 (λ _. 4) 4 result }
     ensures ok { IfOk result (λ first. IsTrue I.tells → I.unread input.old
         ≡ first ++ I.unread input.new) }
@@ -40,7 +41,7 @@ pub(crate) struct UnitReader<I: Input, A: Allocator> {
     pub(crate) input: I,
     /// What the units so far declare, beside the interfaces of a section.
     pub(crate) file: FileState,
-    /// The current unit is at its start.
+    /// The current unit is at its start; after that are bytes of earlier ones.
     pub(crate) buffer: Vec<u8, A>,
     /// The interfaces of the current section.
     pub(crate) table: Table<A>,
@@ -50,15 +51,16 @@ pub(crate) struct UnitReader<I: Input, A: Allocator> {
 
 impl<I: Input, A: Allocator> UnitReader<I, A> {
     /// Reads the first unit of a file: a section header, or the file header of pcap.
-    fn first_unit(&mut self) -> Result<NextUnit, Fault>
+    /// `NotACaptureFile` where it begins with neither; other faults as in `next_block`.
+    fn read_first_unit(&mut self) -> Result<NextUnit, Fault>
         requires unknown { self.old.file ≡ state.Unknown }
         requires empty { self.old.table ≡ [] }
         ensures { ReadsUnit I.Input self.old [] result self.new }
     {
-        let first = read_first(&mut self.input)?;
+        let first = read_first_bytes(&mut self.input)?;
         if !begins_section(&first) {
             self.file = FileState::Pcap(read_header(&mut self.input, &first)?);
-            return Ok(NextUnit::Other(FILE_HEADER));
+            return Ok(NextUnit::Other(FILE_HEADER_LENGTH));
         }
         let mut front = [0; BLOCK_FRONT];
         read_rest(&mut self.input, &first, &mut front, BLOCK_FRONT)?;
@@ -72,7 +74,7 @@ impl<I: Input, A: Allocator> UnitReader<I, A> {
         ensures { ReadsUnit I.Input self.old [] result self.new }
     {
         match self.file {
-            FileState::Unknown => self.first_unit(),
+            FileState::Unknown => self.read_first_unit(),
             FileState::Pcap(head) => self.next_record(&head),
             FileState::Pcapng(_, _) => self.next_block(),
         }

@@ -12,10 +12,11 @@ use std::alloc::Allocator;
 use std::hash::{BuildHasherDefault, FoldHasher};
 use std::marker::Model;
 
-/// The most interfaces that a file is given: they take about 1 MB.
+/// The most interfaces that a file which is written may have: their keys take about 1 MB.
 pub const MOST_OUTPUT_INTERFACES: usize = 4096;
 
-/// What makes two interfaces one. The name lies in it, so that a look-up takes no memory.
+/// What makes two interfaces one: link type, snap length and name. It holds the name itself, so
+/// that a look-up takes no memory.
 #[derive(Drop, PartialEq, Eq, Hash)]
 pub(crate) struct InterfaceKey {
     link: u16,
@@ -40,12 +41,13 @@ impl InterfaceKey {
         InterfaceKey {
             link: packet.link,
             snap: packet.snap,
+            // A packet's name has at most 255 bytes, which a `Name` has room for.
             name: Name::try_from(packet.name).unwrap(),
         }
     }
 
-    /// Whether it is the key of a packet's interface.
-    fn is_of(&self, packet: &Packet<'_>) -> bool
+    /// Whether it is the key of a packet's interface. No key is made for that.
+    fn is_key_of(&self, packet: &Packet<'_>) -> bool
         ensures { result ≡ is_same (interface_in self.now) (interface_of (captured packet.now)) }
     {
         self.link == packet.link && self.snap == packet.snap && self.name.as_slice() == packet.name
@@ -57,7 +59,7 @@ impl InterfaceKey {
 pub(crate) struct OutputInterfaces<A: Allocator> {
     keys: IndexSet<InterfaceKey, BuildHasherDefault<FoldHasher>, A>,
     /// The number of the last packet's interface, which is mostly that of the next one too.
-    last: u32,
+    last_number: u32,
 }
 
 impl<A: Allocator> Model for OutputInterfaces<A> {
@@ -71,7 +73,7 @@ impl<A: Allocator> Model for OutputInterfaces<A> {
     ghost view = { λ s. map interface_in s.keys.keys };
 
     ghost invariant = { λ s. FitFile (map interface_in s.keys.keys)
-        × IsFirst s.last (map interface_in s.keys.keys) };
+        × IsFirst s.last_number (map interface_in s.keys.keys) };
 }
 
 impl<A: Allocator + Copy> OutputInterfaces<A> {
@@ -81,7 +83,7 @@ impl<A: Allocator + Copy> OutputInterfaces<A> {
     {
         OutputInterfaces {
             keys: IndexSet::new(alloc),
-            last: 0,
+            last_number: 0,
         }
     }
 }
@@ -89,7 +91,7 @@ impl<A: Allocator + Copy> OutputInterfaces<A> {
 impl<A: Allocator> OutputInterfaces<A> {
     ghost use Rattle.cap_io.specs.Text.{FitFile};
 
-    /// Whether a packet's interface is one of these already, or one more fits.
+    /// Whether a packet's interface is one of these already, or there is room for one more.
     pub fn has_room(&self, packet: &Packet<'_>) -> bool
         ensures { result ≡ nat_le (length (self.now ++ new_among self.now
             (interface_of (captured packet.now)))) most_output_interfaces }
@@ -106,20 +108,21 @@ impl<A: Allocator> OutputInterfaces<A> {
         ensures fits { FitFile self.new }
         ensures number { Numbers self.old (interface_of (captured packet.now)) result self.new }
     {
-        if let Some(key) = self.keys.get_index(self.last as usize)
-            && key.is_of(packet)
+        // Mostly it is the last packet's: then no key is made and hashed.
+        if let Some(key) = self.keys.get_index(self.last_number as usize)
+            && key.is_key_of(packet)
         {
             return Ok(InterfaceNumber {
-                number: self.last,
+                number: self.last_number,
                 is_new: false,
             });
         }
         let Ok((index, is_new)) = self.keys.insert_full(InterfaceKey::of(packet)) else {
             return Err(Fault::NoMemory);
         };
-        self.last = index as u32;
+        self.last_number = index as u32;
         Ok(InterfaceNumber {
-            number: self.last,
+            number: self.last_number,
             is_new,
         })
     }

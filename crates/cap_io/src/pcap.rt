@@ -16,14 +16,14 @@ use cap_pcap::{Head, RecordHead, read_file_header, read_magic, read_record_heade
 use cap_pcapng::{PacketSpans, Span};
 use std::alloc::Allocator;
 
-/// The bytes of a record in front of its data.
-const RECORD_HEAD: usize = 16;
+/// How many bytes of a record are in front of its data.
+const RECORD_HEADER_LENGTH: usize = 16;
 
-/// Where a record says how many bytes of its packet it holds.
-const CAPTURED: usize = 8;
+/// Where a record has its captured length.
+const CAPTURED_LENGTH_OFFSET: usize = 8;
 
-/// Reads the file header of pcap after its first four bytes: `NotACaptureFile` where these are no
-/// magic number, before more is read.
+/// Reads the file header of pcap, whose first four bytes came already: `NotACaptureFile` where
+/// these are no magic number, before more is read.
 pub(crate) fn read_header<I: Input>(input: &mut I, first: &[u8; 4]) -> Result<Head, Fault>
     requires { is_section first.now ≡ false }
     ensures moves { Moves I.Input input.old input.new 4 (λ _. 24) 24 result }
@@ -41,9 +41,9 @@ pub(crate) fn read_header<I: Input>(input: &mut I, first: &[u8; 4]) -> Result<He
     read_file_header(&bytes)
 }
 
-/// The fast way of `next_record`: copies the next record to the start of the buffer if the device
-/// has all of it at hand, the buffer has room for it, and it fails no check. `None` if not: the
-/// device is as before, the buffer may have changed.
+/// The fast way of `next_record`: copies the next record to the start of the buffer and returns its
+/// header, if the device has all of it at hand, the buffer has room for it, and it fails no check.
+/// `None` if not: the device is as before, the buffer may have changed.
 #[inline(always)]
 pub(crate) fn take_record<I: Input>(
     input: &mut I,
@@ -56,11 +56,11 @@ pub(crate) fn take_record<I: Input>(
     ensures room { length buffer.new ≡ length buffer.old }
 {
     let hand = input.at_hand();
-    let front = hand.first_chunk::<RECORD_HEAD>()?;
+    let front = hand.first_chunk::<RECORD_HEADER_LENGTH>()?;
     let Ok(found) = read_record_header(head, front) else {
         return None;
     };
-    let size = RECORD_HEAD + found.captured as usize;
+    let size = RECORD_HEADER_LENGTH + found.captured as usize;
     if size > hand.len() || size > buffer.len() {
         return None;
     }
@@ -68,13 +68,13 @@ pub(crate) fn take_record<I: Input>(
     if input.pass(size) { Some(found) } else { None }
 }
 
-/// Whether the next record is wholly among these bytes.
+/// Whether the next record is wholly among these bytes, by its captured length.
 // No clause: see `Source::has_next_at_hand`.
 pub(crate) fn holds_record(head: &Head, bytes: &[u8]) -> bool {
-    if bytes.len() < RECORD_HEAD {
+    if bytes.len() < RECORD_HEADER_LENGTH {
         return false;
     }
-    u32_at(head.order, bytes, CAPTURED) as usize <= bytes.len() - RECORD_HEAD
+    u32_at(head.order, bytes, CAPTURED_LENGTH_OFFSET) as usize <= bytes.len() - RECORD_HEADER_LENGTH
 }
 
 /// Where the packet of a record with this header lies: after the header, without options.
@@ -84,9 +84,9 @@ pub(crate) fn record_spans(found: &RecordHead) -> PacketSpans
     ensures { result ≡ record_spans found.now }
 {
     PacketSpans {
-        size: RECORD_HEAD as u32 + found.captured,
-        bytes: Span::new(RECORD_HEAD as u32, found.captured),
-        options: Span::new(RECORD_HEAD as u32, 0),
+        size: RECORD_HEADER_LENGTH as u32 + found.captured,
+        bytes: Span::new(RECORD_HEADER_LENGTH as u32, found.captured),
+        options: Span::new(RECORD_HEADER_LENGTH as u32, 0),
         interface: 0,
         time: found.time,
         orig: found.orig,
@@ -95,17 +95,18 @@ pub(crate) fn record_spans(found: &RecordHead) -> PacketSpans
 
 impl<I: Input, A: Allocator> UnitReader<I, A> {
     /// Reads the next record of a pcap file to the start of the buffer, or finds the clean end. The
-    /// checks of its header are made before the buffer grows.
+    /// checks of its header are made before the buffer grows. A fault is that of the first check
+    /// that it fails, `Truncated`, `ReadFailed` or `NoMemory`.
     pub(crate) fn next_record(&mut self, head: &Head) -> Result<NextUnit, Fault>
         requires { self.old.file ≡ state.Pcap head.now }
         ensures { ReadsUnit I.Input self.old [] result self.new }
     {
-        let mut front = [0; RECORD_HEAD];
+        let mut front = [0; RECORD_HEADER_LENGTH];
         if !read_front(&mut self.input, &mut front)? {
             return Ok(NextUnit::End);
         }
         let found = read_record_header(head, &front)?;
-        let size = RECORD_HEAD + found.captured as usize;
+        let size = RECORD_HEADER_LENGTH + found.captured as usize;
         make_room(&mut self.buffer, size)?;
         read_rest(&mut self.input, &front, self.buffer.as_mut_slice(), size)?;
         self.spans = record_spans(&found);

@@ -14,12 +14,14 @@ use cap_octet::{Fault, Input, Order};
 use cap_pcapng::{BlockEffect, BlockType, Frame, PacketSpans, Table, block_effect, read_frame};
 use std::alloc::Allocator;
 
-/// The first bytes of a block: 8 in front of its body, and 4 of that, which in a section header are
-/// the byte-order magic.
+/// How many bytes of a block are read first: the 8 in front of its body, and 4 of that, which in a
+/// section header are the byte-order magic.
 pub(crate) const BLOCK_FRONT: usize = 12;
 
-/// Makes the checks of a whole block of this frame, brings the table to the interfaces after it,
-/// and returns where its packet lies, if it has one. A fault leaves the table unchanged.
+/// Makes the checks of a whole block of this frame, updates the table to the interfaces that its
+/// section has after it, and returns where its packet lies; `None` where it has none. The fault is
+/// that of the first check that fails, or `NoMemory` for an interface, and leaves the table
+/// unchanged.
 fn apply_block<A: Allocator>(
     table: &mut Table<A>,
     frame: &Frame,
@@ -47,14 +49,17 @@ fn apply_block<A: Allocator>(
     }
 }
 
-/// The first link type of a file after a block, given that before it and the interfaces after it.
+/// The first link type that an interface of the file declared, up to and with a block: the one that
+/// was known before it, else that of the first interface of the table after it. `None` where no
+/// interface was declared.
 fn first_link_type<A: Allocator>(first: Option<u16>, table: &Table<A>) -> Option<u16>
     ensures { (order : Order) → result ≡ first_link_after first (section_of order table.now) }
 {
     first.or(table.get(0).map(|interface| interface.link))
 }
 
-/// Whether the next block with a packet, and all before it, are wholly among these bytes.
+/// Whether the next block with a packet, and all blocks before it, are wholly among these bytes.
+/// `false` also where a block among them fails a check of its frame.
 // No clause: see `Source::has_next_at_hand`.
 pub(crate) fn holds_packet(order: Order, bytes: &[u8]) -> bool {
     let mut order = order;
@@ -77,8 +82,9 @@ pub(crate) fn holds_packet(order: Order, bytes: &[u8]) -> bool {
 }
 
 impl<I: Input, A: Allocator> UnitReader<I, A> {
-    /// Reads a block after its first 12 bytes to the start of the buffer, and brings the table to
-    /// the interfaces after it. The checks of its length are made before the buffer grows.
+    /// Reads a block, whose first 12 bytes came already, to the start of the buffer, and updates
+    /// the table and the state of the file to those after it. The checks of its length are made
+    /// before the buffer grows.
     pub(crate) fn read_block(&mut self, front: &[u8; 12]) -> Result<NextUnit, Fault>
         requires consistent { IsConsistent self.old.file self.old.table }
         requires begins { BeginsBlock self.old.file front.now }
@@ -103,7 +109,8 @@ impl<I: Input, A: Allocator> UnitReader<I, A> {
         }
     }
 
-    /// Reads the next block of a pcapng file, or finds the clean end.
+    /// Reads the next block of a pcapng file, or finds the clean end. A fault is that of the first
+    /// check that the block fails, `Truncated`, `ReadFailed` or `NoMemory`.
     pub(crate) fn next_block(&mut self) -> Result<NextUnit, Fault>
         requires section { IsTrue (is_some (known_order self.old.file)) }
         requires consistent { IsConsistent self.old.file self.old.table }

@@ -1,4 +1,4 @@
-//! Packets to a capture, one at a time.
+//! Writes packets to a capture, one at a time.
 ghost use Rattle.std.specs.Prelude.{◌≡◌, IsTrue, true};
 
 use crate::numbering::OutputInterfaces;
@@ -13,8 +13,9 @@ use std::marker::Model;
 pub enum SinkState {
     /// Nothing was put.
     Empty,
-    /// Packets were put, the first with this link type.
+    /// Packets were put, the first with this link type; or none, and the header was written.
     Started(u16),
+    /// A call returned this fault, as each later one does.
     Broken(Fault),
 }
 
@@ -24,7 +25,7 @@ pub struct Sink<O: Output, A: Allocator> {
     output: O,
     format: Format,
     state: SinkState,
-    /// Those of a pcapng file; pcap has none.
+    /// The interfaces of a pcapng file so far; pcap has none.
     interfaces: OutputInterfaces<A>,
 }
 
@@ -86,7 +87,7 @@ impl<O: Output, A: Allocator> Sink<O, A> {
         if let SinkState::Broken(fault) = self.state {
             return Err(fault);
         }
-        let result = self.add(packet);
+        let result = self.add_packet(packet);
         if let Err(fault) = result {
             self.state = SinkState::Broken(fault);
         }
@@ -120,7 +121,8 @@ impl<O: Output, A: Allocator> Sink<O, A> {
         }
     }
 
-    /// Makes the device pass on what it holds back, and returns whether it could.
+    /// Makes the device pass on what it holds back, and returns whether it could; `false` leaves
+    /// the sink as it was.
     pub fn release(&mut self) -> bool
         ensures kept { self.new ≡ self.old }
         ensures sure { IsTrue O.tells → result ≡ true }
@@ -128,7 +130,7 @@ impl<O: Output, A: Allocator> Sink<O, A> {
         self.output.release()
     }
 
-    /// The output as it stands. It takes no memory.
+    /// The output, with what was written so far. It takes no memory.
     pub fn into_output(self) -> O
         ensures written { O.written result ≡ self.written }
         ensures failures { O.failures result ≡ self.failures }
@@ -138,8 +140,9 @@ impl<O: Output, A: Allocator> Sink<O, A> {
         output
     }
 
-    /// `put` of a sink that isn't broken; after an error the caller makes it so.
-    fn add(&mut self, packet: &Packet<'_>) -> Result<(), Fault>
+    /// Checks a packet and writes it as `put` does, to a sink that isn't broken. After an error the
+    /// caller makes the sink broken.
+    fn add_packet(&mut self, packet: &Packet<'_>) -> Result<(), Fault>
         ensures bytes { IsTrue O.tells → WritesPacket (refusal_in self.old (captured packet.now))
             (added_in self.old (captured packet.now)) self.old.written result self.new.written }
         ensures answer { AddsPacket self.old (captured packet.now) result self.new }

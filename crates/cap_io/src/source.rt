@@ -22,12 +22,13 @@ pub enum Kind {
 /// How far a source is.
 #[derive(Clone, Copy)]
 pub(crate) enum Stage {
-    /// The next unit was not read yet.
+    /// No unit is current, and the next one was not read yet.
     Between,
     /// A packet is current.
-    InHand,
+    Current,
     /// The clean end was met.
     Ended,
+    /// An `advance` returned this fault.
     Failed(Fault),
 }
 
@@ -37,6 +38,7 @@ pub(crate) enum Stage {
 pub struct Source<I: Input, A: Allocator> {
     reader: UnitReader<I, A>,
     stage: Stage,
+    /// Where the current unit begins, else where the next one does, in bytes from the file's start.
     offset: u64,
 }
 
@@ -99,7 +101,7 @@ impl<I: Input, A: Allocator> Source<I, A> {
         match self.stage {
             Stage::Ended => Ok(false),
             Stage::Failed(fault) => Err(fault),
-            Stage::Between | Stage::InHand => {
+            Stage::Between | Stage::Current => {
                 let answer = self.advance_to_packet();
                 if let Err(fault) = answer {
                     self.stage = Stage::Failed(fault);
@@ -109,8 +111,8 @@ impl<I: Input, A: Allocator> Source<I, A> {
         }
     }
 
-    /// Whether the device has the next packet at hand, so that `advance` makes it read nothing.
-    /// `false` where that can't be told.
+    /// Whether the device has all bytes up to the end of the next packet at hand, so that `advance`
+    /// makes it read nothing. `false` where they don't show that, as before the first unit.
     // No clause: a job only asks whether to release its output before a read that may wait.
     pub fn has_next_at_hand(&self) -> bool {
         let hand = self.reader.input.at_hand();
@@ -127,7 +129,7 @@ impl<I: Input, A: Allocator> Source<I, A> {
         ensures packet { option_map captured result ≡ self.now.packet }
         ensures short { IfSome result (λ packet. length packet.bytes.now ≤ most_in_unit) }
     {
-        let Stage::InHand = self.stage else {
+        let Stage::Current = self.stage else {
             return None;
         };
         let reader = &self.reader;
@@ -142,7 +144,7 @@ impl<I: Input, A: Allocator> Source<I, A> {
         ensures { result ≡ option_map (λ p. p.time) self.now.packet }
     {
         match self.stage {
-            Stage::InHand => Some(self.reader.spans.time),
+            Stage::Current => Some(self.reader.spans.time),
             Stage::Between | Stage::Ended | Stage::Failed(_) => None,
         }
     }
@@ -176,7 +178,7 @@ impl<I: Input, A: Allocator> Source<I, A> {
         self.reader.file.first_link()
     }
 
-    /// The device, as it stands. It takes no memory.
+    /// The device, as it is after what was read. It takes no memory.
     pub fn into_input(self) -> I
     where
         A: Drop,
@@ -190,8 +192,10 @@ impl<I: Input, A: Allocator> Source<I, A> {
         input
     }
 
-    /// Leaves the current unit and reads on to the next packet; `false` at the clean end.
-    // A record at hand is taken without a call; all else is out of line.
+    /// Leaves the current unit, if there is one, and reads on to the next packet; `false` at the
+    /// clean end, and faults as in `advance`.
+    // Inlined with `take_next`, so that a record at hand is taken without a call; all else is out
+    // of line.
     #[inline(always)]
     fn advance_to_packet(&mut self) -> Result<bool, Fault>
         requires { self.old.phase ≡ Reading }
@@ -223,12 +227,12 @@ impl<I: Input, A: Allocator> Source<I, A> {
             return false;
         };
         self.reader.spans = record_spans(&found);
-        self.stage = Stage::InHand;
+        self.stage = Stage::Current;
         true
     }
 
-    /// Skips units to the next one with a packet, which becomes the current one; `false` at the
-    /// clean end.
+    /// Reads units up to the next one with a packet, which becomes the current one; `false` at the
+    /// clean end. A fault is that of the first unit that can't be read.
     #[inline(never)]
     fn skip_to_packet(&mut self) -> Result<bool, Fault>
         requires between { IsBetween self.old }
@@ -251,14 +255,15 @@ impl<I: Input, A: Allocator> Source<I, A> {
         requires { self.old.phase ≡ Reading }
         ensures { self.new ≡ past_unit self.old }
     {
-        if let Stage::InHand = self.stage {
+        if let Stage::Current = self.stage {
             self.offset += u64::from(self.reader.spans.size);
         }
         self.stage = Stage::Between;
     }
 
-    /// Reads one unit: one with a packet becomes the current one, another is skipped, and at the
-    /// clean end the source ends. A fault leaves it between units; `advance` notes the fault.
+    /// Reads one unit, and tells which it was: one with a packet becomes the current one, another
+    /// is skipped, and at the clean end the source ends. After a fault no unit is current;
+    /// `advance` notes the fault.
     fn read_unit(&mut self) -> Result<NextUnit, Fault>
         requires between { IsBetween self.old }
         ensures packets { IsTrue I.tells → FindsNext self.old result self.new }
@@ -267,7 +272,7 @@ impl<I: Input, A: Allocator> Source<I, A> {
     {
         let unit = self.reader.next_unit()?;
         match unit {
-            NextUnit::Packet => self.stage = Stage::InHand,
+            NextUnit::Packet => self.stage = Stage::Current,
             NextUnit::Other(size) => self.offset += size as u64,
             NextUnit::End => self.stage = Stage::Ended,
         }

@@ -7,12 +7,12 @@ ghost use Rattle.cap_io.specs.inside.Reading.{FrontCame, FrontMissing, Moves, Re
 use cap_octet::{Fault, Input, read_full};
 use std::alloc::Allocator;
 
-/// A unit of at most this many bytes, as most are, is copied as this many, with what follows it. A
-/// buffer has room for as many.
+/// Of a unit of at most this many bytes, as most are, this many bytes are copied at once, with what
+/// follows the unit. Each buffer that was grown has room for as many.
 const SHORT_UNIT: usize = 256;
 
-/// Reads the first bytes of a unit that follows others; `false` is the end of the file. `Truncated`
-/// where the file ends inside them, `ReadFailed` where the device failed.
+/// Fills `front` with the first bytes of a unit that follows others; `false` where the file ends
+/// before them. `Truncated` where it ends among them, `ReadFailed` where the device failed.
 #[inline(always)]
 pub(crate) fn read_front<I: Input>(input: &mut I, front: &mut [u8]) -> Result<bool, Fault>
     requires { 0 < length front.old }
@@ -37,8 +37,8 @@ pub(crate) fn read_front<I: Input>(input: &mut I, front: &mut [u8]) -> Result<bo
     Ok(true)
 }
 
-/// Makes room for a unit of `size` bytes, or returns `NoMemory`. What is in the buffer already is
-/// of no use; it never shrinks.
+/// Grows the buffer to `size` bytes at least, for a unit of as many, or returns `NoMemory`. It
+/// never shrinks, and nobody needs what it held.
 pub(crate) fn make_room<A: Allocator>(buffer: &mut Vec<u8, A>, size: usize) -> Result<(), Fault>
     ensures room { OnOk result (size ≤ vec_len buffer.new) }
     ensures grown { length buffer.old.items ≤ length buffer.new.items }
@@ -53,8 +53,9 @@ pub(crate) fn make_room<A: Allocator>(buffer: &mut Vec<u8, A>, size: usize) -> R
     Ok(())
 }
 
-/// Reads what is left of a unit of `size` bytes to the start of the buffer, after the part of it
-/// that came. `Truncated` where the file ends inside it, `ReadFailed` where the device failed.
+/// Puts a unit of `size` bytes at the start of the buffer: its first bytes, which were read before
+/// (`front`), and then those that are left of it, which are read. `Truncated` where the file ends
+/// inside the unit, `ReadFailed` where the device failed.
 #[inline(always)]
 pub(crate) fn read_rest<I: Input>(
     input: &mut I,
@@ -86,8 +87,9 @@ pub(crate) fn read_rest<I: Input>(
     Ok(())
 }
 
-/// Copies the first `size` bytes to the start of the buffer; after them others may be written.
-// Most units are short. A copy of a fixed size has no branch that hangs on a packet's.
+/// Copies the first `size` bytes of `from` to the start of the buffer; the buffer's bytes after
+/// them may change too.
+// Most units are short. A copy of a fixed size has no branch that depends on a packet's size.
 #[inline(always)]
 pub(crate) fn copy_unit(from: &[u8], buffer: &mut [u8], size: usize)
     requires there { size ≤ length from.now }

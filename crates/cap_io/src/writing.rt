@@ -1,4 +1,4 @@
-//! Packets, file headers and section headers to a device, in each format.
+//! Writes packets, file headers and section headers to a device, in each format.
 ghost use Rattle.std.specs.Prelude.{◌≡◌, ◌++◌, None};
 ghost use Rattle.cap_octet.specs.Checks.{checked, first_failing};
 ghost use Rattle.cap_octet.specs.Packet.{captured};
@@ -16,8 +16,8 @@ use cap_pcap::{file_header, record_header};
 use cap_pcapng::{section_bytes, write_interface, write_packet};
 use std::alloc::Allocator;
 
-/// Checks that a packet may be put in this state, or returns the first check that it fails, in the
-/// order that `Sink::put` lists.
+/// Checks that a packet may be put to a sink in this state with these interfaces, or returns the
+/// first check that it fails, in the order that `Sink::put` lists. Nothing is written.
 pub(crate) fn check_packet<A: Allocator>(
     format: Format,
     state: SinkState,
@@ -46,8 +46,8 @@ pub(crate) fn check_packet<A: Allocator>(
     }
 }
 
-/// Writes what a file begins with: a file header with this link type, or a section header. Out of
-/// line, since it is done once a file.
+/// Writes what a file begins with: a file header with this link type, or in pcapng a section
+/// header. Out of line, since it is done once a file.
 #[cold]
 #[inline(never)]
 fn begin_file<O: Output>(output: &mut O, format: Format, link: u16) -> Result<(), DeviceFault>
@@ -60,7 +60,7 @@ fn begin_file<O: Output>(output: &mut O, format: Format, link: u16) -> Result<()
     }
 }
 
-/// `begin_file` where nothing was put yet; else nothing.
+/// Writes what a file begins with (`begin_file`) where nothing was put yet; else nothing.
 #[inline(always)]
 pub(crate) fn write_file_start<O: Output>(
     output: &mut O,
@@ -77,7 +77,7 @@ pub(crate) fn write_file_start<O: Output>(
     }
 }
 
-/// Writes a packet as a record of a pcap format, the first one after the file header.
+/// Writes a packet as a record of a pcap format; where it is the first one, after the file header.
 pub(crate) fn write_record<O: Output>(
     output: &mut O,
     format: Format,
@@ -93,8 +93,8 @@ pub(crate) fn write_record<O: Output>(
     write_parts(output, &[&record_header(format, packet), packet.bytes])
 }
 
-/// Writes a packet as a block, the first one after the section header, after the description of
-/// its interface where that is new.
+/// Writes a packet as a block of a pcapng file: where it is the first one, after the section
+/// header, and where its interface is new, after the description of that.
 pub(crate) fn write_block<O: Output>(
     output: &mut O,
     state: SinkState,

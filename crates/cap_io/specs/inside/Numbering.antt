@@ -12,12 +12,12 @@ pub record HasNumber (old : List Interface) (i : Interface) (given : InterfaceNu
   pub is_new : given.is_new ≡ not (is_among old i)
   pub interfaces : new ≡ old ++ new_among old i
 
--- what has this number stands nowhere before
+-- the interface that has this number is the first of its like, and so its number is this one
 abbrev pub IsFirst : ℕ → List Interface → Type 0
 IsFirst number interfaces =
     (i : Interface) → slice_get interfaces number ≡ Some i → number_among interfaces i ≡ number
 
--- it is given a number, or there was no memory for one that is new
+-- an interface is given its number, or there was no memory for it, and it is new
 abbrev pub Numbers : List Interface → Interface → Result InterfaceNumber Fault → List Interface
     → Type 0
 Numbers old i (Ok given) new = HasNumber old i given new

@@ -42,6 +42,7 @@ pub record Moves {I X : Type 0} (device : Ghosts I) (old new : I) (front : ℕ) 
       → device.given new + length (device.unread new)
       ≡ device.given old + length (device.unread old)
 
+-- no unit came: for this reason, and after these bytes of what is in its place
 pub record NoUnitCame (declared : Declared) (unread unread' : List ℕ) (fault : Fault) : Type 0 where
   pub why : IsReason declared unread fault
   pub taken : IsTaken declared unread unread' fault
@@ -55,12 +56,13 @@ pub record RestMissing (from size : ℕ) (unread unread' : List ℕ) (fault : Fa
   pub there : count ≤ length unread
   pub rest : unread' ≡ drop count unread
 
--- the first bytes of a unit came, or the end
+-- the first bytes of a unit came (true), or nothing was left (false)
 abbrev pub FrontCame : List ℕ → List ℕ → Bool → List ℕ → Type 0
 FrontCame unread front true unread' = unread ≡ front ++ unread'
 FrontCame unread front false unread' = (unread ≡ []) × (unread' ≡ [])
 
--- some bytes are there, but not as many as a unit begins with
+-- The first bytes of a unit didn't all come: the text has some, but fewer than a unit begins with;
+-- or the device failed.
 pub record FrontMissing (size : ℕ) (unread unread' : List ℕ) (fault : Fault) : Type 0 where
   pub some : 0 < length unread ⊎ (fault ≡ ReadFailed)
   pub missing : RestMissing 0 size unread unread' fault
@@ -71,12 +73,13 @@ pub record HeaderCame (unread : List ℕ) (head : Head) (unread' : List ℕ) : T
   pub header : IsHeader bytes head
   pub splits : unread ≡ bytes ++ unread'
 
--- the byte order of the current section, and the first link type
+-- the byte order of the current section, if there is one
 abbrev pub known_order : FileState → Option Order
 known_order state.Unknown = None
 known_order (state.Pcap head) = None
 known_order (state.Pcapng order first) = Some order
 
+-- the first link type that the units so far declare, if one does
 abbrev pub known_first_link : FileState → Option ℕ
 known_first_link state.Unknown = None
 known_first_link (state.Pcap head) = Some head.link
@@ -91,7 +94,7 @@ IsConsistent (state.Pcapng order first) interfaces =
     (first_link_after first (record { order = order; interfaces = interfaces }) ≡ first)
     × FitSection interfaces
 
--- its unit lies in the buffer, and its data and its options in its unit
+-- a packet's unit lies at the start of the buffer, and its data and its options in its unit
 pub record FitsBuffer (spans : PacketSpans) (buffer : List ℕ) : Type 0 where
   pub bytes : spans.bytes.start + spans.bytes.length ≤ spans.size
   pub options : spans.options.start + spans.options.length ≤ spans.size
@@ -100,13 +103,14 @@ pub record FitsBuffer (spans : PacketSpans) (buffer : List ℕ) : Type 0 where
   pub small : spans.size ≤ most_in_unit
   pub time : spans.time < 2 ^ 63
 
--- its interface is known
+-- a packet's interface is known
 abbrev pub HasInterface : Declared → PacketSpans → Type 0
 HasInterface Nothing spans = ⊥
 HasInterface (PcapFile head) spans = Unit {0}
 HasInterface (PcapngFile first section) spans =
     is_some (slice_get section.interfaces spans.interface) ≡ true
 
+-- where a unit has a packet, its interface is known
 abbrev pub HasInterfaceIfAny : Declared → PacketSpans → NextUnit → Type 0
 HasInterfaceIfAny declared spans (next_unit.Other size) = Unit {0}
 HasInterfaceIfAny declared spans next_unit.Packet = HasInterface declared spans
@@ -172,6 +176,8 @@ pub record EndCame (declared : Declared) (unread : List ℕ) (declared' : Declar
   pub same : declared' ≡ declared
   pub rest : unread' ≡ []
 
+-- what came of a unit, by what the reader returned: one without a packet, one with a packet, or the
+-- clean end
 abbrev pub UnitCame : Declared → List ℕ → List ℕ → PacketSpans → NextUnit → Declared → List ℕ
     → Type 0
 UnitCame declared unread buffer spans (next_unit.Other size) declared' unread' =
@@ -181,13 +187,13 @@ UnitCame declared unread buffer spans next_unit.Packet declared' unread' =
 UnitCame declared unread buffer spans next_unit.End declared' unread' =
     EndCame declared unread declared' unread'
 
--- how many bytes it has
+-- how many bytes the unit that came has
 abbrev pub unit_size : PacketSpans → NextUnit → ℕ
 unit_size spans (next_unit.Other size) = size
 unit_size spans next_unit.Packet = spans.size
 unit_size spans next_unit.End = 0
 
--- what holds of it on any device
+-- what holds on any device of the unit that came
 abbrev pub IsSized : PacketSpans → NextUnit → List ℕ → ℕ → Type 0
 IsSized spans (next_unit.Other size) buffer given = (0 < size) × (given < 2 ^ 63)
 IsSized spans next_unit.Packet buffer given = FitsBuffer spans buffer × (given < 2 ^ 63)

@@ -7,11 +7,12 @@ use Rattle.cap_octet.specs.declared.device.DeviceFault.{DeviceFault}
 use Rattle.cap_octet.specs.declared.device.Output.{Ghosts}
 use Rattle.cap_io.specs.declared.numbering.InterfaceNumber.{InterfaceNumber}
 
--- a packet of pcapng by the number of its interface
+-- the description of a packet's interface, where that is new
 abbrev pub description_text : Bool → Captured → List ℕ
 description_text true p = pcapng.interface_text p.link p.snap p.name
 description_text false p = []
 
+-- a packet's block by the number of its interface, after the description of that where it is new
 abbrev pub packet_block_text : InterfaceNumber → Captured → List ℕ
 packet_block_text interface p =
     description_text interface.is_new p ++ pcapng.packet_block interface.number p

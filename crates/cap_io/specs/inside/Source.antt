@@ -14,17 +14,19 @@ use Rattle.cap_io.specs.Reading.{most_in_unit, read_failures, declared_by}
 use Rattle.cap_io.specs.inside.Reading.{HasInterface, FitsBuffer, IsConsistent}
 use Rattle.cap_io.specs.Source.{SourceView, block_at, SkipsUnits, FindsPacket, FindsEnd, IsBroken, end_offset, Reading, Ended}
 
+-- where a packet is current, its unit is in the buffer
 abbrev pub HoldsIfAny : Stage → PacketSpans → List ℕ → Type 0
 HoldsIfAny stage.Between spans buffer = Unit {0}
-HoldsIfAny stage.InHand spans buffer = FitsBuffer spans buffer
+HoldsIfAny stage.Current spans buffer = FitsBuffer spans buffer
 HoldsIfAny stage.Ended spans buffer = Unit {0}
 HoldsIfAny (stage.Failed fault) spans buffer = Unit {0}
 
-abbrev pub HasInterfaceIfInHand : Stage → PacketSpans → Declared → Type 0
-HasInterfaceIfInHand stage.Between spans declared = Unit {0}
-HasInterfaceIfInHand stage.InHand spans declared = HasInterface declared spans
-HasInterfaceIfInHand stage.Ended spans declared = Unit {0}
-HasInterfaceIfInHand (stage.Failed fault) spans declared = Unit {0}
+-- where a packet is current, its interface is known
+abbrev pub HasInterfaceIfCurrent : Stage → PacketSpans → Declared → Type 0
+HasInterfaceIfCurrent stage.Between spans declared = Unit {0}
+HasInterfaceIfCurrent stage.Current spans declared = HasInterface declared spans
+HasInterfaceIfCurrent stage.Ended spans declared = Unit {0}
+HasInterfaceIfCurrent (stage.Failed fault) spans declared = Unit {0}
 
 -- what holds of each source's fields
 pub record IsSound {I A : Type 0} (device : Ghosts I) (stage : Stage) (r : UnitReader I A)
@@ -32,16 +34,18 @@ pub record IsSound {I A : Type 0} (device : Ghosts I) (stage : Stage) (r : UnitR
   pub fits : offset + length (block_at stage r.spans r.buffer.items) < 2 ^ 63
   pub counted : offset + length (block_at stage r.spans r.buffer.items) ≤ device.given r.input
   pub lies : HoldsIfAny stage r.spans r.buffer.items
-  pub known : HasInterfaceIfInHand stage r.spans (declared_by r.file r.table)
+  pub known : HasInterfaceIfCurrent stage r.spans (declared_by r.file r.table)
   pub consistent : IsConsistent r.file r.table
   pub bounded : length r.buffer.items ≤ most_in_unit
 
+-- what reading on to the next packet finds, by what was returned; the caller notes a fault
 abbrev pub Continues : SourceView → Result Bool Fault → SourceView → Type 0
 Continues old (Ok true) new = FindsPacket old new
 Continues old (Ok false) new = FindsEnd old new
 Continues old (Err fault) new = IsBroken old new fault
 
--- the current unit is left
+-- a source that has left its current unit, if there was one: its offset is where the next one
+-- begins
 abbrev pub past_unit : SourceView → SourceView
 past_unit s = record {
   phase = s.phase;
@@ -62,14 +66,15 @@ pub record IsBetween (s : SourceView) : Type 0 where
   pub block : s.block ≡ []
   pub packet : s.packet ≡ None
 
--- what a source that reads one unit finds there
+-- what reading one unit finds, by what was returned: a packet, a unit without one, the clean end,
+-- or a fault
 abbrev pub FindsNext : SourceView → Result NextUnit Fault → SourceView → Type 0
 FindsNext old (Ok next_unit.Packet) new = FindsPacket old new
 FindsNext old (Ok (next_unit.Other size)) new = SkipsUnits old new new.unread
 FindsNext old (Ok next_unit.End) new = FindsEnd old new
 FindsNext old (Err fault) new = IsBroken old new fault
 
--- and what holds of any device
+-- what reading one unit does on any device: counts, and the size of what is held
 pub record NextBounds (old : SourceView) (r : Result NextUnit Fault)
     (new : SourceView) : Type 0 where
   pub given : old.given ≤ new.given
@@ -95,7 +100,7 @@ pub record TakesNext (tells : Bool) (old new : SourceView) : Type 0 where
   pub packet : IsTrue tells → FindsPacket old new
   pub bounds : NextBounds old (Ok next_unit.Packet) new
 
--- the source stays where it is
+-- nothing is taken: the source is between units as before, though the buffer may have changed
 pub record TakesNothing (tells : Bool) (old new : SourceView) : Type 0 where
   pub between : IsBetween new
   pub declared : new.declared ≡ old.declared

@@ -14,11 +14,11 @@ use Rattle.cap_io.proofs.numbering.OutputInterfaces.give_number.Goals as goal
 pub returns-clause-number : goal.returns-clause-number
 returns-clause-number g c =
     let i = interface_of (captured c.args.packet.now) in
-    let last = c.self.inside.last in
+    let last = c.self.inside.last_number in
     let there =
     slice_get-map interface_in c.self.inside.keys.keys last
     ∙ ap (option_map interface_in) (sym c.in-Some.ensures.key)
-    ∙ ap Some (same_interface (interface_in c.in-Some.key.now) i (sym c.is_of.ensures ∙ c.if-is_of.true)) in
+    ∙ ap Some (same_interface (interface_in c.in-Some.key.now) i (sym c.is_key_of.ensures ∙ c.if-is_key_of.true)) in
     place-of-last c.args.self.now last i (rw c.self.view_is at c.self.invariant.1) (rw c.self.view_is at there)
 
 pub returns-in_default-clause-number : goal.returns-in_default-clause-number

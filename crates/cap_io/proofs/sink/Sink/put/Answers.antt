@@ -30,8 +30,8 @@ returns-in_default-result g c =
     let old : SinkView = c.args.self.now in
     let p = captured c.args.packet.now in
     rw c.in_default-result.is (record {
-      bytes = λ tells. put-writes-tell old.state old p (Ok tt) c.add-result.new.self (λ f e. c.in_default.not-Broken f (ap (λ (s : SinkView). s.state) c.self.view_is ∙ e)) (c.in_default-result.ensures.bytes tells);
-      answer = puts-tell old.state old p (Ok tt) c.add-result.new.self (λ f e. c.in_default.not-Broken f (ap (λ (s : SinkView). s.state) c.self.view_is ∙ e))
+      bytes = λ tells. put-writes-tell old.state old p (Ok tt) c.add_packet-result.new.self (λ f e. c.in_default.not-Broken f (ap (λ (s : SinkView). s.state) c.self.view_is ∙ e)) (c.in_default-result.ensures.bytes tells);
+      answer = puts-tell old.state old p (Ok tt) c.add_packet-result.new.self (λ f e. c.in_default.not-Broken f (ap (λ (s : SinkView). s.state) c.self.view_is ∙ e))
           (record { adds = c.in_default-result.ensures.answer; broken = tt });
       interfaces = subst FitFile (ap (λ (s : SinkView). s.interfaces) c.self-2.view_is) c.self-2.invariant;
     })

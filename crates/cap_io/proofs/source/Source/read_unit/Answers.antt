@@ -26,7 +26,7 @@ returns-in-Packet-clause-packets g c = λ t.
     let declared = ap (λ (v : SourceView). v.declared) c.self.view_is in
     let unread = ap (λ (v : SourceView). v.unread) c.self.view_is in
     let room = ap (λ (v : SourceView). v.room) c.self.view_is in
-    let new = view_of g.I.Input stage.InHand c.next_unit.new.self c.self.inside.offset in
+    let new = view_of g.I.Input stage.Current c.next_unit.new.self c.self.inside.offset in
     rw c.in-Packet.is (FindsPacket-next c.args.self.now new c.next_unit.new.self.spans c.next_unit.new.self.buffer.items c.requires.between
     (rw (declared, unread) at (rw c.in-Packet.is at (c.in_ok-unit.ensures.ok t))) refl refl (ap (λ (v : SourceView). v.offset) c.self.view_is) (omega (arith, c.in_ok-unit.ensures.grown, room)) refl refl)
 

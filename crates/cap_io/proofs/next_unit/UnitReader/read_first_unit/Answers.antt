@@ -2,7 +2,7 @@ use Rattle.std.proofs.Common.{rules, refl, sym, ◌∙◌, arith}
 use Rattle.std.proofs.lemmas.Result.{err_from_is_err_and}
 use Rattle.cap_io.proofs.Came.{NoUnitCame-following, error_is, first_of, joined_front, section_of_bytes}
 use Rattle.cap_io.proofs.CapturesCame.{ReadsUnit-following, UnitPassed-following, header_passed, rest_of_front}
-use Rattle.cap_io.proofs.next_unit.UnitReader.first_unit.Goals as goal
+use Rattle.cap_io.proofs.next_unit.UnitReader.read_first_unit.Goals as goal
 
 pub returns-in_err-read_rest : goal.returns-in_err-read_rest
 returns-in_err-read_rest g c =

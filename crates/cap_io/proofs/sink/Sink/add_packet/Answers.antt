@@ -4,8 +4,8 @@ use Rattle.cap_octet.specs.Device.{AppendsOrStops}
 use Rattle.cap_octet.specs.Packet.{captured}
 use Rattle.cap_io.specs.Sink.{added_in, refusal_in}
 use Rattle.cap_io.proofs.Parts.{adds-failed, record-adds, block-adds}
-use Rattle.cap_io.proofs.sink.Sink.add.Goals.{in-Pcap, in-Pcapng+in_ok-interface-in-Pcapng}
-use Rattle.cap_io.proofs.sink.Sink.add.Goals as goal
+use Rattle.cap_io.proofs.sink.Sink.add_packet.Goals.{in-Pcap, in-Pcapng+in_ok-interface-in-Pcapng}
+use Rattle.cap_io.proofs.sink.Sink.add_packet.Goals as goal
 
 pub returns-in_default-clause-bytes : goal.returns-in_default-clause-bytes
 returns-in_default-clause-bytes g c = λ tells.
