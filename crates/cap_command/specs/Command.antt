@@ -57,7 +57,7 @@ least_window = 2
 abbrev pub most_window : ℕ
 most_window = 1_000_000
 
--- as many packets as a window for duplicates may have
+-- a number of packets that a window for duplicates may have
 abbrev pub is_window : ℕ → Bool
 is_window n = nat_le least_window n && nat_le n most_window
 

@@ -18,7 +18,8 @@ pub record HasTree (text : List ℕ) (tree : Expression) : Type 0 where
   pub shallow : ¬ IsTooDeep tokens
   pub reads : IsReadAs (kinds_of tokens) tree
 
--- the tree has none of the faults of trees, and `e` is it with all qualifiers that it leaves out
+-- the tree has none of the faults of trees; with the qualifiers that it leaves out filled in it is
+-- `e`
 pub record IsSettled (tree e : Expression) : Type 0 where
   pub fits : fill_fault tree ≡ None
   pub fills : e ≡ fill_expression tree
@@ -31,7 +32,7 @@ HasFault tree refusal =
     (fill_fault tree ≡ Some refusal)
     ⊎ ((fill_fault tree ≡ None) × (check_fault (fill_expression tree) ≡ Some refusal))
 
--- the text is an expression, and `e` its tree with all qualifiers that it leaves out
+-- the text is an expression; its tree, with the qualifiers that it leaves out filled in, is `e`
 pub record IsExpression (text : List ℕ) (e : Expression) : Type 0 where
   pub tree : Expression
   pub read : HasTree text tree

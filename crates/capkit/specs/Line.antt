@@ -45,15 +45,15 @@ text_in id matches = unwrap_or (first_of id matches) []
 abbrev pub texts_in : Text → List Row → List Text
 texts_in id matches = unwrap_or (all_of id matches) []
 
--- a flag is set
+-- whether a flag is set
 abbrev pub flag_in : Text → List Row → Bool
 flag_in id matches = option_map_or (λ text. bytes_eq text (codes "true")) (one_of id matches) false
 
--- pcapng where no format is named
+-- the format that an argument names, or pcapng where it isn't given
 abbrev pub format_in : Text → List Row → Format
 format_in id matches = unwrap_or (option_and_then format_of_name (first_of id matches)) Pcapng
 
--- Ethernet where no link is named
+-- the link that an argument names, or Ethernet where it isn't given
 abbrev pub link_in : Text → List Row → Link
 link_in id matches = unwrap_or (option_and_then link_of_name (first_of id matches)) Ether
 
@@ -76,17 +76,17 @@ time_in id matches = option_and_then time_value (first_of id matches)
 abbrev pub duration_in : Text → List Row → Option ℕ
 duration_in id matches = option_and_then duration_value (first_of id matches)
 
+-- times are shifted by one of the spans, in nanoseconds, or not; of both by the first
 abbrev pub shift_by : (later earlier : Option ℕ) → Shift
 shift_by (Some span) earlier = shift.Later span
 shift_by None (Some span) = shift.Earlier span
 shift_by None None = shift.None
 
--- times are shifted by `--later` or `--earlier`
+-- how times are shifted: by `--later` or `--earlier`, or not
 abbrev pub shift_in : List Row → Shift
 shift_in matches = shift_by (duration_in ids.LATER.now matches) (duration_in ids.EARLIER.now matches)
 
--- the packets are written in the named format where `-w` names a capture, and else a line for each
--- of them
+-- the format in which packets are written, where `-w` names a capture; else lines are printed
 abbrev pub write_in : List Row → Option Format
 write_in matches =
     option_map (λ name. format_in ids.FORMAT.now matches) (first_of ids.OUT.now matches)
@@ -109,38 +109,44 @@ range_fault words =
     if nat_lt most_ranges (length words) then Some TooManyValues
     else (if list_any (λ word. is_none (range_of word)) words then Some BadRange else None)
 
+-- the fault of a name that is used twice
 abbrev pub name_fault : List Text → Option Text → Option Usage
 name_fault inputs output = if uses_name_twice inputs output then Some NameUsedTwice else None
 
--- an argument has a text that is no time, or no number of seconds
+-- an argument has a text that is no time
 abbrev pub is_bad_time : Text → List Row → Bool
 is_bad_time id matches = is_some (first_of id matches) && is_none (time_in id matches)
 
+-- an argument has a text that is no number of seconds
 abbrev pub is_bad_duration : Text → List Row → Bool
 is_bad_duration id matches = is_some (first_of id matches) && is_none (duration_in id matches)
 
+-- one of the arguments for times and numbers of seconds has another text
 abbrev pub has_bad_time : List Row → Bool
 has_bad_time matches =
     is_bad_time ids.START.now matches || (is_bad_time ids.STOP.now matches
     || (is_bad_duration ids.LATER.now matches || is_bad_duration ids.EARLIER.now matches))
 
+-- the fault of such a text
 abbrev pub time_fault : List Row → Option Usage
 time_fault matches = if has_bad_time matches then Some BadTime else None
 
--- times can't be shifted both ways
+-- times are to be shifted both later and earlier, which can't be
 abbrev pub has_two_shifts : List Row → Bool
 has_two_shifts matches =
     is_some (first_of ids.LATER.now matches) && is_some (first_of ids.EARLIER.now matches)
 
+-- the fault of times that are shifted both ways
 abbrev pub shift_fault : List Row → Option Usage
 shift_fault matches = if has_two_shifts matches then Some OptionsExclude else None
 
--- after the ranges: a bad time, then options that exclude each other, then a name used twice
+-- the first fault of an edit after its ranges: a bad time, then options that exclude each other,
+-- then a name used twice
 abbrev pub option_fault : List Row → Option Usage
 option_fault matches = or_else (time_fault matches) (or_else (shift_fault matches)
     (name_fault (text_in ids.IN.now matches ∷ []) (Some (text_in ids.OUT.now matches))))
 
--- too many ranges, then a bad one, then a fault of the options
+-- the first fault of an edit: too many ranges, then a bad one, then a fault of the options
 abbrev pub edit_fault : List Row → Option Usage
 edit_fault matches = or_else (range_fault (texts_in ids.RANGE.now matches)) (option_fault matches)
 
@@ -148,16 +154,19 @@ edit_fault matches = or_else (range_fault (texts_in ids.RANGE.now matches)) (opt
 abbrev pub files_in : List Row → List Text
 files_in matches = text_in ids.FILE.now matches ∷ texts_in ids.MORE.now matches
 
+-- the fault of too many inputs
 abbrev pub count_fault : List Text → Option Usage
 count_fault inputs = if nat_lt most_inputs (length inputs) then Some TooManyValues else None
 
--- too many inputs, then a name used twice
+-- the first fault of some inputs: too many, then a name used twice
 abbrev pub files_fault : List Text → Option Text → Option Usage
 files_fault inputs output = or_else (count_fault inputs) (name_fault inputs output)
 
+-- the first fault of a merge: too many inputs, then a name used twice
 abbrev pub merge_fault : List Row → Option Usage
 merge_fault matches = files_fault (files_in matches) (Some (text_in ids.OUT.now matches))
 
+-- the first fault of a report: too many inputs, then a name used twice
 abbrev pub infos_fault : List Row → Option Usage
 infos_fault matches = files_fault (files_in matches) None
 
@@ -166,31 +175,33 @@ abbrev pub read_names : List Row → List Text
 read_names matches =
     text_in ids.FILE.now matches ∷ option_to_list (first_of ids.LISTING.now matches)
 
--- a listing stands in place of an expression
+-- a listing and words of an expression are given, of which a print takes one
 abbrev pub has_two_filters : List Row → Bool
 has_two_filters matches =
     is_some (first_of ids.LISTING.now matches)
     && nat_lt 0 (length (texts_in ids.WORD.now matches))
 
--- a capture that is written has no lines, which could have link headers or bytes
+-- a capture is to be written, and lines are to have link headers or bytes
 abbrev pub has_two_outputs : List Row → Bool
 has_two_outputs matches =
     is_some (first_of ids.OUT.now matches)
     && (flag_in ids.LINK_HEADER.now matches || flag_in ids.BYTES.now matches)
 
--- lines have no format
+-- a format is given, though no capture is written
 abbrev pub has_idle_format : List Row → Bool
 has_idle_format matches =
     is_some (first_of ids.FORMAT.now matches) && is_none (first_of ids.OUT.now matches)
 
+-- options are given that exclude each other
 abbrev pub has_exclusion : List Row → Bool
 has_exclusion matches =
     has_two_filters matches || (has_two_outputs matches || has_idle_format matches)
 
+-- the fault of options that exclude each other
 abbrev pub exclusion_fault : List Row → Option Usage
 exclusion_fault matches = if has_exclusion matches then Some OptionsExclude else None
 
--- options that exclude each other, then a name used twice
+-- the first fault of a print: options that exclude each other, then a name used twice
 abbrev pub print_fault : List Row → Option Usage
 print_fault matches =
     or_else (exclusion_fault matches)
@@ -264,7 +275,7 @@ pub record IsCompileOf (matches : List Row) (line : Line) : Type 0 where
 
 -- ---- the words
 
--- the first fault of the words
+-- the first fault of the words of a subcommand
 abbrev pub fault_in : Subcommand → List Row → Option Usage
 fault_in sub.Edit matches = edit_fault matches
 fault_in sub.Merge matches = merge_fault matches

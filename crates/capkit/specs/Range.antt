@@ -10,10 +10,11 @@ use Rattle.cap_command.specs.Command.{is_range}
 abbrev pub is_decimal : List ℕ → Bool
 is_decimal text = nat_lt 0 (length text) && list_all is_ascii_digit text
 
--- the number that a text writes
+-- the number that a text writes in decimal digits alone
 abbrev pub range_number : List ℕ → Option ℕ
 range_number text = if is_decimal text then Some (digits_value 10 text) else None
 
+-- the byte of a hyphen
 abbrev pub is_hyphen : ℕ → Bool
 is_hyphen byte = byte == 45
 
@@ -29,6 +30,6 @@ abbrev pub range_between : Option ℕ → Option ℕ → Option (ℕ × ℕ)
 range_between (Some first) (Some last) = if is_range first last then Some (first, last) else None
 range_between _ _ = None
 
--- the range that a word names
+-- the range that a word names: `N`, or `N-M`
 abbrev pub range_of : List ℕ → Option (ℕ × ℕ)
 range_of word = range_between (range_number (sides_of word).0) (range_number (sides_of word).1)

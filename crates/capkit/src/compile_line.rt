@@ -13,7 +13,8 @@ use capkit_args::ids;
 use clap::ArgMatches;
 use std::alloc::Global;
 
-/// The line of a compilation, by clap's matches. An error means that memory ran out.
+/// The line of a compilation, by clap's matches: it has no inputs, and its listing goes to standard
+/// output. An error means that memory ran out.
 pub fn compile_line(alloc: Global, matches: &ArgMatches<'_>) -> Result<Line, Usage>
     ensures line { IfOk result (IsCompileOf (rows_of (found_of matches.now))) }
     ensures ready { IfOk result (λ line. is_ready line ≡ true) }

@@ -18,8 +18,8 @@ use capkit_args::ids;
 use clap::ArgMatches;
 use std::alloc::Global;
 
-/// The ranges that the words name, 512 at most. An error is the first of these: there are more
-/// (`TooManyValues`), a word is no range (`BadRange`), or memory ran out.
+/// The ranges that the words name, at most `MOST_RANGES` (512). An error is the first of these:
+/// there are more (`TooManyValues`), a word is no range (`BadRange`), or memory ran out.
 fn ranges_in(alloc: Global, words: &[&str]) -> Result<Vec<(u64, u64)>, Usage>
     ensures ranges { IfOk result (λ ranges. map Some ranges.items
         ≡ map range_of (map (λ word. word.now) words.now)) }
@@ -72,8 +72,8 @@ fn has_two_shifts(matches: &ArgMatches<'_>) -> bool
     optional_text(matches, ids::LATER).is_some() && optional_text(matches, ids::EARLIER).is_some()
 }
 
-/// Checks the words of an edit besides its ranges, or returns their first fault: a bad time, shifts
-/// both ways, a name used twice.
+/// Checks the words of an edit besides its ranges. An error is the first of their faults: a bad
+/// time, shifts both ways, a name used twice.
 fn check_edit(matches: &ArgMatches<'_>) -> Result<(), Usage>
     ensures passes { OnOk result (option_fault (rows_of (found_of matches.now)) ≡ None) }
     ensures refused { IfErr result (λ usage. option_fault (rows_of (found_of matches.now))
@@ -91,7 +91,7 @@ fn check_edit(matches: &ArgMatches<'_>) -> Result<(), Usage>
     Ok(())
 }
 
-/// How times are shifted: by `--later` or `--earlier`, in nanoseconds, or not.
+/// How an edit shifts times: by the span of `--later` or `--earlier`, in nanoseconds, or not.
 fn time_shift(matches: &ArgMatches<'_>) -> Shift
     ensures value { result ≡ shift_in (rows_of (found_of matches.now)) }
     ensures proper { is_proper_shift result ≡ true }
@@ -107,8 +107,8 @@ fn time_shift(matches: &ArgMatches<'_>) -> Shift
     }
 }
 
-/// The edit of these ranges, by its options. One that isn't given changes nothing, and the format
-/// is pcapng then.
+/// The edit of these ranges, by its options. An option that isn't given changes nothing; without
+/// one for the format it is pcapng.
 fn edit_of(matches: &ArgMatches<'_>, ranges: Vec<(u64, u64)>) -> Edit
     requires { has_proper_ranges ranges.items ≡ true }
     ensures ranges { result.ranges ≡ ranges }
@@ -129,7 +129,8 @@ fn edit_of(matches: &ArgMatches<'_>, ranges: Vec<(u64, u64)>) -> Edit
     }
 }
 
-/// The line of an edit, by clap's matches, or the first fault of its words.
+/// The line of an edit, by clap's matches. An error is the first fault of its words, or that memory
+/// ran out.
 pub fn edit_line(alloc: Global, matches: &ArgMatches<'_>) -> Result<Line, Usage>
     ensures line { IfOk result (IsEditOf (rows_of (found_of matches.now))) }
     ensures faultless { OnOk result (edit_fault (rows_of (found_of matches.now)) ≡ None) }

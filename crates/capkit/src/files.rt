@@ -13,8 +13,8 @@ use capkit_args::ids;
 use clap::ArgMatches;
 use std::alloc::{AllocError, Global};
 
-/// The names of the inputs, in order, lent from the words: there is one at least. An error means
-/// that memory ran out.
+/// The names of the inputs, in order, borrowed from the words: one at least, since clap takes no
+/// line without it. An error means that memory ran out.
 fn names_in<'a>(alloc: Global, matches: &ArgMatches<'a>) -> Result<Vec<&'a str>, AllocError>
     ensures { IfOk result (λ names. map (λ name. name.now) names.items
         ≡ files_in (rows_of (found_of matches.entry.now))) }
@@ -25,7 +25,8 @@ fn names_in<'a>(alloc: Global, matches: &ArgMatches<'a>) -> Result<Vec<&'a str>,
     Ok(names)
 }
 
-/// Copies of texts, which own their bytes. An error means that memory ran out.
+/// Copies of texts, which own their bytes, since a line outlives the words that it was read from.
+/// An error means that memory ran out.
 pub fn copies_of_texts(alloc: Global, names: &[&str]) -> Result<Vec<String>, AllocError>
     ensures texts { IfOk result (λ owned.
         map string_bytes owned.items ≡ map (λ name. name.now) names.now) }
@@ -38,8 +39,9 @@ pub fn copies_of_texts(alloc: Global, names: &[&str]) -> Result<Vec<String>, All
     Ok(owned)
 }
 
-/// The names of the inputs, copied. An error is the first of these: there are more than 256
-/// (`TooManyValues`), a name is used twice (`NameUsedTwice`), or memory ran out.
+/// The names of the inputs, copied, of a command that writes `output`, if it has one. An error is
+/// the first of these: there are more than `MOST_INPUTS` (`TooManyValues`), a name is used twice
+/// (`NameUsedTwice`), or memory ran out.
 pub fn input_names(
     alloc: Global,
     matches: &ArgMatches<'_>,

@@ -15,21 +15,23 @@ use capkit_args::arguments::{Subcommand, matches_of, subcommand_of_name};
 use clap::ArgMatches;
 use std::alloc::Global;
 
-/// A command line.
+/// What a command line asks for: a command, and the names that it is run over.
 #[derive(Drop)]
 pub struct Line {
-    /// What is asked for.
+    /// The command, whose listing, if it has one, isn't read yet.
     pub command: Command,
     /// The names of the inputs, of which `-` is standard input.
     pub inputs: Vec<String>,
     /// The name of the output, of which `-` is standard output; standard output where there is
     /// none.
     pub output: Option<String>,
-    /// The name of a listing, which is to be read into the command before it runs.
+    /// The name of a listing, which is to be read and put into the command (`with_code`) before
+    /// that runs.
     pub code: Option<String>,
 }
 
-/// The line that clap's matches of a subcommand ask for, or their first fault.
+/// The line that clap's matches of a subcommand ask for. An error is the first fault of its words,
+/// or that memory ran out.
 fn line_of_matches(
     alloc: Global,
     asked: Subcommand,
@@ -74,7 +76,8 @@ pub fn command_of(alloc: Global, words: Vec<String>) -> Result<Line, Usage>
     line_of_matches(alloc, subcommand_of_name(name), matches)
 }
 
-/// The command with these bytes as its listing. A command that takes no listing stays as it is.
+/// The command with these bytes as its listing. Only a print takes one; other commands stay as they
+/// are.
 pub fn with_code(command: Command, bytes: Vec<u8>) -> Command
     ensures { result ≡ with_code command bytes }
 {

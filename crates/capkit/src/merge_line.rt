@@ -12,7 +12,8 @@ use capkit_args::ids;
 use clap::ArgMatches;
 use std::alloc::Global;
 
-/// The line of a merge, by clap's matches, or the first fault of its words.
+/// The line of a merge, by clap's matches. An error is the first fault of its words, or that memory
+/// ran out.
 pub fn merge_line(alloc: Global, matches: &ArgMatches<'_>) -> Result<Line, Usage>
     ensures line { IfOk result (IsMergeOf (rows_of (found_of matches.now))) }
     ensures faultless { OnOk result (merge_fault (rows_of (found_of matches.now)) ≡ None) }

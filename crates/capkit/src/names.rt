@@ -7,7 +7,7 @@ ghost use Rattle.capkit.specs.Names.{is_standard, uses_name_twice};
 /// The name of a standard stream: input where it is read, output where it is written.
 pub const STANDARD: &str = "-";
 
-/// Whether one of the names is this one.
+/// Whether one of the names is `wanted`.
 fn is_among(names: &[&str], wanted: &str) -> bool
     ensures { result ≡ list_any (λ name. bytes_eq name wanted.now)
         (map (λ name. name.now) names.now) }

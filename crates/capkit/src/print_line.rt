@@ -57,7 +57,7 @@ fn print_uses_name_twice(input: &str, listing: Option<&str>, output: Option<&str
     }
 }
 
-/// Whether there are both a listing and words of an expression, which excludes each other.
+/// Whether there are both a listing and words of an expression, of which a print takes one alone.
 fn has_two_filters(matches: &ArgMatches<'_>) -> bool
     ensures { result ≡ has_two_filters (rows_of (found_of matches.now)) }
 {
@@ -79,15 +79,16 @@ fn has_idle_format(matches: &ArgMatches<'_>) -> bool
     optional_text(matches, ids::FORMAT).is_some() && optional_text(matches, ids::OUT).is_none()
 }
 
-/// Whether options are given that exclude each other: one of the three cases above.
+/// Whether options are given that exclude each other: two filters, two outputs, or a format without
+/// a capture.
 fn has_exclusion(matches: &ArgMatches<'_>) -> bool
     ensures { result ≡ has_exclusion (rows_of (found_of matches.now)) }
 {
     has_two_filters(matches) || has_two_outputs(matches) || has_idle_format(matches)
 }
 
-/// Checks the words of a print, or returns their first fault: options that exclude each other, a
-/// name used twice.
+/// Checks the words of a print. An error is the first of their faults: options that exclude each
+/// other, a name used twice.
 fn check_print(matches: &ArgMatches<'_>) -> Result<(), Usage>
     ensures passes { OnOk result (print_fault (rows_of (found_of matches.now)) ≡ None) }
     ensures refused { IfErr result (λ usage. print_fault (rows_of (found_of matches.now))
@@ -107,7 +108,8 @@ fn check_print(matches: &ArgMatches<'_>) -> Result<(), Usage>
     Ok(())
 }
 
-/// The format in which packets are written; `None` where lines are printed.
+/// The format in which a print writes packets, where `-w` names a capture; `None` where it prints
+/// lines.
 fn output_format(matches: &ArgMatches<'_>) -> Option<Format>
     ensures { result ≡ write_in (rows_of (found_of matches.now)) }
 {
@@ -117,7 +119,7 @@ fn output_format(matches: &ArgMatches<'_>) -> Option<Format>
     }
 }
 
-/// After how many packets that match the print ends; `None` where it goes to the end.
+/// After how many packets that match the print ends; `None` where it reads its capture to the end.
 fn packet_limit(matches: &ArgMatches<'_>) -> Option<u64>
     ensures value { result ≡ argument_number 1 most_64 COUNT.now
         (rows_of (found_of matches.now)) }
@@ -147,7 +149,8 @@ fn print_of(matches: &ArgMatches<'_>, expr: String) -> Print
     }
 }
 
-/// The line of a print, by clap's matches, or the first fault of its words.
+/// The line of a print, by clap's matches: its listing is named there, and not read yet. An error
+/// is the first fault of its words, or that memory ran out.
 pub fn print_line(alloc: Global, matches: &ArgMatches<'_>) -> Result<Line, Usage>
     ensures line { IfOk result (IsPrintOf (rows_of (found_of matches.now))) }
     ensures faultless { OnOk result (print_fault (rows_of (found_of matches.now)) ≡ None) }

@@ -15,7 +15,7 @@ fn has_digits_alone(text: &str) -> bool
 }
 
 /// The number that a text of decimal digits alone, one or more, writes, if it is below 2^64. Other
-/// texts have none; `parse` would take a plus sign too.
+/// texts have none: a plus sign, which `parse` would take, is refused before.
 fn number_in(text: &str) -> Option<u64>
     ensures number { IfSome result (λ n. range_number text.now ≡ Some n) }
     ensures none { IfNone result (IfSome (range_number text.now) (λ n. 2 ^ 64 ≤ n)) }
@@ -29,8 +29,8 @@ fn number_in(text: &str) -> Option<u64>
     }
 }
 
-/// The texts of a range's first and last number, around its first hyphen; without one both are the
-/// word.
+/// The texts of a range's first and last number, before and after its first hyphen; without a
+/// hyphen both are the whole word.
 fn range_sides<'a>(word: &'a str) -> (&'a str, &'a str)
     ensures first { result.0.now ≡ (sides_of word.entry.now).0 }
     ensures last { result.1.now ≡ (sides_of word.entry.now).1 }

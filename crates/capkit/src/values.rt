@@ -11,14 +11,14 @@ ghost use Rattle.capkit.specs.Line.{duration_in, text_in, texts_in, time_in};
 use cap_octet::{Format, Link, read_duration, read_timestamp};
 use clap::ArgMatches;
 
-/// Whether the flag of this id is set; false where clap has no value of it.
+/// Whether the flag of this id is set; false where it isn't given.
 pub fn flag(matches: &ArgMatches<'_>, id: &str) -> bool
     ensures { result ≡ flag_in id.now (rows_of (found_of matches.now)) }
 {
     matches.get_one::<bool>(id).unwrap_or(false)
 }
 
-/// The first value of the argument, if it has one.
+/// The first value of the argument of this id; `None` where it isn't given.
 #[tactic(auto, using(crate::proofs::Getters::reads))]
 pub fn optional_text<'a>(matches: &ArgMatches<'a>, id: &str) -> Option<&'a str>
     ensures { option_map (λ text. text.now) result
@@ -27,7 +27,8 @@ pub fn optional_text<'a>(matches: &ArgMatches<'a>, id: &str) -> Option<&'a str>
     matches.get_str(id)
 }
 
-/// The first value of the argument, or the empty text where it has none.
+/// The first value of an argument that its command needs, so that clap has it; of another one the
+/// empty text where it isn't given.
 pub fn text<'a>(matches: &ArgMatches<'a>, id: &str) -> &'a str
     ensures { result.now ≡ text_in id.entry.now (rows_of (found_of matches.entry.now)) }
 {
@@ -43,7 +44,8 @@ pub fn texts<'m, 'a>(matches: &'m ArgMatches<'a>, id: &str) -> &'m [&'a str]
     matches.get_strs(id).unwrap_or_default()
 }
 
-/// The format that the argument names, or pcapng where it names none.
+/// The format that the argument names, or pcapng where it isn't given; clap takes no other names
+/// than those of formats.
 pub fn format(matches: &ArgMatches<'_>, id: &str) -> Format
     ensures { result ≡ format_in id.entry.now (rows_of (found_of matches.entry.now)) }
 {
@@ -53,7 +55,8 @@ pub fn format(matches: &ArgMatches<'_>, id: &str) -> Format
     }
 }
 
-/// The link that the argument names, or Ethernet where it names none.
+/// The link that the argument names, or Ethernet where it isn't given; clap takes no other names
+/// than those of links.
 pub fn link(matches: &ArgMatches<'_>, id: &str) -> Link
     ensures { result ≡ link_in id.entry.now (rows_of (found_of matches.entry.now)) }
 {
@@ -76,7 +79,8 @@ fn number_within(number: Option<u64>, least: u64, most: u64) -> Option<u64>
     }
 }
 
-/// The number that the argument has, if it is given; clap takes only those from `least` to `most`.
+/// The number that the argument has; `None` where it isn't given. clap takes only numbers from
+/// `least` to `most`.
 pub fn number(matches: &ArgMatches<'_>, id: &str, least: u64, most: u64) -> Option<u64>
     ensures value { result ≡ argument_number least most id.now (rows_of (found_of matches.now)) }
     ensures bounds { IfSome result (λ n. (least ≤ n) × (n ≤ most)) }
@@ -95,7 +99,8 @@ pub fn number_u32(matches: &ArgMatches<'_>, id: &str, least: u32, most: u32) -> 
     }
 }
 
-/// The time that the argument names, in nanoseconds since 1970-01-01 00:00:00 UTC, if it names one.
+/// The time that the argument names, in nanoseconds since 1970-01-01 00:00:00 UTC. `None` where it
+/// isn't given, or its text is no time.
 pub fn time(matches: &ArgMatches<'_>, id: &str) -> Option<u64>
     ensures value { result ≡ time_in id.now (rows_of (found_of matches.now)) }
     ensures proper { option_map_or is_time result true ≡ true }
@@ -106,7 +111,8 @@ pub fn time(matches: &ArgMatches<'_>, id: &str) -> Option<u64>
     }
 }
 
-/// The duration that the argument names as a number of seconds, in nanoseconds, if it names one.
+/// The duration that the argument names as a number of seconds, in nanoseconds. `None` where it
+/// isn't given, or its text is no number of seconds.
 pub fn duration(matches: &ArgMatches<'_>, id: &str) -> Option<u64>
     ensures value { result ≡ duration_in id.now (rows_of (found_of matches.now)) }
     ensures proper { option_map_or is_time result true ≡ true }
