@@ -13,20 +13,23 @@ use Rattle.capkit_args.specs.declared.ids.TheConstants as ids
 use Rattle.capkit_args.specs.declared.arguments.Subcommand.{Subcommand}
 use Rattle.capkit_args.specs.declared.arguments.Subcommand.TheVariants as sub
 
--- the greatest numbers of 32 and of 64 bits
+-- the greatest number of 32 bits
 abbrev pub most_32 : ℕ
 most_32 = 2 ^ 32 - 1
 
+-- the greatest number of 64 bits
 abbrev pub most_64 : ℕ
 most_64 = 2 ^ 64 - 1
 
--- an argument is named by a letter, by a name, or by its place
+-- an argument that is named by a letter, `-LETTER`
 abbrev pub by_letter : (letter id : Text) → Rule
 by_letter letter id = record (new_rule id) { short = slice_get letter 0 }
 
+-- an argument that is named by a name, `--NAME`
 abbrev pub by_name : (name id : Text) → Rule
 by_name name id = record (new_rule id) { long = Some name }
 
+-- an argument that is named by its place
 abbrev pub by_place : (id : Text) → Rule
 by_place id = new_rule id
 
@@ -43,7 +46,7 @@ abbrev pub with_bounds : (least most : ℕ) → Rule → Rule
 with_bounds least most rule =
     record (with_one_value rule) { parser = Some (parser.Signed (pos least) (pos most)) }
 
--- the same below 2^64
+-- an argument that takes a number from `least` to `most`, below 2^64
 abbrev pub with_wide_bounds : (least most : ℕ) → Rule → Rule
 with_wide_bounds least most rule = record (with_one_value rule) { parser = Some (parser.Unsigned least most) }
 
@@ -61,7 +64,7 @@ many rule = record rule {
   range = Some (record { start_inclusive = 0; end_inclusive = most_64 });
 }
 
--- the names of the subcommands
+-- the name of a subcommand
 abbrev pub name_of : Subcommand → Text
 name_of sub.Edit = codes "edit"
 name_of sub.Merge = codes "merge"
@@ -69,7 +72,7 @@ name_of sub.Infos = codes "infos"
 name_of sub.Print = codes "print"
 name_of sub.Compile = codes "compile"
 
--- the arguments of each subcommand, in the order in which its help lists them
+-- the arguments of `edit`, in the order in which its help lists them
 abbrev pub edit_rules : (formats : ValueParser) → List Rule
 edit_rules formats =
     flag (by_letter (codes "r") ids.KEEP.now)
@@ -87,6 +90,7 @@ edit_rules formats =
     ∷ many (by_place ids.RANGE.now)
     ∷ []
 
+-- the arguments of `merge`, in that order
 abbrev pub merge_rules : (formats : ValueParser) → List Rule
 merge_rules formats =
     flag (by_letter (codes "a") ids.APPEND.now)
@@ -96,9 +100,11 @@ merge_rules formats =
     ∷ many (by_place ids.MORE.now)
     ∷ []
 
+-- the arguments of `infos`, in that order
 abbrev pub infos_rules : List Rule
 infos_rules = as_required (by_place ids.FILE.now) ∷ many (by_place ids.MORE.now) ∷ []
 
+-- the arguments of `print`, in that order
 abbrev pub print_rules : (formats : ValueParser) → List Rule
 print_rules formats =
     with_wide_bounds 1 most_64 (by_letter (codes "c") ids.COUNT.now)
@@ -111,6 +117,7 @@ print_rules formats =
     ∷ many (by_place ids.WORD.now)
     ∷ []
 
+-- the arguments of `compile`, in that order
 abbrev pub compile_rules : (links : ValueParser) → List Rule
 compile_rules links =
     with_choices links (by_name (codes "link") ids.LINK.now) ∷ many (by_place ids.WORD.now) ∷ []
@@ -154,18 +161,19 @@ line_shapes formats links =
 abbrev pub line_app : (formats links : ValueParser) → App
 line_app formats links = with_shapes line_without_commands (line_shapes formats links)
 
--- what clap states of a parse, it states of simple commands, and why one fails, of simple and free
--- ones: the line is both
+-- the line is simple: what clap states of a parse, it states of simple commands
 abbrev pub LineIsSimple : Type 0
 LineIsSimple = (formats links : ValueParser) → is_simple (line_app formats links) ≡ true
 
+-- the line is simple and free: why a parse fails, clap states of such commands
 abbrev pub LineIsFree : Type 0
 LineIsFree = (formats links : ValueParser) → is_simple_and_free (line_app formats links) ≡ true
 
--- the names of all formats, and of all links
+-- the names of all formats
 abbrev pub format_names : List Text
 format_names = map format_name all_formats
 
+-- the names of all links
 abbrev pub link_names : List Text
 link_names = map link_name all_links
 

@@ -27,7 +27,7 @@ static FORMATS: [&str; 3] = ["pcap", "nsecpcap", "pcapng"];
 /// The names of the links that an expression can be compiled for, as `Link::name` has them.
 static LINKS: [&str; 3] = ["ether", "raw", "cooked"];
 
-/// What a line asks for.
+/// Which of the program's commands a line asks for.
 #[derive(Clone, Copy)]
 pub enum Subcommand {
     Edit,
@@ -51,7 +51,8 @@ pub fn subcommand_of_name(name: &str) -> Subcommand
     }
 }
 
-/// The names that arguments choose from.
+/// The names that the arguments for a format and for a link choose from. The lists are the
+/// program's; the clauses know their texts, and not where they lie in memory.
 #[derive(Clone, Copy)]
 pub struct Choices<'a> {
     formats: &'a [&'a str],
@@ -59,7 +60,7 @@ pub struct Choices<'a> {
 }
 
 /// An argument of clap's with the id, the name and the help of a row, and nothing of its value yet.
-/// Like all here it isn't global: it belongs to its own subcommand.
+/// Like all arguments here it isn't global: it belongs to its own subcommand.
 fn arg_with_name<'a>(alloc: Global, argument: Argument) -> Arg<'a>
     ensures rule { rule_of result ≡ with_name argument.name (new_rule argument.id.now) }
     ensures local { result.global ≡ false }
@@ -72,7 +73,7 @@ fn arg_with_name<'a>(alloc: Global, argument: Argument) -> Arg<'a>
     }
 }
 
-/// The argument of clap's that a row of a table describes, with what it takes.
+/// The argument of clap's that a row of a table describes, with its name and what it takes.
 fn arg_of_row<'a>(alloc: Global, argument: Argument, choices: Choices<'a>) -> Arg<'a>
     ensures rule { rule_of result ≡ rule_by choices.entry argument }
     ensures local { result.global ≡ false }
@@ -95,8 +96,8 @@ fn arg_of_row<'a>(alloc: Global, argument: Argument, choices: Choices<'a>) -> Ar
     }
 }
 
-/// A command of clap's with the arguments of these rows after its own. An error means that memory
-/// ran out.
+/// The command of clap's with the arguments of these rows added after those that it has. An error
+/// means that memory ran out.
 fn with_arguments<'a>(
     alloc: Global,
     mut command: Command<'a>,
@@ -130,8 +131,8 @@ fn command_of_row<'a>(
     with_arguments(alloc, bare, row.arguments, choices)
 }
 
-/// The command of clap's that is the whole line, before its subcommands are added. An error means
-/// that memory ran out.
+/// The command of clap's that is the whole line, before its subcommands are added: it needs one,
+/// has `--version` and `--help`, and no subcommand `help`. An error means that memory ran out.
 fn line_without_commands<'a>(alloc: Global) -> Result<Command<'a>, AllocError>
     ensures { IfOk result (λ command. app_of command ≡ line_without_commands) }
 {
@@ -142,7 +143,7 @@ fn line_without_commands<'a>(alloc: Global) -> Result<Command<'a>, AllocError>
         .no_binary_name(true)
         .subcommand_required(true)
         .disable_help_subcommand(true)
-        // Without it the usage of a subcommand has no name of the program.
+        // Without this the usage of a subcommand would lack the program's name.
         .bin_name(NAME)
 }
 
@@ -177,8 +178,9 @@ fn whole_line<'a>(alloc: Global) -> Result<Command<'a>, AllocError>
     line_with_commands(alloc, &COMMANDS, choices)
 }
 
-/// Parses the words after the program's name: clap's matches, or its refusal of them. A request for
-/// help or the version is such a refusal too, and so is running out of memory.
+/// Parses the words after the program's name, and returns clap's matches of them. An error is
+/// clap's refusal of the words; a request for help or the version is one too, and so is running out
+/// of memory.
 pub fn matches_of<'a>(alloc: Global, words: &'a [String]) -> Result<ArgMatches<'a>, Error>
     ensures taken { IfOk result (λ matches. TakesWords (map string_bytes words.entry.now)
         (subcommand_rows_of matches)) }

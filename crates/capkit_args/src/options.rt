@@ -22,9 +22,9 @@ pub enum Value {
     Flag,
     /// One text.
     Text(&'static str),
-    /// A number within these bounds, which are below 2^63.
+    /// A number from the first to the last of these, which are below 2^63.
     Number(&'static str, i64, i64),
-    /// A number of 64 bits within these bounds.
+    /// A number from the first to the last of these, which may be 2^63 and more.
     Wide(&'static str, u64, u64),
     /// The name of a format.
     Format,
@@ -41,9 +41,11 @@ pub enum Value {
 /// An argument of a subcommand.
 #[derive(Clone, Copy)]
 pub struct Argument {
-    /// By this its value is read back.
+    /// By this its value is read back from clap's matches (`ids.rt`).
     pub id: &'static str,
+    /// How it is named on the command line.
     pub name: Name,
+    /// What it takes.
     pub value: Value,
     /// What help says of it. `{n}` ends a line of help, which has 80 columns at most.
     pub help: &'static str,
@@ -52,11 +54,13 @@ pub struct Argument {
 /// A subcommand.
 #[derive(Clone, Copy)]
 pub struct CommandRow {
+    /// The word that calls it.
     pub name: &'static str,
     /// What help says of it.
     pub about: &'static str,
     /// What stands below the options in help.
     pub examples: &'static str,
+    /// Its arguments, in the order in which help lists them.
     pub arguments: &'static [Argument],
 }
 

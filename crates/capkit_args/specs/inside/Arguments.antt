@@ -42,10 +42,11 @@ rule_by choices argument =
 abbrev pub app_by : Choices → CommandRow → App
 app_by choices row = with_rules (new_app row.name.now) (map (rule_by choices) row.arguments.now)
 
+-- the same, as a subcommand of another one
 abbrev pub shape_by : Choices → CommandRow → Shape
 shape_by choices row = (app_by choices row).top
 
--- the subcommand of one of these names
+-- the subcommand of a name; what isn't one of the first four is `compile`
 abbrev pub subcommand_of_name : Text → Subcommand
 subcommand_of_name name =
     if bytes_eq name (name_of sub.Edit) then sub.Edit
