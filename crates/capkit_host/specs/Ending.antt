@@ -3,18 +3,19 @@ use Rattle.std.specs.Prelude.{ℕ, Bool, true, false, ◌||◌, Option, Some, No
 use Rattle.std.specs.declared.io.ErrorKind.{ErrorKind}
 use Rattle.std.specs.declared.io.ErrorKind.TheVariants.{BrokenPipe}
 
--- the reader of a pipe went away
-abbrev pub is_unread : Option ErrorKind → Bool
-is_unread (Some BrokenPipe) = true
-is_unread _ = false
+-- a write failed since the reader of a pipe went away
+abbrev pub is_broken_pipe : Option ErrorKind → Bool
+is_broken_pipe (Some BrokenPipe) = true
+is_broken_pipe _ = false
 
--- a write of the run failed for that cause, or the last one did, which nothing follows
+-- a write of the job failed (`cause`), or the one of what was buffered, after it (`flushed`)
 abbrev pub has_failed : (cause flushed : Option ErrorKind) → Bool
 has_failed cause flushed = is_some cause || is_some flushed
 
--- The status of a run that the job ended with `status`. A failed write of the job is told by it; of
--- the last write it isn't, and None says that this is still to be told, but where nobody reads.
+-- The status of a run that the job ended with `status`. A failed write of the job is told by the
+-- job's message. That of what was buffered isn't: None says that it is still to be told, unless the
+-- reader of a pipe went away.
 abbrev pub status_after_writes : (status : ℕ) → (cause flushed : Option ErrorKind) → Option ℕ
 status_after_writes status None None = Some status
 status_after_writes status (Some cause) flushed = Some (max status 1)
-status_after_writes status None (Some flushed) = if is_unread (Some flushed) then Some 1 else None
+status_after_writes status None (Some flushed) = if is_broken_pipe (Some flushed) then Some 1 else None

@@ -6,7 +6,7 @@ use Rattle.clap.specs.declared.error.kind.ErrorKind.TheVariants.{DisplayHelp, Di
 use Rattle.capkit.specs.declared.usage.Usage.{Usage}
 use Rattle.capkit.specs.declared.usage.Usage.TheVariants.{Memory, Refused}
 
--- the words ask to be told something
+-- the words ask for help or the version
 abbrev pub is_request : ErrorKind → Bool
 is_request DisplayHelp = true
 is_request DisplayVersion = true

@@ -2,7 +2,7 @@
 ghost use Rattle.std.specs.Prelude.{◌≡◌, ◌≢◌, ◌<◌, ◌≤◌, IfOk, IfSome, IsOkAnd, IsSome, IsUtf8};
 ghost use Rattle.std.specs.Prelude.{List, [], ◌∷◌, ◌++◌, ℕ, OnOk, is_some, true, false};
 ghost use Rattle.std.specs.Result.{result_ok};
-ghost use Rattle.capkit_host.specs.Ending.{has_failed, is_unread, status_after_writes};
+ghost use Rattle.capkit_host.specs.Ending.{has_failed, is_broken_pipe, status_after_writes};
 ghost use Rattle.capkit_host.specs.Streams.{holds_old_bytes};
 
 use crate::FAULT;
@@ -14,8 +14,9 @@ use cap_octet::StdOutput;
 use std::alloc::Global;
 use std::io::{self, BufWriter, ErrorKind, Write};
 
-/// Ends a run that the job ended with `status`: writes what is buffered, tells the run's message
-/// and how its output ended, and returns the status. An error is a write that is still to be told.
+/// Ends a run that the job ended with `status`: writes what is buffered to the output of the name
+/// `output`, tells the run's message, and returns the status of the run. An error is a failure of
+/// that last write, which is still to be told.
 pub fn finish<'a, W: Write + Drop>(
     alloc: Global,
     status: u8,
@@ -39,22 +40,22 @@ pub fn finish<'a, W: Write + Drop>(
     tell_end(alloc, &mut errors, status, causes, &message, output)
 }
 
-/// Whether a write failed since the reader of a pipe went away.
-fn is_unread(cause: Option<ErrorKind>) -> bool
-    ensures { result ≡ is_unread cause }
+/// Whether a write failed since the reader of a pipe went away; false where none failed.
+fn is_broken_pipe(cause: Option<ErrorKind>) -> bool
+    ensures { result ≡ is_broken_pipe cause }
 {
     matches!(cause, Some(ErrorKind::BrokenPipe))
 }
 
-/// Removes what the output held before, unless the run was refused, and writes what is buffered.
-/// The error is the system's.
+/// Removes what the output's file held before the run, unless the run was refused, and writes what
+/// is buffered. The error is the system's.
 pub fn flush_output(status: u8, target: &mut BufWriter<Created>) -> io::Result<()> {
     target.get_mut().empty_unless_refused(status)?;
     target.flush()
 }
 
-/// The text of a run's message without the line break that ends it; `None` where it is no such
-/// text.
+/// The text of a run's message without the line break (byte 10) that ends it; `None` where there is
+/// no message, or the bytes are no UTF-8 text that ends so.
 fn message_line(message: &[u8]) -> Option<&str>
     ensures text { IfSome result (λ text. message.now ≡ text.now ++ 10 ∷ []) }
     ensures whole { IsUtf8 message.now → (text : List ℕ) → message.now ≡ text ++ 10 ∷ []
@@ -66,7 +67,8 @@ fn message_line(message: &[u8]) -> Option<&str>
     }
 }
 
-/// Writes the message of a run, if there is one, by one call. One that can't be written is lost.
+/// Writes the message of a run, if there is one, with its control characters as numbers, by one
+/// call. One that can't be written is lost.
 fn tell_message<W: Write>(alloc: Global, errors: &mut W, message: &[u8]) {
     if let Some(text) = message_line(message) {
         let _ = match format!(in alloc; "{}\n", Shown { text }) {
@@ -77,8 +79,9 @@ fn tell_message<W: Write>(alloc: Global, errors: &mut W, message: &[u8]) {
     }
 }
 
-/// The status of a run that the job ended with `status`, whose writes failed for `cause`, if they
-/// did, and whose last write for `flushed`. None where that one is still to be told.
+/// The status of a run that the job ended with `status`. `cause` is why a write of the job failed,
+/// and `flushed` why the write after it did, of what was buffered; `None` where it didn't. It
+/// returns `None` where the failure of the latter is still to be told.
 fn status_after_writes(
     status: u8,
     cause: Option<ErrorKind>,
@@ -91,16 +94,16 @@ fn status_after_writes(
     match (cause, flushed) {
         (None, None) => Some(status),
         (Some(_), _) => Some(status.max(FAULT)),
-        (None, Some(_)) if is_unread(flushed) => Some(FAULT),
+        (None, Some(_)) if is_broken_pipe(flushed) => Some(FAULT),
         (None, Some(_)) => None,
     }
 }
 
-/// Tells the message of a run and how its output ended, by the causes of the last write that failed
-/// in it and of the one after it; and returns the status. The error is a failure of the latter,
-/// which is still to be told.
+/// Tells the message of a run, and returns its status. `causes` are why a write of the job failed,
+/// and why the write of what was buffered did; `None` where it didn't. The error is a failure of
+/// the latter, which is still to be told.
 ///
-/// Where the reader of a pipe went away, as of `| head`, nobody hears that the rest can't be
+/// Where the reader of a pipe went away, as of `| head`, it isn't told that the rest can't be
 /// written.
 pub fn tell_end<'a, W: Write>(
     alloc: Global,
@@ -116,7 +119,7 @@ pub fn tell_end<'a, W: Write>(
 {
     let (cause, flushed) = causes;
     // The message is lost with the reader only if it is of a failed write.
-    if !(is_unread(cause) || cause.is_some() && is_unread(flushed)) {
+    if !(is_broken_pipe(cause) || cause.is_some() && is_broken_pipe(flushed)) {
         tell_message(alloc, errors, message);
     }
     status_after_writes(status, cause, flushed).ok_or(Stop::WriteFailed(output))

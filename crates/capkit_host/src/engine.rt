@@ -1,4 +1,5 @@
-//! What runs commands.
+//! What runs commands: the engine that the program is given, so that this crate doesn't know the
+//! jobs.
 ghost use Rattle.std.specs.Prelude.{◌≡◌, ◌≤◌, IsTrue, map, string_bytes, true, vec_len};
 ghost use Rattle.std.specs.Global.{Global};
 ghost use Rattle.cap_octet.specs.Views.{device_view, fresh_input, fresh_output};

@@ -3,7 +3,8 @@
 use std::fs;
 use std::os::unix::fs::MetadataExt;
 
-/// What tells a file from all others on the machine, whatever its names.
+/// What tells a file from all others on the machine, whatever its names: the numbers of its device
+/// and of its inode there.
 #[derive(Clone, Copy, PartialEq, Eq, Drop)]
 pub struct Identity {
     pub device: u64,
@@ -31,7 +32,7 @@ impl Identify for HostRuntime {
     }
 }
 
-/// Whether this path leads to a plain file.
+/// Whether this path leads to a plain file; false also where nothing can be looked up.
 pub fn is_plain(files: &impl Identify, path: &str) -> bool {
     files.identity_of(path).is_some()
 }

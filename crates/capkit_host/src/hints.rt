@@ -1,5 +1,6 @@
-//! What a refusal of clap doesn't tell: what does here what a habit of other tools asks for, and
-//! what the commands are for.
+//! What a refusal of clap doesn't tell: which option here does what an option of another tool does,
+//! and what each command is for. It is found by the text of the refusal, as the version of clap
+//! that is built in writes it.
 
 use capkit::command_of;
 use std::alloc::{AllocError, Global};
@@ -13,7 +14,8 @@ const USAGE_OF: &str = "\nUsage: capkit ";
 /// The head of the list of commands in the help of the program.
 const COMMANDS: &str = "\nCommands:\n";
 
-/// A word that is a number with a dash before it, of which clap tells the first digit.
+/// The name in `HINTS` of a word that is a number with a dash before it; of such a word clap tells
+/// the dash and the first digit.
 const NEGATIVE: &str = "-N";
 
 /// Options of other tools: the command, the option, and what does the same here.
@@ -33,24 +35,25 @@ const HINTS: [(&str, &str, &str); 9] = [
     ("print", "-X", "see -x"),
 ];
 
-/// Whether an option that clap tells is the one of a hint; `-5` is one of `NEGATIVE`.
-fn matches_name(option: &str, name: &str) -> bool {
+/// Whether an option, as clap tells it, is the one that a hint has as `name`; a digit after a dash
+/// (`-5`) is the option `NEGATIVE`.
+fn is_option_of_hint(option: &str, name: &str) -> bool {
     let is_negative = matches!(option.as_bytes(), [b'-', b'0'..=b'9']);
     option == name || is_negative && name == NEGATIVE
 }
 
-/// The hint for an option that a command doesn't know, if there is one.
+/// The hint for an option that a command doesn't know, of `HINTS`; `None` where it has none.
 fn hint_for_option(command: &str, option: &str) -> Option<&'static str> {
     for (place, name, hint) in HINTS {
-        if place == command && matches_name(option, name) {
+        if place == command && is_option_of_hint(option, name) {
             return Some(hint);
         }
     }
     None
 }
 
-/// The hint for a refusal of clap's with this text, if it is of an option with a hint: the text
-/// tells the option and, in its usage, the command.
+/// The hint for a refusal of clap's with this text: the text tells the option and, in its usage,
+/// the command. `None` where it isn't the refusal of an unknown option, or the option has no hint.
 pub(crate) fn hint_for_refusal(refusal: &str) -> Option<&'static str> {
     let (option, following) = refusal.strip_prefix(UNKNOWN)?.split_once("'")?;
     let (_, usage) = following.split_once(USAGE_OF)?;
@@ -58,7 +61,7 @@ pub(crate) fn hint_for_refusal(refusal: &str) -> Option<&'static str> {
     hint_for_option(command, option)
 }
 
-/// The help of the program, as `--help` prints it.
+/// The help of the program, as `--help` prints it. An error means that memory ran out.
 fn help_text(alloc: Global) -> Result<String, AllocError> {
     let mut words = Vec::new(alloc);
     words.push(String::from_str(alloc, "--help")?)?;
@@ -69,8 +72,8 @@ fn help_text(alloc: Global) -> Result<String, AllocError> {
     }
 }
 
-/// Adds to a text the list of the commands with what they do, as the help of the program has it. An
-/// error means that memory ran out.
+/// Adds to a text the list of the commands with what they do, as the help of the program has it;
+/// nothing where the help has no such list. An error means that memory ran out.
 pub(crate) fn add_commands(alloc: Global, text: &mut String) -> Result<(), AllocError> {
     let help = help_text(alloc)?;
     if let Some((_, list)) = help.split_once(COMMANDS)

@@ -1,5 +1,8 @@
 //! Files and standard streams: what names mean, what a command is run over, how its run ends, and
 //! what is told of it.
+//!
+//! A function without a clause deals with what no contract here knows: the files of the system, its
+//! terminals and clock, and the texts of clap and of messages. `cap_tests` tests these functions.
 #![tactic(auto)]
 
 pub mod ending;

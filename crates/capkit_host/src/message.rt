@@ -18,8 +18,8 @@ const USAGE_LINE: &str = "Usage: ";
 /// What the line begins with that names the commands and not what they do.
 const COMMAND_NAMES: &str = "  [subcommands: ";
 
-/// A text that is shown with the numbers of its control characters, as `\x1b`, which a terminal
-/// would obey.
+/// A text whose control characters, which a terminal would obey, are shown by their numbers, as
+/// `\x1b`.
 #[derive(Drop)]
 pub struct Shown<'a> {
     pub text: &'a str,
@@ -39,8 +39,8 @@ impl fmt::Display for Shown<'_> {
     }
 }
 
-/// Bytes that are shown as text, with the numbers of control characters, and of bytes that aren't
-/// UTF-8, as `\xe9`.
+/// Bytes that are shown as text. Control characters, and bytes that aren't UTF-8, are shown by
+/// their numbers, as `\xe9`.
 #[derive(Drop)]
 pub struct ShownBytes<'a> {
     pub bytes: &'a [u8],
@@ -65,8 +65,8 @@ impl fmt::Display for ShownBytes<'_> {
     }
 }
 
-/// Adds a line of clap's refusal to a text: the hint before the usage, and what each command does
-/// in place of their names.
+/// Adds a line of clap's refusal to a text: before the line of the usage the hint too, and in place
+/// of the line that only names the commands what each does. An error means that memory ran out.
 fn add_line(
     alloc: Global,
     text: &mut String,
@@ -84,20 +84,20 @@ fn add_line(
     writeln!(text, "{}", Shown { text: line })
 }
 
-/// Why clap refuses the words, without advice that fails, with what does here what a habit of other
-/// tools asks for, and where there is no command with what each is for. An error means that memory
-/// ran out.
+/// The text of clap's refusal of some words, mended: without advice that fails, with a hint where
+/// the option is one of another tool, and with what each command is for where none is named. An
+/// error means that memory ran out.
 pub fn refusal_text(alloc: Global, error: &clap::Error) -> Result<String, AllocError> {
-    let told = format!(in alloc; "{error}")?;
-    let hint = hint_for_refusal(&told);
+    let clap_text = format!(in alloc; "{error}")?;
+    let hint = hint_for_refusal(&clap_text);
     let mut text = String::new(alloc);
     let mut is_after_blank = false;
-    for line in told.lines() {
+    for line in clap_text.lines() {
         // Where advice is left out, one of the blank lines around it is too.
         let is_second_blank = is_after_blank && line.is_empty();
         // A hint stands in place of clap's guess at what was meant.
-        let is_worse = hint.is_some() && line.starts_with(TIP);
-        if is_second_blank || is_worse || line.starts_with(VALUE_TIP) {
+        let is_replaced = hint.is_some() && line.starts_with(TIP);
+        if is_second_blank || is_replaced || line.starts_with(VALUE_TIP) {
             continue;
         }
         is_after_blank = line.is_empty();
@@ -106,7 +106,7 @@ pub fn refusal_text(alloc: Global, error: &clap::Error) -> Result<String, AllocE
     Ok(text)
 }
 
-/// Standard error, which takes a text of any length by one call.
+/// Standard error, which takes a text of any length by one call. A test has its own in place of it.
 pub trait Errors: Eprint {
     /// Writes the text by one call, as far as the system takes it whole.
     fn write_text(&self, text: &str) -> io::Result<()>;

@@ -33,8 +33,8 @@ pub type Source<'a> = StdInput<Counted<'a, Opened>>;
 /// The output as the job writes it, after its buffer.
 pub type Target = StdOutput<Created>;
 
-/// The first 1,048,577 bytes of the listing of this name. One that can't be read to its end is
-/// reported like one that can't be opened.
+/// The first `LISTING_ROOM` bytes of the listing of this name. The errors are `NoMemory`, and
+/// `CannotOpen`, also where it is opened and can't be read on.
 pub fn read_listing<'a>(rt: &HostRuntime, name: &'a str) -> Result<Vec<u8>, Stop<'a>> {
     let Ok(opened) = Opened::open(rt, name) else {
         return Err(Stop::CannotOpen(name));
@@ -47,7 +47,8 @@ pub fn read_listing<'a>(rt: &HostRuntime, name: &'a str) -> Result<Vec<u8>, Stop
     }
 }
 
-/// The command with the bytes of its listing, where one is named.
+/// The command with the bytes of its listing, where one is named; else the command as it is. An
+/// error is that the listing can't be read, or that memory ran out.
 pub fn with_listing<'a>(
     rt: &HostRuntime,
     command: Command,
@@ -67,7 +68,8 @@ pub fn with_listing<'a>(
     Ok(with_code(command, bytes))
 }
 
-/// A buffer that was made, or out of memory, which alone can be why it wasn't.
+/// The buffer that was just made. An error, which can only be that memory ran out for it, becomes
+/// `NoMemory`.
 pub fn buffer_or_stop<'a, T: Drop>(made: io::Result<T>) -> Result<T, Stop<'a>>
     requires { IfErr made (λ error. error_kind error ≡ ErrorKind.OutOfMemory) }
     ensures { IfOk result (λ buffer. made ≡ Ok buffer) }
@@ -75,7 +77,8 @@ pub fn buffer_or_stop<'a, T: Drop>(made: io::Result<T>) -> Result<T, Stop<'a>>
     made.map_err(|_| Stop::NoMemory)
 }
 
-/// Opens the inputs in order, each with its buffer, whose reads count as progress.
+/// Opens the inputs of these names in order, each with a buffer before it, and counts what is read
+/// of them as progress. An error names the first that can't be opened, or is that memory ran out.
 pub fn open_inputs<'a, 'p>(
     rt: &HostRuntime,
     names: &'a [String],
@@ -97,7 +100,7 @@ pub fn open_inputs<'a, 'p>(
 }
 
 /// Creates the output of this name. A file that is there is opened, and keeps its bytes until the
-/// first write or the end of the run.
+/// first write or the end of the run. The one error is `CannotCreate`.
 pub fn create_output<'a>(rt: &HostRuntime, name: &'a str) -> Result<Created, Stop<'a>> {
     match Created::create(rt, name) {
         Ok(created) => Ok(created),

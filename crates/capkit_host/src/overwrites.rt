@@ -1,4 +1,4 @@
-//! Outputs that are a file which is read too, under another name or through links.
+//! Whether a line's output is a file that the line reads too, under another name or through links.
 ghost use Rattle.std.specs.Prelude.{◌≡◌, false, true, is_none, option_map, string_bytes, vec_len};
 ghost use Rattle.capkit_host.specs.inside.Streams.{input_path, output_path};
 
@@ -33,19 +33,19 @@ pub(crate) fn output_path(name: Option<&str>) -> &str
 }
 
 /// Whether the input of this name is the file of that identity; false where it can't be looked up.
-fn is_read_as(files: &impl Identify, name: &str, file: Identity) -> bool {
+fn input_is_file(files: &impl Identify, name: &str, file: Identity) -> bool {
     files.identity_of(input_path(name)) == Some(file)
 }
 
 /// Whether one of the line's inputs, or its listing, is the file of that identity.
 fn reads_file(files: &impl Identify, line: &Line, file: Identity) -> bool {
     for name in &line.inputs {
-        if is_read_as(files, name, file) {
+        if input_is_file(files, name, file) {
             return true;
         }
     }
     match &line.code {
-        Some(name) => is_read_as(files, name, file),
+        Some(name) => input_is_file(files, name, file),
         None => false,
     }
 }

@@ -15,11 +15,11 @@ use std::alloc::AllocError;
 use std::env::{self, Env, FillError};
 use std::io::ErrorKind;
 
-/// The bytes of a word that isn't UTF-8 which a message has at most, as of a name.
+/// How many bytes of a word that isn't UTF-8 a message shows at most; a longer word isn't shown.
 const SHOWN_BYTES: usize = 4096;
 
-/// Copies the first word that isn't UTF-8 into the buffer, and returns its length in bytes. None
-/// where there is none, and where the buffer has no room for any of them.
+/// Copies the first word that isn't UTF-8 into the buffer, and returns its length in bytes. Words
+/// that are longer than the buffer are left out; `None` where there is no other one.
 pub fn first_word_not_utf8(rt: &impl Env, buf: &mut [u8]) -> Option<usize>
     ensures { IfSome result (λ count. count ≤ length buf.new) }
 {
@@ -34,7 +34,8 @@ pub fn first_word_not_utf8(rt: &impl Env, buf: &mut [u8]) -> Option<usize>
     None
 }
 
-/// Reports which word isn't UTF-8, and returns the status of words that are no command line.
+/// Reports that a word isn't UTF-8, and which, unless it is too long to be shown. It returns the
+/// status of words that are no command line.
 fn refuse_not_utf8(rt: &HostRuntime) -> u8
     ensures { result ≡ 2 }
 {
@@ -76,7 +77,7 @@ pub fn run_program<J: Engine>(rt: &HostRuntime) -> u8
     )
 }
 
-/// Runs the line by `run`, or reports why the words are none; returns the status of either.
+/// Runs the line by `run`, or reports why the words are no line; returns the status of either.
 fn run_or_refuse<R: FnOnce(Line) -> u8 + Drop>(
     rt: &HostRuntime,
     parsed: Result<Line, Usage>,

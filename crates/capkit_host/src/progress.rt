@@ -28,8 +28,8 @@ pub fn total_size(rt: &HostRuntime, names: &[String]) -> u64 {
     total
 }
 
-/// Whether the output of this name is a file, be it a new one. What goes to standard output may
-/// reach the terminal, by a pipe too.
+/// Whether the output of this name is a file, or will be one that isn't there yet. Standard output
+/// is none: what goes there may reach the terminal, by a pipe too.
 fn is_file(rt: &HostRuntime, output: &str) -> bool {
     if output == STANDARD {
         return false;
@@ -75,8 +75,8 @@ pub fn is_in_foreground(status: &str) -> bool {
     }
 }
 
-/// Whether this process is in the foreground of its terminal, or can't tell.
-fn has_terminal(rt: &HostRuntime) -> bool {
+/// Whether this process is in the foreground of its terminal; true also where that can't be known.
+fn is_in_its_foreground(rt: &HostRuntime) -> bool {
     match fs::read_to_string(rt, STATUS) {
         Ok(status) => is_in_foreground(&status),
         Err(_) => true,
@@ -89,17 +89,19 @@ pub struct Progress<'a> {
     rt: &'a HostRuntime,
     /// When the job began. None where nothing is to be shown.
     start: Option<Instant>,
-    /// The size of all inputs; 0 where it isn't known.
+    /// The size of all inputs, in bytes; 0 where it isn't known.
     total: u64,
+    /// How many bytes of the inputs were read.
     read: Cell<u64>,
-    /// The second at which it is shown next.
+    /// The second since the start at which progress is shown next.
     next: Cell<u64>,
-    /// Whether its line stands on the terminal.
+    /// Whether the line of progress is on the terminal.
     is_shown: Cell<bool>,
 }
 
-/// The time now, at which a job begins that shows its progress. None where it shows none, as that
-/// could meet lines, or another program's progress, on the terminal, or where it can't be drawn.
+/// The time now, at which a job begins that shows its progress. `None` where it is to show none:
+/// where the line can't be drawn, where the output isn't a file, so that its lines could meet the
+/// line of progress on the terminal, or where the clock can't be read.
 pub fn progress_start(rt: &HostRuntime, output: &str, is_drawable: bool) -> Option<Instant> {
     if !is_drawable || !is_file(rt, output) {
         return None;
@@ -140,22 +142,23 @@ impl<'a> Progress<'a> {
             let elapsed = start.elapsed(self.rt);
             // Where the clock can't be read, nothing is shown.
             let seconds = elapsed.map_or(0, |elapsed| elapsed.as_secs());
-            if self.count_and_check_due(bytes, seconds) && has_terminal(self.rt) {
+            if self.count_and_check_due(bytes, seconds) && is_in_its_foreground(self.rt) {
                 self.show(self.rt, seconds);
             }
         }
     }
 
-    /// Counts bytes that were read by that second of the job, and shows progress on this terminal,
-    /// once a second at most. Tests call it, with a time and a terminal of their own.
+    /// Counts bytes that were read by the second `seconds` since the start, and shows progress on
+    /// this terminal, once a second at most. Tests call it, with a time and a terminal of their
+    /// own.
     pub fn count_at(&self, terminal: &impl Eprint, bytes: usize, seconds: u64) {
         if self.count_and_check_due(bytes, seconds) {
             self.show(terminal, seconds);
         }
     }
 
-    /// Counts bytes that were read by that second of the job, and returns whether progress is to be
-    /// shown: once a second at most.
+    /// Counts bytes that were read by the second `seconds` since the start, and returns whether
+    /// progress is to be shown: once a second at most.
     fn count_and_check_due(&self, bytes: usize, seconds: u64) -> bool {
         self.read.set(self.read.get().saturating_add(bytes as u64));
         let is_due = seconds >= self.next.get();
@@ -165,8 +168,9 @@ impl<'a> Progress<'a> {
         is_due
     }
 
-    /// Writes the line of progress, over the one that is there: `\r` goes back to its start, and
-    /// `\x1b[K` erases it. What can't be written is lost.
+    /// Writes the line of progress, with the share of the inputs that was read, or the MiB, and the
+    /// MiB per second since the start. It is written over the line that is there: `\r` goes back to
+    /// its start, and `\x1b[K` erases it. What can't be written is lost.
     fn show(&self, terminal: &impl Eprint, seconds: u64) {
         self.is_shown.set(true);
         let read = self.read.get();
@@ -178,8 +182,8 @@ impl<'a> Progress<'a> {
         };
     }
 
-    /// The share of the inputs that `read` bytes are, in percent, 100 at most. None where their
-    /// size isn't known.
+    /// The share of the inputs that `read` bytes are, in percent, 100 at most. `None` where the
+    /// size of the inputs isn't known.
     fn share(&self, read: u64) -> Option<u128> {
         if self.total == 0 {
             return None;
@@ -191,7 +195,7 @@ impl<'a> Progress<'a> {
     /// Ends progress: erases its line, if there is one; but not from the background, where that
     /// would erase what is typed.
     pub fn end(&self) {
-        if self.is_shown.get() && !has_terminal(self.rt) {
+        if self.is_shown.get() && !is_in_its_foreground(self.rt) {
             self.is_shown.set(false);
         }
         self.erase(self.rt);

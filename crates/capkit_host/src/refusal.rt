@@ -8,9 +8,8 @@ use crate::{FAULT, USAGE};
 use capkit::{STANDARD, Usage};
 use std::io::ErrorKind;
 
-/// Prints what the user asked to know of the command line, and returns whether it could be written.
-///
-/// Where the reader of a pipe went away nobody hears that it can't.
+/// Prints what the user asked to know of the command line, as its help, and returns whether it
+/// could be written. A failed write is reported, unless the reader of a pipe went away.
 fn print_answer(rt: &(impl AllocGlobal + Print + Errors), answer: &clap::Error) -> bool {
     match answer.print(rt) {
         Ok(()) => true,
@@ -23,7 +22,8 @@ fn print_answer(rt: &(impl AllocGlobal + Print + Errors), answer: &clap::Error) 
     }
 }
 
-/// Reports why clap refuses the words; where memory runs out, in clap's own words.
+/// Reports why clap refuses the words, with hints (`refusal_text`); where memory runs out for
+/// these, in clap's own words. A report that can't be written is lost.
 pub fn tell_refusal(rt: &(impl AllocGlobal + Print + Errors), error: &clap::Error) {
     let _ = match refusal_text(rt.alloc(), error) {
         Ok(text) => rt.write_text(&text),

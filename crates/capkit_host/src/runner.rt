@@ -25,7 +25,8 @@ struct Devices<'p> {
     messages: StdOutput<Stderr>,
 }
 
-/// Opens the inputs in order, and creates the output; or why not.
+/// Opens the inputs in order, creates the output, and takes standard error for messages. An error
+/// is the first of these that can't be done, or that memory ran out.
 fn open_devices<'a, 'p>(
     rt: &HostRuntime,
     names: &'a [String],
@@ -46,9 +47,9 @@ fn open_devices<'a, 'p>(
     })
 }
 
-/// Runs the command over its devices, and returns its status. What the command told of the output
-/// is not told again.
-fn run_over<J: Engine>(
+/// Runs the command over its devices, ends its progress and its output, and returns the status. A
+/// failed write that the command has reported is not reported again.
+fn run_over_devices<J: Engine>(
     rt: &HostRuntime,
     command: Command,
     names: Vec<String>,
@@ -87,7 +88,8 @@ fn with_output_name(
     Ok(names)
 }
 
-/// Opens the inputs in order, creates the output, runs the command, and returns its status.
+/// Opens the inputs in order, creates the output, runs the command, and returns its status. Where
+/// something can't be opened or created it reports that, runs nothing, and returns 1.
 pub fn run_command<J: Engine>(
     rt: &HostRuntime,
     command: Command,
@@ -104,7 +106,7 @@ pub fn run_command<J: Engine>(
     // The last name is the output's.
     let inputs = &names[..names.len() - 1];
     match open_devices(rt, inputs, output, progress) {
-        Ok(devices) => run_over::<J>(rt, command, names, devices, output, progress),
+        Ok(devices) => run_over_devices::<J>(rt, command, names, devices, output, progress),
         Err(stop) => report_stop(rt, stop),
     }
 }
@@ -119,11 +121,11 @@ fn output_name(output: &Option<String>) -> &str
     }
 }
 
-/// Runs the command of the line over the files and streams that its names mean, and returns
-/// its status.
+/// Runs the command of the line over the files and streams that its names mean, and returns its
+/// status, 0, 1 or 2.
 ///
 /// The listing is read, then the inputs are opened in order, then the output is created, then the
-/// command runs.
+/// command runs. The first of these that can't be done is reported, and the status is 1.
 pub fn run<J: Engine>(rt: &HostRuntime, line: Line) -> u8
     requires { is_ready line ≡ true }
     ensures { result ≤ 2 }

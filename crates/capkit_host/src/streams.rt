@@ -11,7 +11,7 @@ use capkit::STANDARD;
 use std::fs::{self, File, OpenOptions};
 use std::io::{self, IsTerminal, Read, Stdin, Stdout, Write};
 
-/// An input that was opened.
+/// An input that was opened: a file, or standard input.
 #[derive(Drop)]
 pub enum Opened {
     File(File),
@@ -47,7 +47,8 @@ pub struct OutputFile {
     is_emptied: bool,
 }
 
-/// An output that was created. A test has a stream of its own in place of standard output.
+/// An output that was created: a file, or standard output, in place of which a test has a stream of
+/// its own.
 #[derive(Drop)]
 pub enum Created<S = Stdout> {
     File(OutputFile),
@@ -75,7 +76,8 @@ impl Created {
 }
 
 impl<S> Created<S> {
-    /// Removes what a plain file held before it was opened, once: later calls do nothing.
+    /// Removes what a plain file held before it was opened, once: later calls do nothing. The error
+    /// is the system's.
     ///
     /// A device and a pipe hold nothing that could be removed.
     pub(crate) fn empty(&mut self) -> io::Result<()>
@@ -95,8 +97,8 @@ impl<S> Created<S> {
         }
     }
 
-    /// Removes what a plain file held before it was opened, unless the run's status is 2: the
-    /// expression or the listing was refused.
+    /// Removes what a plain file held before it was opened, unless the run's status is 2: then the
+    /// expression or the listing was refused, and the file stays as it was.
     pub(crate) fn empty_unless_refused(&mut self, status: u8) -> io::Result<()>
         ensures refused { status ≡ 2 → self.new ≡ self.old }
         ensures ran { status ≢ 2 → OnOk result (holds_old_bytes self.new ≡ false) }
@@ -109,7 +111,7 @@ impl<S> Created<S> {
 }
 
 impl<S: Write> Write for Created<S> {
-    /// One write. Before the first one what a file held is removed.
+    /// One write. Before the first one, what a file held before it was opened is removed.
     fn write(&mut self, buf: &[u8]) -> io::Result<usize>
         ensures bound { WritesAtMost result buf.now }
         ensures bytes { WriteAppends None None result buf.now }

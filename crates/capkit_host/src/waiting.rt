@@ -1,5 +1,5 @@
-//! What is waited for: what a run has decided goes out before a read that may wait, so that it is
-//! read as it comes, and is there if the run is stopped while it waits.
+//! When what a run writes leaves its buffer: before a read that may wait, so that it is seen as it
+//! comes, and isn't lost if the run is stopped while it waits.
 ghost use Rattle.std.specs.Prelude.{◌≡◌, false, true};
 
 use crate::files::{Identify, is_plain};

@@ -16,14 +16,14 @@ pub fn with_help_option(alloc: Global, words: Vec<String>) -> Result<Vec<String>
     ensures { IfOk result (λ after. map string_bytes after.items
         ≡ with_help_option (map string_bytes words.items)) }
 {
-    let mut asked = words;
-    match asked.first() {
+    let mut line_words = words;
+    match line_words.first() {
         Some(word) if word.as_str() == HELP => {}
-        _ => return Ok(asked),
+        _ => return Ok(line_words),
     }
-    asked.remove(0);
-    asked.push(String::from_str(alloc, "--help")?)?;
-    Ok(asked)
+    line_words.remove(0);
+    line_words.push(String::from_str(alloc, "--help")?)?;
+    Ok(line_words)
 }
 
 /// The line that the words ask for, where `help` may be the first one. The errors are those of

@@ -15,11 +15,12 @@ abbrev pub output_path : Option (List ℕ) → List ℕ
 output_path (Some name) = if is_standard name then codes "/dev/stdout" else name
 output_path None = codes "/dev/stdout"
 
--- what the name was opened as
+-- whether an input is standard input
 abbrev pub is_standard_input : Opened → Bool
 is_standard_input (opened.File file) = false
 is_standard_input (opened.Stream stream) = true
 
+-- whether an output is standard output
 abbrev pub is_standard_output : {S : Type 0} → Created S → Bool
 is_standard_output (created.File output) = false
 is_standard_output (created.Stream stream) = true

@@ -2,5 +2,5 @@ use Rattle.std.proofs.Common.{arith}
 use Rattle.std.proofs.lemmas.Grind.{common_steps}
 use Rattle.capkit_host.proofs.runner.run_command.Goals as goal
 
-pub run_over-requires : goal.run_over-requires
-run_over-requires c = grind (arith, common_steps)
+pub run_over_devices-requires : goal.run_over_devices-requires
+run_over_devices-requires c = grind (arith, common_steps)
