@@ -10,7 +10,7 @@ use Rattle.flt_opt.specs.declared.facts.Learnt.{Learnt}
 use Rattle.flt_opt.specs.declared.note.Piece.{Piece}
 use Rattle.flt_opt.specs.declared.note.Term.{Term}
 use Rattle.flt_opt.specs.inside.Terms.{value, masked}
-use Rattle.flt_opt.specs.inside.Facts.{in_piece, within, in_either, before, only, starting, past, learnt_of, outcome, LearntHolds, AllLearnt, NeverIs, IsWithin}
+use Rattle.flt_opt.specs.inside.Facts.{in_piece, within, in_either, numbers_below, only_number, numbers_from, numbers_above, learnt_of, outcome, LearntHolds, AllLearnt, NeverIs, IsWithin}
 
 pub or_left : (a b : Bool) → a ≡ true → (a || b) ≡ true
 or_left true b e = refl
@@ -28,16 +28,16 @@ abbrev pub is_bits : Test → Bool
 is_bits AnyBit = true
 is_bits _ = false
 
-in_only : (k v : ℕ) → v ≡ k → in_piece v (only k) ≡ true
+in_only : (k v : ℕ) → v ≡ k → in_piece v (only_number k) ≡ true
 in_only k v e = grind (arith, nat_tests)
 
-in_before : (k v : ℕ) → v < k → in_piece v (before k) ≡ true
+in_before : (k v : ℕ) → v < k → in_piece v (numbers_below k) ≡ true
 in_before k v e = grind (arith, nat_tests)
 
-in_starting : (k v : ℕ) → k ≤ v → in_piece v (starting k) ≡ true
+in_starting : (k v : ℕ) → k ≤ v → in_piece v (numbers_from k) ≡ true
 in_starting k v e = grind (arith, nat_tests)
 
-in_past : (k v : ℕ) → k < v → in_piece v (past k) ≡ true
+in_past : (k v : ℕ) → k < v → in_piece v (numbers_above k) ≡ true
 in_past k v e = in_starting (min (k + 1) 0xffff_ffff) v (omega arith)
 
 in_one : (v : ℕ) (q r : Piece) (t : Term) → in_piece v q ≡ true → in_either v (learnt_of t q r) ≡ true
@@ -48,12 +48,12 @@ in_other v q r t e = or_right (in_piece v q) (in_piece v r) e
 
 -- a number that passes a test is in its pieces
 pub in_outcome : (test : Test) (k v : ℕ) (t : Term) (b : Bool) → is_bits test ≡ false → test_holds test v k ≡ b → in_either v (outcome test k t b) ≡ true
-in_outcome Equal k v t true s e = in_one v (only k) (only k) t (in_only k v (grind (arith, nat_tests)))
-in_outcome Equal k v t false s e = elim (nat_lt v k) as (λ z. nat_lt v k ≡ z → in_either v (outcome Equal k t false) ≡ true) [ true ↦ λ w. in_one v (before k) (past k) t (in_before k v (grind (arith, nat_tests))) | false ↦ λ w. in_other v (before k) (past k) t (in_past k v (grind (arith, nat_tests))) ] refl
-in_outcome Greater k v t true s e = in_one v (past k) (past k) t (in_past k v (grind (arith, nat_tests)))
-in_outcome Greater k v t false s e = elim (nat_lt v k) as (λ z. nat_lt v k ≡ z → in_either v (outcome Greater k t false) ≡ true) [ true ↦ λ w. in_one v (before k) (only k) t (in_before k v (grind (arith, nat_tests))) | false ↦ λ w. in_other v (before k) (only k) t (in_only k v (grind (arith, nat_tests))) ] refl
-in_outcome AtLeast k v t true s e = in_one v (starting k) (starting k) t (in_starting k v (grind (arith, nat_tests)))
-in_outcome AtLeast k v t false s e = in_one v (before k) (before k) t (in_before k v (grind (arith, nat_tests)))
+in_outcome Equal k v t true s e = in_one v (only_number k) (only_number k) t (in_only k v (grind (arith, nat_tests)))
+in_outcome Equal k v t false s e = elim (nat_lt v k) as (λ z. nat_lt v k ≡ z → in_either v (outcome Equal k t false) ≡ true) [ true ↦ λ w. in_one v (numbers_below k) (numbers_above k) t (in_before k v (grind (arith, nat_tests))) | false ↦ λ w. in_other v (numbers_below k) (numbers_above k) t (in_past k v (grind (arith, nat_tests))) ] refl
+in_outcome Greater k v t true s e = in_one v (numbers_above k) (numbers_above k) t (in_past k v (grind (arith, nat_tests)))
+in_outcome Greater k v t false s e = elim (nat_lt v k) as (λ z. nat_lt v k ≡ z → in_either v (outcome Greater k t false) ≡ true) [ true ↦ λ w. in_one v (numbers_below k) (only_number k) t (in_before k v (grind (arith, nat_tests))) | false ↦ λ w. in_other v (numbers_below k) (only_number k) t (in_only k v (grind (arith, nat_tests))) ] refl
+in_outcome AtLeast k v t true s e = in_one v (numbers_from k) (numbers_from k) t (in_starting k v (grind (arith, nat_tests)))
+in_outcome AtLeast k v t false s e = in_one v (numbers_below k) (numbers_below k) t (in_before k v (grind (arith, nat_tests)))
 in_outcome AnyBit k v t b s e = cc
 
 -- what the first of those learnt and the others say
@@ -98,5 +98,5 @@ in_wider v q r fits low high e = grind (arith, nat_tests)
 
 -- the same of a test of bits, and what is left of a number under its mask
 pub in_bits : (k v x : ℕ) (t : Term) (b : Bool) → bit_and v k ≡ x → test_holds AnyBit v k ≡ b → in_either x (outcome AnyBit k t b) ≡ true
-in_bits k v x t true is e = in_one x (past 0) (past 0) (masked t k) (in_past 0 x (grind (arith, nat_tests)))
-in_bits k v x t false is e = in_one x (only 0) (only 0) (masked t k) (in_only 0 x (grind (arith, nat_tests)))
+in_bits k v x t true is e = in_one x (numbers_above 0) (numbers_above 0) (masked t k) (in_past 0 x (grind (arith, nat_tests)))
+in_bits k v x t false is e = in_one x (only_number 0) (only_number 0) (masked t k) (in_only 0 x (grind (arith, nat_tests)))

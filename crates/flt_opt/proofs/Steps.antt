@@ -23,7 +23,7 @@ use Rattle.flt_opt.specs.declared.note.Term.{Term}
 use Rattle.flt_opt.specs.declared.note.Term.TheVariants.{Anything, Number, Length, Field, HeaderLength}
 use Rattle.flt_opt.specs.declared.note.Registers.{Registers}
 use Rattle.flt_opt.specs.declared.note.Both.{Both}
-use Rattle.flt_opt.specs.inside.Terms.{value, is_known, is_load, header_at, past, bare, under, There, Holds, Hold, Agree, indirect, mask_of, masked, sum, computed, accumulator_after, index_after, after, reads_index, sets_accumulator, sets_index, after_both, after_old, after_new, asked, is_sure, Reads, leads_on}
+use Rattle.flt_opt.specs.inside.Terms.{value, is_known, is_load, header_at, past, bare, under, There, Holds, Hold, Agree, after_indirect_load, combined_mask, masked, term_of_sum, after_arithmetic, accumulator_after, index_after, after, reads_index, sets_accumulator, sets_index, after_both, after_old, after_new, asked, is_sure, Reads, leads_on}
 
 pub both_true : (a b : Bool) → (a && b) ≡ true → (a ≡ true) × (b ≡ true)
 both_true true b e = (refl, e)
@@ -44,7 +44,7 @@ module _ (p : List ℕ) (n : ℕ) where
       let same : (l + (more + k) % 2 ^ 32) % 2 ^ 32 ≡ (v + k) % 2 ^ 32 = omega arith in
       ap (λ m. field p m w) same ∙ f
 
-  indirect_value : (w : Width) (k v x : ℕ) (t : Term) → Holds p n t v → field p ((v + k) % 2 ^ 32) w ≡ Some x → Holds p n (indirect w k t) x
+  indirect_value : (w : Width) (k v x : ℕ) (t : Term) → Holds p n t v → field p ((v + k) % 2 ^ 32) w ≡ Some x → Holds p n (after_indirect_load w k t) x
   indirect_value w k v x Anything h f = anything x
   indirect_value w k v x Length h f = anything x
   indirect_value w k v x (Field l) h f = anything x
@@ -55,7 +55,7 @@ module _ (p : List ℕ) (n : ℕ) where
   indirect_value w k v x (HeaderLength at more) h f =
       record { is = λ known. ap (option_map (under None)) (past_value w at more k v x (header_at p at) (h.is refl) f) }
 
-  mask_value : (o m : Option ℕ) (k a : ℕ) → option_map (under m) o ≡ Some a → option_map (under (Some (mask_of m k))) o ≡ Some (bit_and a k)
+  mask_value : (o m : Option ℕ) (k a : ℕ) → option_map (under m) o ≡ Some a → option_map (under (Some (combined_mask m k))) o ≡ Some (bit_and a k)
   mask_value None m k a e = cc
   mask_value (Some v) None k a e = let is : v ≡ a = cc in ap (λ z. Some (bit_and z k)) is
   mask_value (Some v) (Some m) k a e =
@@ -80,20 +80,20 @@ module _ (p : List ℕ) (n : ℕ) where
       let same : (l + (more + k) % 2 ^ 32) % 2 ^ 32 ≡ (k + x) % 2 ^ 32 = omega arith in
       ap Some same
 
-  sum_value : (a x : ℕ) (t u : Term) → Holds p n t a → Holds p n u x → Holds p n (sum t u) ((a + x) % 2 ^ 32)
+  sum_value : (a x : ℕ) (t u : Term) → Holds p n t a → Holds p n u x → Holds p n (term_of_sum t u) ((a + x) % 2 ^ 32)
   sum_value a x (Number k) (HeaderLength at more) h g =
       let is : Some k ≡ Some a = h.is refl in
       let same : k ≡ a = cc in
       record { is = λ known. sum_header k more x (header_at p at) (g.is refl) ∙ ap (λ z. Some ((z + x) % 2 ^ 32)) same }
   sum_value a x _ _ h g = anything _
 
-  computed_value : (f : AluOperation) (o : Operand) (k : ℕ) (r : Registers) (s : State) (x : ℕ) → Hold p n r s → compute f s.accumulator (operand_value o k s.index) ≡ Some x → Holds p n (computed f o k r) x
+  computed_value : (f : AluOperation) (o : Operand) (k : ℕ) (r : Registers) (s : State) (x : ℕ) → Hold p n r s → compute f s.accumulator (operand_value o k s.index) ≡ Some x → Holds p n (after_arithmetic f o k r) x
   computed_value And Constant k r s x h e =
       let is : bit_and s.accumulator k ≡ x = cc in
       subst (λ z. Holds p n (masked r.accumulator k) z) is (masked_value k s.accumulator r.accumulator h.accumulator)
   computed_value Add IndexRegister k r s x h e =
       let is : (s.accumulator + s.index) % 2 ^ 32 ≡ x = cc in
-      subst (λ z. Holds p n (sum r.accumulator r.index) z) is (sum_value s.accumulator s.index r.accumulator r.index h.accumulator h.index)
+      subst (λ z. Holds p n (term_of_sum r.accumulator r.index) z) is (sum_value s.accumulator s.index r.accumulator r.index h.accumulator h.index)
   computed_value _ _ k r s x h e = anything x
 
   header_value : (k x : ℕ) (o : Option ℕ) → option_map header_length o ≡ Some x → option_map (λ l. (l + 0) % 2 ^ 32) (option_map header_length o) ≡ Some x
@@ -265,7 +265,7 @@ module _ (p : List ℕ) (n : ℕ) where
       let same : (l + (more + k) % 2 ^ 32) % 2 ^ 32 ≡ (v + k) % 2 ^ 32 = omega arith in
       subst (λ m. Got (field p m w)) same (got (under None) (field p ((l + (more + k) % 2 ^ 32) % 2 ^ 32) w) x f)
 
-  got_indirect : (w : Width) (k v : ℕ) (t : Term) → Holds p n t v → There p n (indirect w k t) → Got (field p ((v + k) % 2 ^ 32) w)
+  got_indirect : (w : Width) (k v : ℕ) (t : Term) → Holds p n t v → There p n (after_indirect_load w k t) → Got (field p ((v + k) % 2 ^ 32) w)
   got_indirect w k v Anything h there = let no = there.is in cc
   got_indirect w k v Length h there = let no = there.is in cc
   got_indirect w k v (Field l) h there = let no = there.is in cc
@@ -357,7 +357,7 @@ module _ (p : List ℕ) (n : ℕ) where
       let same : (v + k) % 2 ^ 32 ≡ (l + (more + k) % 2 ^ 32) % 2 ^ 32 = omega arith in
       ap (λ m. field p m w) same ∙ under_none (field p ((l + (more + k) % 2 ^ 32) % 2 ^ 32) w)
 
-  indirect_is : (w : Width) (k v : ℕ) (t : Term) → Holds p n t v → is_known (indirect w k t) ≡ true → field p ((v + k) % 2 ^ 32) w ≡ value p n (indirect w k t)
+  indirect_is : (w : Width) (k v : ℕ) (t : Term) → Holds p n t v → is_known (after_indirect_load w k t) ≡ true → field p ((v + k) % 2 ^ 32) w ≡ value p n (after_indirect_load w k t)
   indirect_is w k v Anything h known = cc
   indirect_is w k v Length h known = cc
   indirect_is w k v (Field l) h known = cc

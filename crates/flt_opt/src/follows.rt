@@ -1,6 +1,10 @@
 //! Whether what is known at one place says all that a note claims of another one: terms that have
 //! to be there, facts, and registers. `wanted` is what is claimed. A yes is proved; a no says
-//! nothing.
+//! nothing. A term *is there* if it has a value on the packet: the bytes that it takes are
+//! captured.
+//!
+//! In clauses `p` is the captured bytes of a packet, `n` its original length, and `new` and `old`
+//! are the states of the two runs.
 
 ghost use Rattle.std.specs.Prelude.{◌≡◌, ℕ, true, List, IsTrue};
 ghost use Rattle.flt_bpf.specs.declared.machine.State.{State};
@@ -9,12 +13,14 @@ ghost use Rattle.flt_opt.specs.inside.Facts.{FactFollows, FactsFollow};
 ghost use Rattle.flt_opt.specs.inside.Terms.{There, Hold, Holds, Agree, source, is_constant};
 ghost use Rattle.flt_opt.specs.declared.note.Piece.{Piece};
 
-use crate::facts::{Knowledge, Learnt, find_enclosing_pieces, numbers_at_most, numbers_of, part};
+use crate::facts::{
+    Knowledge, Learnt, find_enclosing_pieces, pieces_in, span_of_numbers, widest_piece_of,
+};
 use crate::note::{Both, Fact, Load, Piece, Registers, Span, Term};
 use crate::terms::{is_known, same_term};
 
-/// What has to be there for a term to have a value: of a field without its mask, of a header's
-/// length without what is added.
+/// The term that has a value on the same packets as this one, since it takes the same bytes: a
+/// field without its mask, a header's length without what is added.
 pub fn source(term: Term) -> Term
     ensures { result ≡ source term }
 {
@@ -30,14 +36,14 @@ pub fn source(term: Term) -> Term
     }
 }
 
-/// Whether a term has a value on each packet where the term `held` has one.
+/// Whether the term `wanted` has a value on each packet on which the term `held` has one.
 fn comes_with(wanted: Term, held: Term) -> bool
     ensures { IsTrue result → (p : List ℕ) (n : ℕ) → There p n held → There p n wanted }
 {
     same_term(source(held), source(wanted))
 }
 
-/// Whether a term has a value, since a run holds in its registers what needs the same bytes.
+/// Whether a term has a value, since a register of a run holds what was loaded from the same bytes.
 fn is_there_by_registers(wanted: Term, registers: Registers) -> bool
     ensures { IsTrue result → (p : List ℕ) (n : ℕ) (s : State) → Hold p n registers s
         → There p n wanted }
@@ -46,7 +52,7 @@ fn is_there_by_registers(wanted: Term, registers: Registers) -> bool
         || (is_known(registers.index) && comes_with(wanted, registers.index))
 }
 
-/// Whether a term has a value, by the registers of either run.
+/// Whether a term has a value, by what a register of either run holds.
 fn is_there_by_both(wanted: Term, both: &Both) -> bool
     ensures { IsTrue result → (p : List ℕ) (n : ℕ) (new old : State) → Agree p n both.now new old
         → There p n wanted }
@@ -54,7 +60,7 @@ fn is_there_by_both(wanted: Term, both: &Both) -> bool
     is_there_by_registers(wanted, both.new) || is_there_by_registers(wanted, both.old)
 }
 
-/// Whether a term has a value, by some fact.
+/// Whether a term has a value, since some fact is of the same bytes.
 fn is_there_by_facts(wanted: Term, facts: &[Fact]) -> bool
     ensures { IsTrue result → (p : List ℕ) (n : ℕ) (pieces : List Piece)
         → AllHold p n pieces facts.now → There p n wanted }
@@ -87,7 +93,7 @@ pub fn is_there(term: Term, facts: &[Fact], both: &Both) -> bool
     is_there_by_facts(term, facts)
 }
 
-/// Whether a term's value is in `numbers`, where it is in one of the pieces.
+/// Whether a term's value is in `numbers` if it is in one of `pieces`.
 // A piece is looked for from where the one before it was found: both lists ascend.
 fn are_within(pieces: &[Piece], term: Term, learnt: &[Learnt], numbers: &[Piece]) -> bool
     ensures { IsTrue result → AreWithin pieces.now term learnt.now numbers.now }
@@ -102,17 +108,17 @@ fn are_within(pieces: &[Piece], term: Term, learnt: &[Learnt], numbers: &[Piece]
     true
 }
 
-/// Whether the value of a fact's term is in the fact's pieces, if it has one. That it has one,
-/// `is_there` tells.
+/// Whether the value of a fact's term is in the fact's pieces, if the term has a value. (Whether it
+/// has one, `is_there` tells.)
 fn numbers_follow(wanted: Fact, knowledge: &Knowledge) -> bool
     ensures { IsTrue result → NumbersFollow wanted knowledge.now.facts.now
         knowledge.now.pieces.now knowledge.now.learnt.now }
 {
     let (pieces, learnt) = (knowledge.pieces, knowledge.learnt);
-    let numbers = part(pieces, wanted.pieces);
-    match numbers_of(wanted.term, knowledge.facts) {
+    let numbers = pieces_in(pieces, wanted.pieces);
+    match span_of_numbers(wanted.term, knowledge.facts) {
         None => find_enclosing_pieces(
-            numbers_at_most(wanted.term),
+            widest_piece_of(wanted.term),
             wanted.term,
             learnt,
             numbers,
@@ -121,12 +127,12 @@ fn numbers_follow(wanted: Fact, knowledge: &Knowledge) -> bool
         .is_some(),
         Some(span) => {
             same_span(span, wanted.pieces)
-                || are_within(part(pieces, span), wanted.term, learnt, numbers)
+                || are_within(pieces_in(pieces, span), wanted.term, learnt, numbers)
         }
     }
 }
 
-/// Whether two parts of a list are the same. (A function, so that `==` has a clause.)
+/// Whether two spans are the same part of a list. (A function, so that `==` has a clause.)
 fn same_span(one: Span, other: Span) -> bool
     ensures { IsTrue result → one ≡ other }
 {
@@ -154,7 +160,7 @@ pub(crate) fn facts_follow(wanted: &[Fact], knowledge: &Knowledge, both: &Both) 
     true
 }
 
-/// Whether a register that holds the term `known` holds what a note says of it.
+/// Whether a register of which `known` is known holds what a note says of it, `wanted`.
 fn term_fits(known: Term, wanted: Term) -> bool
     ensures { IsTrue result → (p : List ℕ) (n number : ℕ) → Holds p n known number
         → Holds p n wanted number }
@@ -170,7 +176,7 @@ fn registers_fit(known: Registers, wanted: Registers) -> bool
     term_fits(known.accumulator, wanted.accumulator) && term_fits(known.index, wanted.index)
 }
 
-/// Whether a register is the same in two runs, in which it holds these terms.
+/// Whether a register is the same in the two runs, since the terms that it holds in them are.
 fn same_number(new: Term, old: Term) -> bool
     ensures { IsTrue result → (p : List ℕ) (n one other : ℕ) → Holds p n new one
         → Holds p n old other → one ≡ other }
@@ -205,7 +211,8 @@ pub(crate) fn both_fit(known: &Both, wanted: &Both) -> bool
         && (!wanted.same_index || same_index(known))
 }
 
-/// The term that a register holds where two ways meet: that of both, if they have the same.
+/// The term that a register holds where two ways meet: that of both ways, or `Anything` if they
+/// differ.
 fn common_term(one: Term, other: Term) -> Term
     ensures one { (p : List ℕ) (n number : ℕ) → Holds p n one number → Holds p n result number }
     ensures other { (p : List ℕ) (n number : ℕ) → Holds p n other number
@@ -218,7 +225,7 @@ fn common_term(one: Term, other: Term) -> Term
     }
 }
 
-/// What is known of a run's registers where two ways meet: what holds on each.
+/// What is known of a run's registers where two ways meet: what holds on either way.
 fn common_registers(one: Registers, other: Registers) -> Registers
     ensures one { (p : List ℕ) (n : ℕ) (s : State) → Hold p n one s → Hold p n result s }
     ensures other { (p : List ℕ) (n : ℕ) (s : State) → Hold p n other s → Hold p n result s }
@@ -229,7 +236,7 @@ fn common_registers(one: Registers, other: Registers) -> Registers
     }
 }
 
-/// What is known of the registers of both runs where two ways meet: what holds on each.
+/// What is known of the registers of both runs where two ways meet: what holds on either way.
 pub(crate) fn common_both(one: &Both, other: &Both) -> Both
     ensures one { (p : List ℕ) (n : ℕ) (new old : State) → Agree p n one.now new old
         → Agree p n result new old }

@@ -1,8 +1,12 @@
-//! What the registers hold after an instruction, as terms over the packet. `k` is the instruction's
-//! number.
+//! What the registers hold after an instruction, as terms over the packet, and what an instruction
+//! reads and sets. `k` is the instruction's number.
+//!
+//! The clauses cite definitions of the same names: the proofs show of these that a register holds
+//! what its term says after the machine's own step.
 
 ghost use Rattle.std.specs.Prelude.{◌≡◌, IsTrue};
-ghost use Rattle.flt_opt.specs.inside.Terms.{indirect, mask_of, masked, sum, computed};
+ghost use Rattle.flt_opt.specs.inside.Terms.{after_indirect_load, combined_mask, masked};
+ghost use Rattle.flt_opt.specs.inside.Terms.{term_of_sum, after_arithmetic};
 ghost use Rattle.flt_opt.specs.inside.Terms.{accumulator_after, index_after, after, after_both};
 ghost use Rattle.flt_opt.specs.inside.Terms.{after_old, after_new, asked, reads_accumulator};
 ghost use Rattle.flt_opt.specs.inside.Terms.{reads_index, sets_accumulator};
@@ -26,9 +30,10 @@ pub fn same_term(one: Term, other: Term) -> bool
     one == other
 }
 
-/// What A holds after a load at X + k, by the term that X holds.
-fn indirect(width: Width, k: u32, index: Term) -> Term
-    ensures { result ≡ indirect width k index }
+/// What A holds after a load at X + k, by the term that X holds: a field at a fixed place if that
+/// is a number, one past an IPv4 header if it is the header's length.
+fn after_indirect_load(width: Width, k: u32, index: Term) -> Term
+    ensures { result ≡ after_indirect_load width k index }
 {
     match index {
         Term::Number(x) => Term::Field(Load {
@@ -47,9 +52,10 @@ fn indirect(width: Width, k: u32, index: Term) -> Term
     }
 }
 
-/// The bits that a mask `k` leaves of those that were left.
-fn mask_of(mask: Option<u32>, k: u32) -> u32
-    ensures { result ≡ mask_of mask k }
+/// The mask that has the effect of two, one after the other: the one that a field has, if it has
+/// one, and then `k`.
+fn combined_mask(mask: Option<u32>, k: u32) -> u32
+    ensures { result ≡ combined_mask mask k }
 {
     match mask {
         None => k,
@@ -57,7 +63,7 @@ fn mask_of(mask: Option<u32>, k: u32) -> u32
     }
 }
 
-/// What a term is once a register that holds it is masked with `k`.
+/// What a register holds once it is masked with `k`, by the term that it held.
 pub fn masked(term: Term, k: u32) -> Term
     ensures { result ≡ masked term k }
 {
@@ -67,15 +73,15 @@ pub fn masked(term: Term, k: u32) -> Term
             width: load.width,
             at: load.at,
             header: load.header,
-            mask: Some(mask_of(load.mask, k)),
+            mask: Some(combined_mask(load.mask, k)),
         }),
         _ => Term::Anything,
     }
 }
 
-/// The term of A + X. Only for a number in A and a header's length in X there is one.
-fn sum(accumulator: Term, index: Term) -> Term
-    ensures { result ≡ sum accumulator index }
+/// The term of A + X: `Anything`, unless A holds a number and X a header's length.
+fn term_of_sum(accumulator: Term, index: Term) -> Term
+    ensures { result ≡ term_of_sum accumulator index }
 {
     match (accumulator, index) {
         (Term::Number(k), Term::HeaderLength { at, more }) => Term::HeaderLength {
@@ -87,18 +93,20 @@ fn sum(accumulator: Term, index: Term) -> Term
 }
 
 /// What A holds after arithmetic. There is a term for a mask by a constant, and for A + X as code
-/// that looks past an IPv4 header has it; for nothing else.
-fn computed(operator: AluOperation, operand: Operand, k: u32, registers: Registers) -> Term
-    ensures { result ≡ computed operator operand k registers }
+/// that looks past an IPv4 header has it; all else leaves `Anything`.
+fn after_arithmetic(operator: AluOperation, operand: Operand, k: u32, registers: Registers) -> Term
+    ensures { result ≡ after_arithmetic operator operand k registers }
 {
     match (operator, operand) {
         (AluOperation::And, Operand::Constant) => masked(registers.accumulator, k),
-        (AluOperation::Add, Operand::IndexRegister) => sum(registers.accumulator, registers.index),
+        (AluOperation::Add, Operand::IndexRegister) => {
+            term_of_sum(registers.accumulator, registers.index)
+        }
         _ => Term::Anything,
     }
 }
 
-/// What A holds after an operation that leads on.
+/// What A holds after an operation that leads on, by what the registers held before.
 fn accumulator_after(operation: Operation, k: u32, registers: Registers) -> Term
     ensures { result ≡ accumulator_after operation k registers }
 {
@@ -109,19 +117,19 @@ fn accumulator_after(operation: Operation, k: u32, registers: Registers) -> Term
             header: None,
             mask: None,
         }),
-        Operation::LoadIndirect(width) => indirect(width, k, registers.index),
+        Operation::LoadIndirect(width) => after_indirect_load(width, k, registers.index),
         Operation::Load(Register::Accumulator, Source::Immediate) => Term::Number(k),
         Operation::Load(Register::Accumulator, Source::Length) => Term::Length,
         Operation::Load(Register::Accumulator, Source::Memory) | Operation::Negate => {
             Term::Anything
         }
-        Operation::Compute(operator, operand) => computed(operator, operand, k, registers),
+        Operation::Compute(operator, operand) => after_arithmetic(operator, operand, k, registers),
         Operation::CopyToAccumulator => registers.index,
         _ => registers.accumulator,
     }
 }
 
-/// What X holds after an operation that leads on.
+/// What X holds after an operation that leads on, by what the registers held before.
 fn index_after(operation: Operation, k: u32, registers: Registers) -> Term
     ensures { result ≡ index_after operation k registers }
 {
@@ -135,7 +143,7 @@ fn index_after(operation: Operation, k: u32, registers: Registers) -> Term
     }
 }
 
-/// What the registers hold after an operation that leads on.
+/// What the registers hold after an operation that leads on, by what they held before.
 pub fn after(operation: Operation, k: u32, registers: Registers) -> Registers
     ensures { result ≡ after operation k registers }
 {
@@ -145,7 +153,7 @@ pub fn after(operation: Operation, k: u32, registers: Registers) -> Registers
     }
 }
 
-/// The test of A with the number k that an operation is, if it is one.
+/// Which test of A with the number k an operation is. `None`: it tests A with X, or is no test.
 pub fn test_of(operation: Operation) -> Option<Test>
     ensures { result ≡ test_of operation }
 {
@@ -217,7 +225,7 @@ pub fn sets_index(operation: Operation) -> bool
 }
 
 /// What is known of both runs after each did an operation with the same operands: the register that
-/// it sets is the same in both.
+/// it sets is the same in both runs then.
 pub fn after_both(operation: Operation, k: u32, both: Both) -> Both
     ensures { result ≡ after_both operation k both }
 {
@@ -229,7 +237,8 @@ pub fn after_both(operation: Operation, k: u32, both: Both) -> Both
     }
 }
 
-/// What is known of both runs after the old one alone did an operation.
+/// What is known of both runs after the old one alone did an operation: the register that it sets
+/// may differ in the two runs then.
 pub fn after_old(operation: Operation, k: u32, both: Both) -> Both
     ensures { result ≡ after_old operation k both }
 {
@@ -241,7 +250,8 @@ pub fn after_old(operation: Operation, k: u32, both: Both) -> Both
     }
 }
 
-/// What is known of both runs after the new one alone did an operation.
+/// What is known of both runs after the new one alone did an operation: the register that it sets
+/// may differ in the two runs then.
 pub fn after_new(operation: Operation, k: u32, both: Both) -> Both
     ensures { result ≡ after_new operation k both }
 {
@@ -253,7 +263,8 @@ pub fn after_new(operation: Operation, k: u32, both: Both) -> Both
     }
 }
 
-/// The term that an operation makes, in A or X. A load from the packet leads on if that is there.
+/// The term that an operation puts into A or X. Where that has a value, a load from the packet
+/// leads on: its bytes are captured.
 pub fn asked(operation: Operation, k: u32, registers: Registers) -> Term
     ensures { result ≡ asked operation k registers }
 {
@@ -263,8 +274,9 @@ pub fn asked(operation: Operation, k: u32, registers: Registers) -> Term
     }
 }
 
-/// Whether an operation leads to the next instruction on each packet and changes no word of memory,
-/// if what it loads is `there`.
+/// Whether an operation is sure to lead to the next instruction and changes no word of memory.
+/// `there` is whether the bytes of the packet that it loads are known to be captured; only loads
+/// depend on it.
 pub fn is_sure(operation: Operation, k: u32, there: bool) -> bool
     ensures { result ≡ is_sure operation k there }
 {
@@ -316,7 +328,8 @@ pub fn is_load(operation: Operation) -> bool
     )
 }
 
-/// What is known of both runs after each loaded the same field into A.
+/// What is known of both runs after each loaded the same field into A, each by an instruction of
+/// its own.
 pub fn after_loads(field: Term, both: Both) -> Both
     ensures { result ≡ after_loads field both }
 {

@@ -8,7 +8,8 @@
 //! After each the new run is at the place of another note, once the old run has walked on to it.
 //!
 //! A yes is proved; a no says nothing. `2 ^ 62` in clauses is more than any index of code, so that
-//! what is added to one for a jump can't overflow.
+//! what is added to one for a jump can't overflow. `p` is the captured bytes of a packet there, and
+//! `n` its original length.
 
 ghost use Rattle.std.specs.Prelude.{◌≡◌, ◌≢◌, ◌↔◌, ℕ, ◌+◌, ◌^◌, ◌<◌, List, [], not, Some, All};
 ghost use Rattle.std.specs.Prelude.{IsTrue, slice_get};
@@ -35,7 +36,7 @@ use flt_bpf::Wide;
 use flt_bpf::operation::{AluOperation, Operand, Operation, Test, decode};
 
 /// From how many tests, one after the other, a walk goes both ways at most: as deep as a search by
-/// halves among 4,096 numbers.
+/// halves among 4,096 = 2^12 numbers.
 const MOST_SPLITS: u32 = 12;
 
 /// Two programs and the notes on them.
@@ -46,7 +47,8 @@ pub(crate) struct Programs<'a> {
     pub notes: Notes<'a>,
 }
 
-/// Where the two runs are after an instruction, and what is known there.
+/// Where the two runs are after an instruction, as indices of their programs, and what is known of
+/// their registers there.
 #[derive(Clone, Copy)]
 pub(crate) struct Way {
     pub new: usize,
@@ -54,7 +56,7 @@ pub(crate) struct Way {
     pub both: Both,
 }
 
-/// What a test asks of A.
+/// What a test asks of A: how it compares to the operand, and whether that is k or X.
 #[derive(Clone, Copy)]
 pub(crate) struct Condition {
     pub test: Test,
@@ -68,7 +70,8 @@ fn facts_of<'a>(programs: &Programs<'a>, note: &Note) -> &'a [Fact]
     facts_in(programs.notes.facts, note.facts)
 }
 
-/// Whether a way leads to the note with index `to`, once the old run has walked to its place.
+/// Whether a way leads to the note with index `to`: it is for where the new run is, the old run
+/// walks to where it has the old one, and all that it claims is known there.
 fn leads_to_note(
     programs: &Programs,
     facts: &[Fact],
@@ -104,7 +107,8 @@ fn leads_to_note(
         && facts_follow(facts_of(programs, note), &knowledge, &way.both)
 }
 
-/// Whether both runs return 0 on a way, the old one if it returns.
+/// Whether both runs return 0 from where a way has them: the new one at once, the old one if it
+/// returns.
 fn both_reject(programs: &Programs, facts: &[Fact], learnt: &[Learnt], way: &Way) -> bool
     ensures { IsTrue result → LeadsTo programs.now way.now facts.now learnt.now }
 {
@@ -135,7 +139,8 @@ fn leads_to_note_or_rejection(
     leads_to_note(programs, facts, learnt, way, to) || both_reject(programs, facts, learnt, way)
 }
 
-/// The way on a side of a test that the new run does at a note, while the old one is at `old`.
+/// The way on a side of the test that the new run does at a note: on that where it holds (`holds`),
+/// or on the other one. The old run is at `old`.
 fn way_from_test(note: &Note, both: &Both, new: Wide, holds: bool, old: usize) -> Way
     requires { note.now.new < 2 ^ 62 }
     ensures { result ≡ record {
@@ -204,8 +209,8 @@ fn side_leads(
     }
 }
 
-/// Whether both sides of a test of the new run lead to notes; the old run is at `yes` or at `no`
-/// then.
+/// Whether both sides of a test of the new run lead to the notes that are named for them. The old
+/// run is at the index `yes` where the test holds, and at `no` where it doesn't.
 fn test_leads(
     programs: &Programs,
     note: &Note,
@@ -224,7 +229,8 @@ fn test_leads(
         && side_leads(programs, note, both, new, condition, false, no)
 }
 
-/// Whether the next instruction of the new run leads to a note, while the old run is at a place.
+/// Whether going on at the next instruction of the new run leads to the note that is named for it,
+/// while the old run is at the index `old`.
 fn step_leads(programs: &Programs, note: &Note, both: Both, old: usize) -> bool
     requires { note.now.new < 2 ^ 62 }
     ensures { IsTrue result → LeadsTo programs.now
@@ -247,7 +253,7 @@ fn operands_agree(operation: Operation, both: &Both) -> bool
         && (!reads_index(operation) || same_index(both))
 }
 
-/// Whether a note stands since the new run does the instruction of the old one.
+/// Whether a note stands since both runs do the same instruction, with the same operands.
 fn does_same(programs: &Programs, note: &Note, new: Wide, old: Wide) -> bool
     requires new_bound { note.now.new < 2 ^ 62 }
     requires old_bound { note.now.old < 2 ^ 62 }
@@ -334,7 +340,8 @@ fn loads_same(programs: &Programs, note: &Note, new: Wide, old: Wide) -> bool
     step_leads(programs, note, both, note.old + 1)
 }
 
-/// Whether three instructions are a test of bits, and a mask and a test of what is left for 0.
+/// Whether the first instruction is a test of bits that asks what the two others do: a mask, and a
+/// test of what is left for 0.
 fn is_bits(new: Wide, mask: Wide, test: Wide) -> bool
     ensures { IsTrue result → IsBits new mask test }
 {
@@ -363,18 +370,21 @@ fn tests_bits(programs: &Programs, note: &Note, new: Wide, old: Wide) -> bool
     if !same_accumulator(&note.registers) {
         return false;
     }
+    // The old run is past its mask, which changes its A.
     let mask = Operation::Compute(AluOperation::And, Operand::Constant);
     let both = after_old(mask, old.k, note.registers);
     let condition = Condition {
         test: Test::AnyBit,
         operand: Operand::Constant,
     };
+    // A bit is left where what is left isn't 0, so the targets are swapped.
     let yes = note.old + 2 + test.no as usize;
     let no = note.old + 2 + test.yes as usize;
     test_leads(programs, note, &both, new, condition, yes, no)
 }
 
-/// Whether both programs return the same from a note on, if they do from the notes further on.
+/// Whether a note stands by one of the four rules: both programs return the same from there on, if
+/// they do from the notes further on.
 fn note_stands(programs: &Programs, note: &Note) -> bool
     ensures { IsTrue result → IsSound programs.now note.now }
 {
@@ -396,7 +406,7 @@ fn note_stands(programs: &Programs, note: &Note) -> bool
     does_own(programs, note, *new)
 }
 
-/// Whether all notes stand.
+/// Whether all notes on the programs stand.
 fn all_notes_stand(programs: &Programs) -> bool
     ensures { IsTrue result → AreSound programs.now }
 {
@@ -424,7 +434,7 @@ fn known_at_start() -> Both
     }
 }
 
-/// Whether the beginning of both programs leads to the first note.
+/// Whether the beginning of both programs leads to the first note, or to a rejection in both.
 fn beginning_leads(programs: &Programs) -> bool
     ensures { IsTrue result → Begins programs.now }
 {
@@ -443,8 +453,9 @@ fn has_no_jump(code: &[Wide]) -> bool
     code.iter().all(|insn| insn.code != 5)
 }
 
-/// Whether a program may replace an old one, as the notes show: it returns what the old one
-/// returns. The notes are only a help: wrong ones make the answer no.
+/// Whether a program may replace an old one, as the notes show: on each packet on which the old one
+/// returns it returns the same, and it has no `ja`. The notes aren't trusted: wrong ones make the
+/// answer no.
 pub fn replaces(new: &[Wide], old: &[Wide], notes: Notes) -> bool
     ensures { IsTrue result → Replaces new.now old.now }
 {

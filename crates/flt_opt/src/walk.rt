@@ -3,6 +3,8 @@
 //! Where what is known decides a test, the walk takes that side. Where it doesn't, one side has to
 //! lead to the goal, and the walk goes on along the other one: what is known at the goal in the end
 //! is what is known on all ways that met there.
+//!
+//! In clauses `p` is the captured bytes of a packet, and `n` its original length.
 
 ghost use Rattle.std.specs.Prelude.{◌≡◌, ℕ, List, ◌+◌, ◌^◌, ◌<◌, ◌∷◌, Some, None, IfSome, IsSome};
 ghost use Rattle.std.specs.Prelude.{IsTrue, slice_get};
@@ -25,7 +27,8 @@ use flt_bpf::operation::{Operation, Test, decode};
 /// whatever the notes say.
 pub(crate) const MOST_STEPS: u32 = 8192;
 
-/// Whether a run with these registers goes on after an operation, which changes no word of memory.
+/// Whether a run with these registers is sure to go on at the next instruction after an operation
+/// that changes no word of memory. `both` is what is known of the two runs, of which it is one.
 pub(crate) fn goes_on(
     operation: Operation,
     k: u32,
@@ -40,8 +43,8 @@ pub(crate) fn goes_on(
     is_sure(operation, k, there)
 }
 
-/// How many instructions the old run skips after one, and what is known of both runs then, if that
-/// is decided.
+/// How many instructions the old run skips after one, and what is known of both runs then. `None`:
+/// what is known doesn't decide it, the run may end there, or a word of memory changes.
 fn pass_insn(insn: Wide, knowledge: &Knowledge, both: &Both) -> Option<(u32, Both)>
     ensures { IfSome result (λ r. Passes insn r.0 both.now r.1 knowledge.now.facts.now
         knowledge.now.pieces.now knowledge.now.learnt.now) }
@@ -61,20 +64,21 @@ fn pass_insn(insn: Wide, knowledge: &Knowledge, both: &Both) -> Option<(u32, Bot
     }
 }
 
-/// Where a walk is.
+/// Where a walk of the old run is.
 #[derive(Clone, Copy)]
 pub(crate) struct Stage {
-    /// The place in the old program.
+    /// The index of the instruction in the old program.
     pub at: usize,
     /// What is known of the registers there.
     pub known: Both,
     /// What the last tests on this way have shown.
     pub learnt: [Learnt; OUTCOMES],
-    /// What is known at the goal on the other ways, if there are any.
+    /// What is known at the goal on the other ways, which have reached it, if there are any.
     pub met: Option<Both>,
 }
 
-/// What is known of both runs at the goal, on the ways that met there and on this one.
+/// What is known of both runs at the goal: on the other ways, which met there (`met`), and on this
+/// one (`known`).
 fn known_on_all_ways(met: &Option<Both>, known: &Both) -> Both
     ensures known { (p : List ℕ) (n : ℕ) (new old : State) → Agree p n known.now new old
         → Agree p n result new old }
@@ -87,10 +91,10 @@ fn known_on_all_ways(met: &Option<Both>, known: &Both) -> Both
     }
 }
 
-/// What is known of both runs once the old one is at the goal, if it comes there. `splits` is past
-/// how many undecided tests, one on a side of the other, it may look for the goal, and `fuel` how
-/// many instructions all ways may still pass together. The loop's own bound is no less; it shows
-/// that a walk ends.
+/// What is known of both runs once the old one is at the goal, the index of an instruction. `None`:
+/// it isn't sure to come there. `splits` is past how many undecided tests, one on a side of the
+/// other, it may look for the goal, and `fuel` how many instructions all ways may still pass
+/// together. The loop's own bound is no less; it shows that a walk ends.
 #[cycle(walking)]
 pub(crate) fn walk(
     old: &[Wide],
@@ -114,7 +118,8 @@ pub(crate) fn walk(
     None
 }
 
-/// Where a walk is after one more instruction, or after a test of which one side led to the goal.
+/// Where a walk is after one more instruction: of a test that isn't decided, on the side that is
+/// left once the other one led to the goal. `None`: it can't go on.
 #[cycle(walking)]
 fn advance(
     old: &[Wide],
@@ -144,8 +149,9 @@ fn advance(
     fork(old, facts, pieces, stage, insn, goal, splits, fuel)
 }
 
-/// At a test that isn't decided one side has to lead to the goal; the walk goes on along the other
-/// one. `None`: neither does, no split is left, or it isn't a test with a constant.
+/// Where a walk goes on at a test that isn't decided: one side has to lead to the goal, and the
+/// walk goes on along the other one. `None`: neither side does, no split is left, or the
+/// instruction is no test with a constant.
 #[cycle(walking)]
 fn fork(
     old: &[Wide],
@@ -168,13 +174,14 @@ fn fork(
     let hit = side_of_test(&stage, insn, test, true);
     let miss = side_of_test(&stage, insn, test, false);
     if let Some(one) = walk(old, facts, pieces, hit, goal, splits - 1, fuel) {
-        return Some(with_met(&miss, &stage.met, &one));
+        return Some(stage_after_fork(&miss, &stage.met, &one));
     }
     let one = walk(old, facts, pieces, miss, goal, splits - 1, fuel)?;
-    Some(with_met(&hit, &stage.met, &one))
+    Some(stage_after_fork(&hit, &stage.met, &one))
 }
 
-/// The walk on the side of a test that holds, or doesn't, with what that shows.
+/// Where a walk is on one side of the test at its place, with what that outcome shows: on the side
+/// where the test holds (`holds`), or on the other one. The ways that met before are left out.
 fn side_of_test(stage: &Stage, insn: Wide, test: Test, holds: bool) -> Stage
     requires { stage.now.at < 2 ^ 62 }
     ensures at { result.at ≡ stage.now.at + 1 + (if holds then insn.jt else insn.jf) }
@@ -194,9 +201,9 @@ fn side_of_test(stage: &Stage, insn: Wide, test: Test, holds: bool) -> Stage
     }
 }
 
-/// The walk on a side of a test. `met` is what is known at the goal on the ways that met there
-/// before the test, and `one` on the other side.
-fn with_met(stage: &Stage, met: &Option<Both>, one: &Both) -> Stage
+/// Where a walk goes on after a fork: at `stage`, on the side that is left. `met` is what is known
+/// at the goal on the ways that met there before the test, and `one` on the test's other side.
+fn stage_after_fork(stage: &Stage, met: &Option<Both>, one: &Both) -> Stage
     ensures at { result.at ≡ stage.now.at }
     ensures known { result.known ≡ stage.now.known }
     ensures learnt { result.learnt ≡ stage.now.learnt }
@@ -215,7 +222,7 @@ fn with_met(stage: &Stage, met: &Option<Both>, one: &Both) -> Stage
 }
 
 /// How many instructions a run skips after one, and what its registers hold then, unless it returns
-/// 0 there.
+/// 0 there. `None`: what is known doesn't decide a test, or the instruction is a return.
 fn pass_unless_rejected(
     insn: Wide,
     knowledge: &Knowledge,
@@ -246,14 +253,17 @@ pub(crate) fn is_rejection(insn: Wide) -> bool
     insn.code == Operation::ReturnConstant.code() && insn.k == 0
 }
 
-/// Where a run is, and how many tests it may still go both ways from.
+/// Where a run is looked at from on.
 #[derive(Clone, Copy)]
 pub(crate) struct Start {
+    /// The index of the instruction.
     pub at: usize,
+    /// From how many undecided tests, one after the other, both ways may still be followed.
     pub splits: u32,
 }
 
-/// Whether a run returns 0 from a place on, if it returns.
+/// Whether a run with these registers returns 0 from `start` on, if it returns: on all ways that
+/// what is known leaves open.
 #[cycle(rejecting)]
 pub(crate) fn rejects(
     code: &[Wide],
@@ -294,7 +304,7 @@ pub(crate) fn rejects(
     false
 }
 
-/// Whether a run returns 0 on both sides of a test that isn't decided.
+/// Whether a run returns 0 on both sides of the test at `start`, which isn't decided.
 #[cycle(rejecting)]
 fn both_ways_reject(
     code: &[Wide],
@@ -337,8 +347,9 @@ fn both_ways_reject(
     one_way_rejects(code, facts, pieces, learnt, registers, no, miss)
 }
 
-/// Whether a run returns 0 on a side of a test, which shows more of a term. Four outcomes are kept
-/// at most, in an array, which takes no memory: at a fifth test the answer is no.
+/// Whether a run returns 0 on a side of a test, which begins at `start`: `shown` is what the test's
+/// outcome shows. Four outcomes are kept at most, in an array, so that no memory is taken: at a
+/// fifth test the answer is no.
 #[cycle(rejecting)]
 fn one_way_rejects(
     code: &[Wide],

@@ -1,4 +1,5 @@
--- What the terms of notes mean, and what the registers hold after an instruction.
+-- What the terms of notes mean, and what the registers hold after an instruction. Here `p` is the
+-- captured bytes of a packet, `n` its original length, and `k` the number of an instruction.
 use Rattle.std.specs.Prelude.{◌≡◌, ℕ, ◌+◌, ◌%◌, ◌^◌, Bool, true, false, not, ◌&&◌, ◌||◌, ◌==◌, List, Option, Some, None, bit_and}
 use Rattle.std.specs.Option.{option_map}
 use Rattle.flt_bpf.specs.declared.machine.State.{State}
@@ -24,17 +25,19 @@ use Rattle.flt_opt.specs.declared.note.Both.{Both}
 abbrev pub header_at : List ℕ → ℕ → Option ℕ
 header_at p at = option_map header_length (field p at Byte)
 
--- the number at this place past a header of a length
+-- the number of the packet at a place past a header of this length, if the header is there and the
+-- number is captured
 abbrev pub past : List ℕ → Width → ℕ → Option ℕ → Option ℕ
 past p width at None = None
 past p width at (Some length) = field p ((length + at) % 2 ^ 32) width
 
--- the same, or at a fixed place
+-- the number at a place past the header that begins at another one, or without a header at a fixed
+-- place, if it is captured
 abbrev pub bare : List ℕ → Width → ℕ → Option ℕ → Option ℕ
 bare p width at None = field p at width
 bare p width at (Some header) = past p width at (header_at p header)
 
--- the bits of a mask
+-- the bits of a number that a mask leaves; all of them without a mask
 abbrev pub under : Option ℕ → ℕ → ℕ
 under None v = v
 under (Some mask) v = bit_and v mask
@@ -43,7 +46,8 @@ under (Some mask) v = bit_and v mask
 abbrev pub loaded : List ℕ → Load → Option ℕ
 loaded p l = option_map (under l.mask) (bare p l.width l.at l.header)
 
--- the number that a term is on a packet of an original length
+-- the number that a term is on a packet of an original length: none where it takes bytes that
+-- aren't captured, and none of `Anything`
 abbrev pub value : List ℕ → ℕ → Term → Option ℕ
 value p n Anything = None
 value p n (Number k) = Some k
@@ -56,12 +60,12 @@ abbrev pub is_known : Term → Bool
 is_known Anything = false
 is_known _ = true
 
--- a term has a value
+-- a term has a value on a packet: what it takes is captured
 pub record There (p : List ℕ) (n : ℕ) (t : Term) : Type 0 where
   pub number : ℕ
   pub is : value p n t ≡ Some number
 
--- a register holds what a term says
+-- a register holds what a term says: its value, if the term says something
 pub record Holds (p : List ℕ) (n : ℕ) (t : Term) (number : ℕ) : Type 0 where
   pub is : is_known t ≡ true → value p n t ≡ Some number
 
@@ -78,50 +82,50 @@ pub record Agree (p : List ℕ) (n : ℕ) (b : Both) (new old : State) : Type 0 
   pub index : b.same_index ≡ true → new.index ≡ old.index
   pub memory : new.memory ≡ old.memory
 
--- what A holds after a load at X and k, by what X holds
-abbrev pub indirect : Width → ℕ → Term → Term
-indirect width k (Number x) =
+-- what A holds after a load at X + k, by the term that X holds
+abbrev pub after_indirect_load : Width → ℕ → Term → Term
+after_indirect_load width k (Number x) =
     Field (record { width = width; at = (x + k) % 2 ^ 32; header = None; mask = None })
-indirect width k (HeaderLength at more) =
+after_indirect_load width k (HeaderLength at more) =
     Field (record { width = width; at = (more + k) % 2 ^ 32; header = Some at; mask = None })
-indirect width k _ = Anything
+after_indirect_load width k _ = Anything
 
--- the bits that a mask leaves of those that were left
-abbrev pub mask_of : Option ℕ → ℕ → ℕ
-mask_of None k = k
-mask_of (Some mask) k = bit_and mask k
+-- the mask with the effect of two, one after the other
+abbrev pub combined_mask : Option ℕ → ℕ → ℕ
+combined_mask None k = k
+combined_mask (Some mask) k = bit_and mask k
 
--- what a term is once a register that holds it is masked
+-- what a register holds once it is masked, by the term that it held
 abbrev pub masked : Term → ℕ → Term
 masked (Number x) k = Number (bit_and x k)
-masked (Field l) k = Field (record l { mask = Some (mask_of l.mask k) })
+masked (Field l) k = Field (record l { mask = Some (combined_mask l.mask k) })
 masked _ k = Anything
 
--- A + X, of a number and a header's length
-abbrev pub sum : Term → Term → Term
-sum (Number k) (HeaderLength at more) = HeaderLength at ((more + k) % 2 ^ 32)
-sum _ _ = Anything
+-- what A + X is, by the terms of A and X: only of a number and a header's length it is known
+abbrev pub term_of_sum : Term → Term → Term
+term_of_sum (Number k) (HeaderLength at more) = HeaderLength at ((more + k) % 2 ^ 32)
+term_of_sum _ _ = Anything
 
--- what A holds after arithmetic
-abbrev pub computed : AluOperation → Operand → ℕ → Registers → Term
-computed And Constant k r = masked r.accumulator k
-computed Add IndexRegister k r = sum r.accumulator r.index
-computed _ _ k r = Anything
+-- what A holds after arithmetic: only after a mask by k and after A + X it may be known
+abbrev pub after_arithmetic : AluOperation → Operand → ℕ → Registers → Term
+after_arithmetic And Constant k r = masked r.accumulator k
+after_arithmetic Add IndexRegister k r = term_of_sum r.accumulator r.index
+after_arithmetic _ _ k r = Anything
 
--- what A holds after an operation
+-- what A holds after an operation, by what the registers held
 abbrev pub accumulator_after : Operation → ℕ → Registers → Term
 accumulator_after (LoadAbsolute width) k r =
     Field (record { width = width; at = k; header = None; mask = None })
-accumulator_after (LoadIndirect width) k r = indirect width k r.index
+accumulator_after (LoadIndirect width) k r = after_indirect_load width k r.index
 accumulator_after (LoadRegister Accumulator Immediate) k r = Number k
 accumulator_after (LoadRegister Accumulator OriginalLength) k r = Length
 accumulator_after (LoadRegister Accumulator Memory) k r = Anything
-accumulator_after (Compute operator operand) k r = computed operator operand k r
+accumulator_after (Compute operator operand) k r = after_arithmetic operator operand k r
 accumulator_after Negate k r = Anything
 accumulator_after CopyToAccumulator k r = r.index
 accumulator_after _ k r = r.accumulator
 
--- what X holds after it
+-- what X holds after an operation, by what the registers held
 abbrev pub index_after : Operation → ℕ → Registers → Term
 index_after (LoadRegister Index Immediate) k r = Number k
 index_after (LoadRegister Index OriginalLength) k r = Length
@@ -130,10 +134,11 @@ index_after LoadHeaderLength k r = HeaderLength k 0
 index_after CopyToIndex k r = r.accumulator
 index_after _ k r = r.index
 
+-- what both registers hold after an operation, by what they held
 abbrev pub after : Operation → ℕ → Registers → Registers
 after op k r = record { accumulator = accumulator_after op k r; index = index_after op k r }
 
--- an operation reads A, or X
+-- what an operation does depends on A
 abbrev pub reads_accumulator : Operation → Bool
 reads_accumulator (Store Accumulator) = true
 reads_accumulator (Compute operator operand) = true
@@ -143,6 +148,7 @@ reads_accumulator ReturnAccumulator = true
 reads_accumulator CopyToIndex = true
 reads_accumulator _ = false
 
+-- what an operation does depends on X
 abbrev pub reads_index : Operation → Bool
 reads_index (LoadIndirect width) = true
 reads_index (Store Index) = true
@@ -156,7 +162,7 @@ pub record Reads (op : Operation) (s t : State) : Type 0 where
   pub accumulator : reads_accumulator op ≡ true → s.accumulator ≡ t.accumulator
   pub index : reads_index op ≡ true → s.index ≡ t.index
 
--- it puts something into A, or into X
+-- an operation puts something into A
 abbrev pub sets_accumulator : Operation → Bool
 sets_accumulator (LoadAbsolute width) = true
 sets_accumulator (LoadIndirect width) = true
@@ -166,13 +172,15 @@ sets_accumulator Negate = true
 sets_accumulator CopyToAccumulator = true
 sets_accumulator _ = false
 
+-- an operation puts something into X
 abbrev pub sets_index : Operation → Bool
 sets_index (LoadRegister Index source) = true
 sets_index LoadHeaderLength = true
 sets_index CopyToIndex = true
 sets_index _ = false
 
--- what is known of both runs after both did an operation with the same operands
+-- what is known of both runs after both did an operation with the same operands: the register that
+-- it sets is the same in both
 abbrev pub after_both : Operation → ℕ → Both → Both
 after_both op k b = record {
   new = after op k b.new;
@@ -181,7 +189,8 @@ after_both op k b = record {
   same_index = sets_index op || b.same_index;
 }
 
--- after the old run alone did it
+-- what is known of both runs after the old one alone did an operation: the register that it sets
+-- may differ
 abbrev pub after_old : Operation → ℕ → Both → Both
 after_old op k b = record b {
   old = after op k b.old;
@@ -189,7 +198,8 @@ after_old op k b = record b {
   same_index = not (sets_index op) && b.same_index;
 }
 
--- after the new run alone did it
+-- what is known of both runs after the new one alone did an operation: the register that it sets
+-- may differ
 abbrev pub after_new : Operation → ℕ → Both → Both
 after_new op k b = record b {
   new = after op k b.new;
@@ -197,13 +207,14 @@ after_new op k b = record b {
   same_index = not (sets_index op) && b.same_index;
 }
 
--- the term that an operation makes, whose value is there only where the operation doesn't fail
+-- the term that an operation puts into A or X; a load doesn't fail on a packet on which that has a
+-- value
 abbrev pub asked : Operation → ℕ → Registers → Term
 asked LoadHeaderLength k r = HeaderLength k 0
 asked op k r = accumulator_after op k r
 
--- an operation that leads on doesn't fail, and changes no word; a load doesn't where its term has a
--- value
+-- an operation is sure to lead to the next instruction, and changes no word of memory; of a load
+-- `there` says so: that its term has a value
 abbrev pub is_sure : Operation → ℕ → Bool → Bool
 is_sure (LoadAbsolute width) k there = there
 is_sure (LoadIndirect width) k there = there
@@ -220,7 +231,8 @@ is_sure CopyToIndex k there = true
 is_sure CopyToAccumulator k there = true
 is_sure _ k there = false
 
--- what has to be there for a term to have a value
+-- the term that has a value on the same packets as this one: a field without its mask, a header's
+-- length without what is added
 abbrev pub source : Term → Term
 source (Field l) = Field (record l { mask = None })
 source (HeaderLength at more) = HeaderLength at 0
@@ -232,7 +244,7 @@ is_constant (Number k) = true
 is_constant Length = true
 is_constant _ = false
 
--- the test of a register with a number that an operation is
+-- which test of A with the number k an operation is, if it is one
 abbrev pub test_of : Operation → Option Test
 test_of (JumpIf test Constant) = Some test
 test_of _ = None
@@ -242,7 +254,7 @@ abbrev pub is_jump : Operation → Bool
 is_jump Jump = true
 is_jump _ = false
 
--- an operation that leads to the next instruction, or fails
+-- an operation leads to the next instruction, or fails: it is no jump, no test and no return
 abbrev pub leads_on : Operation → Bool
 leads_on Jump = false
 leads_on (JumpIf test operand) = false
@@ -250,6 +262,7 @@ leads_on ReturnConstant = false
 leads_on ReturnAccumulator = false
 leads_on _ = true
 
+-- an operation is one of the two returns
 abbrev pub returns : Operation → Bool
 returns ReturnConstant = true
 returns ReturnAccumulator = true
@@ -261,7 +274,7 @@ is_load (LoadAbsolute width) = true
 is_load (LoadIndirect width) = true
 is_load _ = false
 
--- what is known after both runs loaded one field
+-- what is known of both runs after each loaded the field of this term into A
 abbrev pub after_loads : Term → Both → Both
 after_loads t b = record {
   new = record { accumulator = t; index = b.new.index };

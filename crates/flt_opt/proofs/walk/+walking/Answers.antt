@@ -31,8 +31,8 @@ fork-returns-in-Some t c =
     let op = c.in_ok-decode.field-0 in
     let h = c.side_of_test-hit.ensures in
     let m = c.side_of_test-miss.ensures in
-    let e = c.with_met.ensures in
-    fork_step a.old.now a.goal a.facts.now a.pieces.now a.insn test true a.stage c.side_of_test-hit.result c.side_of_test-miss.result c.with_met.result c.in-Some.one
+    let e = c.stage_after_fork.ensures in
+    fork_step a.old.now a.goal a.facts.now a.pieces.now a.insn test true a.stage c.side_of_test-hit.result c.side_of_test-miss.result c.stage_after_fork.result c.in-Some.one
     c.requires.there
     (ap (λ i. operation_of i.code) (sym c.insn.view_is) ∙ sym c.decode.ensures ∙ c.in_ok-decode.was ∙ ap Some (is_test op test (sym c.test_of.ensures ∙ c.in_ok-test.was)))
     (record { at = h.at; known = h.known; learnt = h.learnt })
@@ -48,8 +48,8 @@ fork-returns t c =
     let op = c.in_ok-decode.field-0 in
     let h = c.side_of_test-hit.ensures in
     let m = c.side_of_test-miss.ensures in
-    let e = c.with_met-2.ensures in
-    fork_step a.old.now a.goal a.facts.now a.pieces.now a.insn test false a.stage c.side_of_test-miss.result c.side_of_test-hit.result c.with_met-2.result c.in_ok-one.one
+    let e = c.stage_after_fork-2.ensures in
+    fork_step a.old.now a.goal a.facts.now a.pieces.now a.insn test false a.stage c.side_of_test-miss.result c.side_of_test-hit.result c.stage_after_fork-2.result c.in_ok-one.one
     c.requires.there
     (ap (λ i. operation_of i.code) (sym c.insn.view_is) ∙ sym c.decode.ensures ∙ c.in_ok-decode.was ∙ ap Some (is_test op test (sym c.test_of.ensures ∙ c.in_ok-test.was)))
     (record { at = m.at; known = m.known; learnt = m.learnt })

@@ -1,5 +1,5 @@
 use Rattle.flt_opt.proofs.Values.{numbers_at}
-use Rattle.flt_opt.proofs.facts.numbers_of.Goals as goal
+use Rattle.flt_opt.proofs.facts.span_of_numbers.Goals as goal
 
 pub returns-then-same_term : goal.returns-then-same_term
 returns-then-same_term c = λ pieces.
