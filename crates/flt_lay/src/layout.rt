@@ -1,5 +1,6 @@
 //! Wide code laid out as instructions, from its end to its beginning, so that all targets of a test
-//! are placed before it is.
+//! are placed before it is. What is laid out is always a whole end of the code: each function here
+//! puts more in front of it.
 
 ghost use Rattle.std.specs.Prelude.{◌≡◌, ◌+◌, ◌-◌, ◌*◌, ◌^◌, ◌<◌, ◌≤◌, ℕ, List, [], ◌∷◌, length};
 ghost use Rattle.std.specs.Prelude.{IfOk, OnOk, count_by};
@@ -19,10 +20,11 @@ use flt_bpf::wide::Wide;
 use std::alloc::{AllocError, Allocator};
 use std::marker::Model;
 
-/// The greatest offset of a conditional jump, since `jt` and `jf` are a byte each.
-const NEAR: usize = 255;
+/// The most instructions that a conditional jump skips, since `jt` and `jf` are a byte each.
+const MOST_OFFSET: usize = 255;
 
-/// How a test reaches its two targets: a far one by a jump right after the test.
+/// How a test reaches its two targets: one that is too far for an offset by a jump (`ja`) right
+/// after the test.
 ///
 ///     Near       test
 ///     YesFar     test (jt 0), ja yes
@@ -52,8 +54,9 @@ struct Targets {
 /// From an instruction that is put in front of these, an offset of 0 leads to place 3.
 #[derive(Drop)]
 struct Layout<A: Allocator> {
+    /// The instructions, from the last to the first.
     backwards: Vec<Insn, A>,
-    /// Where each wide instruction stands, from the last to the first.
+    /// The place of each wide instruction, from the last to the first.
     places: Vec<usize, A>,
 }
 
@@ -69,7 +72,7 @@ impl<A: Allocator> Model for Layout<A> {
     } };
 }
 
-/// The instruction of a wide one, with the offsets `jt` and `jf` instead of its own.
+/// The instruction that a wide one is with these offsets instead of its own.
 fn with_offsets(insn: Wide, jt: u8, jf: u8) -> Insn
     ensures { result ≡ with_offsets insn jt jf }
 {
@@ -92,15 +95,15 @@ impl<A: Allocator> Layout<A> {
         }
     }
 
-    /// The place of the instruction that stands first: how many there are.
+    /// The place of the instruction that is first in the code so far: how many there are.
     fn top(&self) -> usize
         ensures { result ≡ length self.now.code }
     {
         self.backwards.len()
     }
 
-    /// The place of the wide instruction that is `further` ones past the next; past the last it is
-    /// the end, 0.
+    /// The place where a wide instruction that is laid out next leads, if it skips `further` wide
+    /// ones. Past the last of them it is the end, 0.
     fn target_place(&self, further: u32) -> usize
         ensures { result ≡ place_at self.now further }
     {
@@ -113,15 +116,16 @@ impl<A: Allocator> Layout<A> {
     }
 
     /// The offset to a place from an instruction that is put in front: how many it skips. No place
-    /// is above the first one's, so the difference isn't cut off at 0.
+    /// is greater than the first instruction's, so nothing is lost where the difference stops at 0.
     fn distance(&self, place: usize) -> usize
         ensures { result ≡ length self.now.code - place }
     {
         self.top().saturating_sub(place)
     }
 
-    /// The offset to a place from a test, where a jump is still to be put between it and the code.
-    fn distance_past(&self, place: usize) -> usize
+    /// The offset to a place from a test that has a jump after it: it skips that one too. Neither
+    /// is there yet.
+    fn distance_over_jump(&self, place: usize) -> usize
         requires { length self.now.code < 2 ^ 32 }
         ensures { result ≡ length self.now.code + 1 - place }
     {
@@ -150,26 +154,26 @@ impl<A: Allocator> Layout<A> {
         })
     }
 
-    /// Which targets a test that is put in front reaches by a jump, as few as can be. A jump for
+    /// Which targets a test that is put in front needs a jump for: as few as possible. A jump for
     /// one makes the other one farther by an instruction.
     fn test_reach(&self, to: Targets) -> Reach
         requires { length self.now.code < 2 ^ 32 }
         ensures { result ≡ test_reach to.yes to.no self.now.code }
     {
         let (yes, no) = (self.distance(to.yes), self.distance(to.no));
-        if yes <= NEAR && no <= NEAR {
+        if yes <= MOST_OFFSET && no <= MOST_OFFSET {
             Reach::Near
-        } else if self.distance_past(to.no) <= NEAR {
+        } else if self.distance_over_jump(to.no) <= MOST_OFFSET {
             Reach::YesFar
-        } else if self.distance_past(to.yes) <= NEAR {
+        } else if self.distance_over_jump(to.yes) <= MOST_OFFSET {
             Reach::NoFar
         } else {
             Reach::BothFar
         }
     }
 
-    /// Puts a test in front that goes on at one of two places, with the jumps that it needs after
-    /// it: three instructions at most, which the clause leaves room for in 32 bits.
+    /// Puts a test in front that goes on at one of two places, and right after it the jumps that it
+    /// needs: three instructions at most, for which the clause leaves room in 32 bits.
     #[tactic(auto, unfolding(crate::specs::inside::Layout::with_test))]
     fn emit_test(&mut self, insn: Wide, to: Targets) -> Result<(), AllocError>
         requires { length self.old.code + 3 < 2 ^ 32 }
@@ -186,6 +190,7 @@ impl<A: Allocator> Layout<A> {
                 self.emit_jump(to.no)?;
                 (self.distance(to.yes), 0)
             }
+            // The code grows from its end, so the jump that comes last is put first.
             Reach::BothFar => {
                 self.emit_jump(to.no)?;
                 self.emit_jump(to.yes)?;
@@ -195,7 +200,7 @@ impl<A: Allocator> Layout<A> {
         self.emit(with_offsets(insn, jt as u8, jf as u8))
     }
 
-    /// Adds the place of the wide instruction that was laid out last: where the code begins now.
+    /// Notes the place of the wide instruction that was laid out last: where the code begins now.
     fn push_place(&mut self) -> Result<(), AllocError>
         ensures { OnOk result (self.new ≡ with_entry self.old.code self.old) }
     {
@@ -204,9 +209,9 @@ impl<A: Allocator> Layout<A> {
         Ok(())
     }
 
-    /// Lays one more wide instruction out in front: a test or a jump with new offsets to the places
-    /// of its targets, another one as it is.
-    fn put(&mut self, insn: Wide) -> Result<(), AllocError>
+    /// Lays out one more wide instruction in front, and notes its place: a test or a jump with new
+    /// offsets to the places of its targets, another one as it is.
+    fn lay_insn(&mut self, insn: Wide) -> Result<(), AllocError>
         requires { length self.old.code + 3 < 2 ^ 32 }
         ensures { OnOk result (self.new ≡ put insn self.old) }
     {
@@ -238,15 +243,16 @@ impl<A: Allocator> Layout<A> {
 }
 
 impl<A: Allocator + Clone> Layout<A> {
-    /// All of some wide code, laid out from its last instruction to its first. Each becomes three
-    /// at most, so of fewer than 2^30 the places fit 32 bits.
+    /// The layout of wide code, made from its last instruction to its first. Each becomes three at
+    /// most, so of fewer than 2^30 the places fit 32 bits. An error is a failed allocation, or an
+    /// allocator that cannot be cloned.
     fn of_wide(alloc: A, wide: &[Wide]) -> Result<Self, AllocError>
         requires { length wide.now < 2 ^ 30 }
         ensures { IfOk result (λ layout. layout ≡ placed_code wide.now) }
     {
         let mut layout = Layout::new(alloc.clone()?, alloc);
         for at in (0..wide.len()).rev() {
-            layout.put(wide[at])?;
+            layout.lay_insn(wide[at])?;
         }
         Ok(layout)
     }
@@ -255,7 +261,8 @@ impl<A: Allocator + Clone> Layout<A> {
 /// The instructions of wide code, which give the same answers. A target that is more than 255
 /// instructions past the one after its test is reached by a jump (`ja`), so a test costs at most
 /// two of them. Jumps of the wide code itself are kept. With fewer than 2^30 wide instructions the
-/// number of any jump fits its 32 bits.
+/// number of any jump fits its 32 bits. Code that breaks no rule breaks none once it is laid out,
+/// but for that on the length: it may have grown.
 ///
 /// An error is a failed allocation, or an allocator that cannot be cloned.
 pub fn laid_out<A: Allocator + Clone>(alloc: A, wide: &[Wide]) -> Result<Vec<Insn, A>, AllocError>

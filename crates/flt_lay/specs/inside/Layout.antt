@@ -1,4 +1,6 @@
--- Wide code laid out as instructions, from its end to its beginning.
+-- Wide code laid out as instructions, from its end to its beginning. A place is the number of
+-- instructions from there to the end; `hit` and `miss` are the places where a test leads if it
+-- holds and if it doesn't, and `c` is the code that is laid out so far.
 use Rattle.std.specs.Prelude.{ℕ, ◌+◌, ◌-◌, nat_le, ◌&&◌, if◌then◌else◌, List, [], ◌∷◌, length, slice_index, Option, Some}
 use Rattle.flt_bpf.specs.declared.insn.Insn.{Insn}
 use Rattle.flt_bpf.specs.declared.operation.Operation.{Operation}
@@ -8,60 +10,64 @@ use Rattle.flt_bpf.specs.Layout.{JUMP, MOST_OFFSET}
 use Rattle.flt_lay.specs.declared.layout.Reach.{Reach}
 use Rattle.flt_lay.specs.declared.layout.Reach.TheVariants.{Near, YesFar, NoFar, BothFar}
 
--- what is laid out so far: the code, and the place of each instruction of the wide code, first to
--- last. A place is the number of instructions from there to the end
+-- what is laid out so far: the code, and the place of each instruction of the wide code, from the
+-- first to the last
 pub record PlacedCode : Type 0 where
   pub code : List Insn
   pub places : List ℕ
 
--- the place of the wide instruction `further` past the next one; past the last it is the end
+-- the place where a wide instruction leads that is laid out next and skips `further` ones; past the
+-- last it is the end, 0
 abbrev pub place_at : PlacedCode → ℕ → ℕ
 place_at l further = slice_index l.places further
 
--- an instruction with other offsets
+-- an instruction with these offsets instead of its own
 abbrev pub with_offsets : Insn → ℕ → ℕ → Insn
 with_offsets i jt jf = record { code = i.code; jt = jt; jf = jf; k = i.k }
 
--- a jump to a place
+-- code with a jump to a place put in front
 abbrev pub with_jump : ℕ → List Insn → List Insn
 with_jump to c = record { code = JUMP; jt = 0; jf = 0; k = length c - to } ∷ c
 
--- how a test reaches its two places: one that is too far by a jump right after the test
+-- how a test that is put in front reaches its two places: one that is too far for an offset by a
+-- jump right after the test, as few as possible
 abbrev pub test_reach : ℕ → ℕ → List Insn → Reach
 test_reach hit miss c =
     if nat_le (length c - hit) MOST_OFFSET && nat_le (length c - miss) MOST_OFFSET then Near
     else (if nat_le (length c + 1 - miss) MOST_OFFSET then YesFar
     else (if nat_le (length c + 1 - hit) MOST_OFFSET then NoFar else BothFar))
 
+-- code with a test put in front that reaches its two places so
 abbrev pub with_test_by : Reach → Insn → ℕ → ℕ → List Insn → List Insn
 with_test_by Near i hit miss c = with_offsets i (length c - hit) (length c - miss) ∷ c
 with_test_by YesFar i hit miss c = with_offsets i 0 (length c + 1 - miss) ∷ with_jump hit c
 with_test_by NoFar i hit miss c = with_offsets i (length c + 1 - hit) 0 ∷ with_jump miss c
 with_test_by BothFar i hit miss c = with_offsets i 0 1 ∷ with_jump hit (with_jump miss c)
 
--- a test that goes on at one of two places
+-- code with a test put in front that goes on at one of two places, and the jumps that it needs
+-- right after it
 unfoldable pub with_test : Insn → ℕ → ℕ → List Insn → List Insn
 with_test i hit miss c = with_test_by (test_reach hit miss c) i hit miss c
 
--- a wide instruction with this operation, in front of what is laid out
+-- the code with a wide instruction, which has this operation, laid out in front
 abbrev pub with_insn : Option Operation → Insn → PlacedCode → List Insn
 with_insn (Some (JumpIf test operand)) i l = with_test i (place_at l i.jt) (place_at l i.jf) l.code
 with_insn (Some Jump) i l = with_jump (place_at l i.k) l.code
 with_insn _ i l = with_offsets i 0 0 ∷ l.code
 
--- what is laid out is now this code, in which one more wide instruction stands first
+-- what is laid out is now this code, in which one more wide instruction comes first
 abbrev pub with_entry : List Insn → PlacedCode → PlacedCode
 with_entry c l = record { code = c; places = length c ∷ l.places }
 
--- one more wide instruction in front
+-- one more wide instruction laid out in front, with its place noted
 abbrev pub put : Insn → PlacedCode → PlacedCode
 put i l = with_entry (with_insn (operation_of i.code) i l) l
 
--- all of some wide code
+-- wide code, laid out from its last instruction to its first
 abbrev pub placed_code : List Insn → PlacedCode
 placed_code [] = record { code = []; places = [] }
 placed_code (i ∷ is) = put i (placed_code is)
 
--- the instructions of wide code
+-- the instructions that wide code is once it is laid out
 abbrev pub laid_out : List Insn → List Insn
 laid_out wide = (placed_code wide).code

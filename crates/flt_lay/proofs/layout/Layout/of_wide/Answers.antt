@@ -4,6 +4,6 @@ use Rattle.flt_lay.specs.inside.Layout.{PlacedCode}
 use Rattle.flt_lay.proofs.Counted.{threefold}
 use Rattle.flt_lay.proofs.layout.Layout.of_wide.Goals as goal
 
-pub put-requires : goal.put-requires
-put-requires g c =
+pub lay_insn-requires : goal.lay_insn-requires
+lay_insn-requires g c =
     omega (arith, ap (λ (l : PlacedCode). length l.code) c.loop-at.invariant, threefold (drop c.loop-at.at c.args.wide.now), length-drop c.loop-at.at c.args.wide.now, c.requires)
