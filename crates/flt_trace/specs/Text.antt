@@ -15,21 +15,21 @@ use Rattle.flt_bpf.specs.declared.operation.Test.TheVariants.{Equal, Greater, At
 use Rattle.flt_bpf.specs.declared.operation.Operand.TheVariants.{Constant, IndexRegister}
 use Rattle.flt_bpf.specs.Instructions.{operation_of}
 
--- a number of 32 bits as C's %d prints it
+-- a number of 32 bits as C's %d prints it: from 2^31 on with a minus sign (45), less by 2^32
 unfoldable pub signed_number : ℕ → List ℕ
 signed_number k = if nat_lt k (2 ^ 31) then decimal k else 45 ∷ decimal (2 ^ 32 - k)
 
--- a number as C's %x prints it
+-- a number as C's %x prints it: in small letters, without leading zeros
 abbrev pub hex : ℕ → List ℕ
 hex k = digits 16 false k
 
--- the names of operations: of a load of this many bytes into A, of arithmetic, of a conditional
--- jump
+-- the name of a load of this many bytes of the packet into A
 abbrev pub load_name : Width → List ℕ
 load_name Word = codes "ld"
 load_name HalfWord = codes "ldh"
 load_name Byte = codes "ldb"
 
+-- the name of an operation of arithmetic
 abbrev pub arithmetic_name : AluOperation → List ℕ
 arithmetic_name Add = codes "add"
 arithmetic_name Subtract = codes "sub"
@@ -42,13 +42,14 @@ arithmetic_name ShiftRight = codes "rsh"
 arithmetic_name Remainder = codes "mod"
 arithmetic_name ExclusiveOr = codes "xor"
 
+-- the name of a conditional jump with this test
 abbrev pub test_name : Test → List ℕ
 test_name Equal = codes "jeq"
 test_name Greater = codes "jgt"
 test_name AtLeast = codes "jge"
 test_name AnyBit = codes "jset"
 
--- and of any operation
+-- the name of an operation
 abbrev pub operation_name : Operation → List ℕ
 operation_name (LoadAbsolute width) = load_name width
 operation_name (LoadIndirect width) = load_name width
@@ -66,14 +67,15 @@ operation_name ReturnAccumulator = codes "ret"
 operation_name CopyToIndex = codes "tax"
 operation_name CopyToAccumulator = codes "txa"
 
--- the constant of arithmetic: the bits of a mask are hexadecimal
+-- the constant of an operation of arithmetic: of one on bits in hexadecimal, else in decimal
 abbrev pub constant_text : AluOperation → ℕ → List ℕ
 constant_text Or k = codes "#0x" ++ hex k
 constant_text And k = codes "#0x" ++ hex k
 constant_text ExclusiveOr k = codes "#0x" ++ hex k
 constant_text _ k = codes "#" ++ signed_number k
 
--- what an operation works on, where it is at a place in a program
+-- what an operation with the number k works on, where it is at a place in a program; of a jump the
+-- place of its target
 abbrev pub operand_text : Operation → ℕ → ℕ → List ℕ
 operand_text (LoadAbsolute width) k place = codes "[" ++ (signed_number k ++ codes "]")
 operand_text (LoadIndirect width) k place = codes "[x + " ++ (signed_number k ++ codes "]")
@@ -93,24 +95,25 @@ operand_text ReturnAccumulator k place = []
 operand_text CopyToIndex k place = []
 operand_text CopyToAccumulator k place = []
 
--- a text with blanks after it, up to a width
+-- a text with blanks (32) after it, up to a width
 abbrev pub filled_text : ℕ → List ℕ → List ℕ
 filled_text width text = text ++ replicate (width - length text) 32
 
--- a number of at least three digits
+-- a number in decimal, with zeros (48) before it up to three digits
 abbrev pub three_digits : ℕ → List ℕ
 three_digits n = replicate (3 - length (decimal n)) 48 ++ decimal n
 
--- the place of an instruction and its name
+-- what the line of an instruction begins with: its place and its name, in a column of 8 bytes
 abbrev pub front_text : ℕ → List ℕ → List ℕ
 front_text place name =
     codes "(" ++ (three_digits place ++ (codes ") " ++ (filled_text 8 name ++ codes " ")))
 
--- what a conditional jump works on, and where it leads
+-- what a conditional jump works on, in a column of 16 bytes, and the places of its two targets
 abbrev pub branch_text : List ℕ → ℕ → ℕ → List ℕ
 branch_text operand target other =
     filled_text 16 operand ++ (codes " jt " ++ (decimal target ++ (codes "\tjf " ++ decimal other)))
 
+-- the line of an instruction with this operation; without one its code is shown as a number
 abbrev pub operation_text : Option Operation → Insn → ℕ → List ℕ
 operation_text None i place = front_text place (codes "unimp") ++ (codes "0x" ++ hex i.code)
 operation_text (Some (JumpIf test operand)) i place =
@@ -120,6 +123,6 @@ operation_text (Some (JumpIf test operand)) i place =
 operation_text (Some operation) i place =
     front_text place (operation_name operation) ++ operand_text operation i.k place
 
--- an instruction at a place in a program
+-- the line of an instruction at a place in a program
 unfoldable pub insn_text : Insn → ℕ → List ℕ
 insn_text i place = operation_text (operation_of i.code) i place

@@ -1,15 +1,16 @@
--- The steps of a run, as a caller sees them.
+-- The steps of a run, as a caller sees them. Here `p` is the captured bytes of a packet, and `n`
+-- its original length.
 use Rattle.std.specs.Prelude.{◌≡◌, ℕ, ◌<◌, ◌≤◌, List, length, slice_get, IsSomeAnd}
 use Rattle.flt_bpf.specs.declared.insn.Insn.{Insn}
 use Rattle.flt_bpf.specs.declared.machine.State.{State}
 use Rattle.flt_bpf.specs.Machine.{Stands, Answered, machine}
 use Rattle.flt_trace.specs.declared.steps.Step.{Step}
 
--- the machine's state that a step shows
+-- the machine's state that a step shows: its registers and memory
 abbrev pub step_state : Step → State
 step_state s = record { accumulator = s.accumulator; index = s.index; memory = s.memory }
 
--- the run of a program on a packet of original length n is there after t instructions
+-- after t instructions the run of a program is where a step says, in the state that it shows
 abbrev pub IsAfter : List Insn → List ℕ → ℕ → ℕ → Step → Type 0
 IsAfter prog p n t s = machine prog p n t ≡ Stands s.place (step_state s)
 

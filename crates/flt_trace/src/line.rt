@@ -1,4 +1,5 @@
-//! A buffer for one line of text, in place, so that no memory is taken.
+//! A buffer for one line of text, in place, so that no memory is taken. What is appended has to
+//! fit: the clauses ask for the room, of 80 bytes in all.
 
 ghost use Rattle.std.specs.Prelude.{◌≡◌, ◌≤◌, ◌<◌, drop};
 ghost use Rattle.std.specs.Fmt.{digit_glyph};
@@ -14,6 +15,7 @@ const ROOM: usize = 80;
 /// A text of at most 80 bytes, in place. Contracts see it as its bytes.
 #[derive(Drop)]
 pub struct Line {
+    /// The first `len` are the text; the others mean nothing.
     bytes: [u8; ROOM],
     len: usize,
 }
@@ -99,7 +101,8 @@ impl Line {
         self.push_all(buffer.format(number).as_bytes());
     }
 
-    /// Appends a number in decimal as C's `%d` does: from 2^31 on it is negative.
+    /// Appends a number in decimal as C's `%d` does: from 2^31 on it is a negative one, less by
+    /// 2^32.
     #[tactic(auto, unfolding(crate::specs::Text::signed_number))]
     pub(crate) fn push_signed(&mut self, number: u32)
         requires { length self.old + 11 ≤ 80 }
@@ -126,7 +129,8 @@ impl Line {
     }
 }
 
-/// The ASCII byte of a hexadecimal digit, from 0 to 15: a small letter from 10 on.
+/// The ASCII byte of a hexadecimal digit, from 0 to 15: a small letter from 10 on (`false` in the
+/// clause: no capitals).
 fn hex_digit(digit: u32) -> u8
     requires { digit < 16 }
     ensures { result ≡ digit_glyph false digit }
@@ -138,7 +142,8 @@ fn hex_digit(digit: u32) -> u8
     }
 }
 
-/// Puts a number in hexadecimal at the end of the bytes, and returns the index of its first digit.
+/// Puts a number in hexadecimal, without leading zeros, at the end of the eight bytes, and returns
+/// the index of its first digit.
 fn put_hex(digits: &mut [u8; 8], number: u32) -> usize
     ensures value { drop result digits.new ≡ hex number }
     ensures inside { result ≤ 8 }

@@ -1,5 +1,5 @@
 //! The name of an instruction, and what it works on, as libpcap's `bpf_image` writes them. The room
-//! that the clauses ask for is the length of the longest such text.
+//! that the clauses ask for in the line's 80 bytes is the length of the longest such text.
 
 ghost use Rattle.std.specs.Prelude.{◌≡◌, ◌+◌, ◌≤◌, ◌++◌, length};
 ghost use Rattle.flt_trace.specs.Text.{arithmetic_name, constant_text, load_name, operation_name};
@@ -21,7 +21,7 @@ fn load_name(width: Width) -> &'static str
     }
 }
 
-/// The name of an operation of arithmetic.
+/// The name of an operation of arithmetic, with k or with X.
 fn arithmetic_name(operator: AluOperation) -> &'static str
     ensures name { result.now ≡ arithmetic_name operator }
     ensures short { length result.now ≤ 3 }
@@ -40,7 +40,7 @@ fn arithmetic_name(operator: AluOperation) -> &'static str
     }
 }
 
-/// The name of a conditional jump.
+/// The name of a conditional jump with this test.
 pub(crate) fn test_name(test: Test) -> &'static str
     ensures name { result.now ≡ test_name test }
     ensures short { length result.now ≤ 4 }
@@ -53,7 +53,7 @@ pub(crate) fn test_name(test: Test) -> &'static str
     }
 }
 
-/// The name of an operation.
+/// The name of an operation, which the line begins with.
 pub(crate) fn operation_name(operation: Operation) -> &'static str
     ensures name { result.now ≡ operation_name operation }
     ensures short { length result.now ≤ 4 }
@@ -75,8 +75,9 @@ pub(crate) fn operation_name(operation: Operation) -> &'static str
     }
 }
 
-/// Appends a number, in decimal and signed as `%d` has it, between two texts.
-fn push_between(line: &mut Line, before: &[u8], number: u32, following: &[u8])
+/// Appends a number between two texts: in decimal, signed as C's `%d` has it, so with 11 bytes at
+/// most.
+fn push_number_between(line: &mut Line, before: &[u8], number: u32, following: &[u8])
     requires { length line.old + length before.now + 11 + length following.now ≤ 80 }
     ensures value { line.new ≡ line.old ++ (before.now ++ (signed_number number ++ following.now)) }
     ensures bound { length line.new ≤ length line.old + length before.now + 11
@@ -87,8 +88,8 @@ fn push_between(line: &mut Line, before: &[u8], number: u32, following: &[u8])
     line.push_all(following);
 }
 
-/// Appends a number that is loaded, compared or masked with, in hexadecimal: `#0x800`.
-fn push_in_hex(line: &mut Line, number: u32)
+/// Appends a constant that is loaded, compared or masked with, in hexadecimal: `#0x800`.
+fn push_k_in_hex(line: &mut Line, number: u32)
     requires { length line.old + 11 ≤ 80 }
     ensures value { line.new ≡ line.old ++ (codes "#0x" ++ hex number) }
     ensures bound { length line.new ≤ length line.old + 11 }
@@ -97,8 +98,8 @@ fn push_in_hex(line: &mut Line, number: u32)
     line.push_hex(number);
 }
 
-/// Appends a number that is returned or calculated with, in decimal and signed: `#14`.
-fn push_in_decimal(line: &mut Line, number: u32)
+/// Appends a constant that is returned or calculated with, in decimal and signed: `#14`.
+fn push_k_in_decimal(line: &mut Line, number: u32)
     requires { length line.old + 12 ≤ 80 }
     ensures value { line.new ≡ line.old ++ (codes "#" ++ signed_number number) }
     ensures bound { length line.new ≤ length line.old + 12 }
@@ -107,21 +108,21 @@ fn push_in_decimal(line: &mut Line, number: u32)
     line.push_signed(number);
 }
 
-/// Appends the constant of arithmetic: of `or`, `and` and `xor`, which work on bits, in
-/// hexadecimal, else in decimal.
-fn push_constant(line: &mut Line, operator: AluOperation, k: u32)
+/// Appends the constant of an operation of arithmetic: of `or`, `and` and `xor`, which work on
+/// bits, in hexadecimal, else in decimal.
+fn push_k_of_arithmetic(line: &mut Line, operator: AluOperation, k: u32)
     requires { length line.old + 12 ≤ 80 }
     ensures value { line.new ≡ line.old ++ constant_text operator k }
     ensures bound { length line.new ≤ length line.old + 12 }
 {
     match operator {
-        AluOperation::Or | AluOperation::And | AluOperation::ExclusiveOr => push_in_hex(line, k),
-        _ => push_in_decimal(line, k),
+        AluOperation::Or | AluOperation::And | AluOperation::ExclusiveOr => push_k_in_hex(line, k),
+        _ => push_k_in_decimal(line, k),
     }
 }
 
-/// Appends what an operation works on, where that is named: `[12]`, `#14`, `x`, or of a jump the
-/// place of its target, for which `place` is that of the instruction in the program, from 0.
+/// Appends what an operation works on: `[12]`, `#14`, `x`; nothing where its name says it all. Of a
+/// jump it is the place of the target in the program: `place` is that of the instruction, from 0.
 pub(crate) fn push_operand(line: &mut Line, operation: Operation, k: u32, place: u32)
     requires { length line.old + 21 ≤ 80 }
     ensures value { line.new ≡ line.old ++ operand_text operation k place }
@@ -129,16 +130,16 @@ pub(crate) fn push_operand(line: &mut Line, operation: Operation, k: u32, place:
 {
     use Operation::*;
     match operation {
-        LoadAbsolute(_) => push_between(line, b"[", k, b"]"),
-        LoadIndirect(_) => push_between(line, b"[x + ", k, b"]"),
-        Load(_, Source::Immediate) | JumpIf(_, Operand::Constant) => push_in_hex(line, k),
-        Load(_, Source::Memory) | Store(_) => push_between(line, b"M[", k, b"]"),
+        LoadAbsolute(_) => push_number_between(line, b"[", k, b"]"),
+        LoadIndirect(_) => push_number_between(line, b"[x + ", k, b"]"),
+        Load(_, Source::Immediate) | JumpIf(_, Operand::Constant) => push_k_in_hex(line, k),
+        Load(_, Source::Memory) | Store(_) => push_number_between(line, b"M[", k, b"]"),
         Load(_, Source::Length) => line.push_all(b"#pktlen"),
-        LoadHeaderLength => push_between(line, b"4*([", k, b"]&0xf)"),
-        Compute(operator, Operand::Constant) => push_constant(line, operator, k),
+        LoadHeaderLength => push_number_between(line, b"4*([", k, b"]&0xf)"),
+        Compute(operator, Operand::Constant) => push_k_of_arithmetic(line, operator, k),
         Compute(_, Operand::IndexRegister) | JumpIf(_, Operand::IndexRegister) => line.push(b'x'),
         Jump => line.push_decimal(u64::from(place) + 1 + u64::from(k)),
-        ReturnConstant => push_in_decimal(line, k),
+        ReturnConstant => push_k_in_decimal(line, k),
         Negate | ReturnAccumulator | CopyToIndex | CopyToAccumulator => {}
     }
 }

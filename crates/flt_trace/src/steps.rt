@@ -35,15 +35,15 @@ pub struct Step {
 /// Where an instruction leads, as in the machine of `flt_bpf`.
 #[derive(Clone, Copy)]
 pub(crate) enum Flow {
-    /// How many instructions past the next one.
+    /// Past this many instructions after it.
     Further(u32),
-    /// To the end of the run, which returns this.
+    /// To the end of the run, which returns this number.
     End(u32),
 }
 
 impl Step {
-    /// Puts a number into a register and goes on; where there is none, the run ends with 0. The
-    /// place isn't moved, here and in `store`: `trace` does it.
+    /// Puts a number into a register and goes on; without a number, as of a load past the captured
+    /// bytes, the run ends and returns 0. The place stays, here and in `store`: `trace` moves it.
     fn set_or_end(&mut self, register: Register, number: Option<u32>) -> Flow
         ensures leads { flow_next result self.new ≡ into register number (step_state self.old) }
         ensures place { self.new.place ≡ self.old.place }
@@ -58,7 +58,7 @@ impl Step {
         Flow::Further(0)
     }
 
-    /// Puts what a register has into the word M[k].
+    /// Puts what a register holds into the word M[k], and goes on.
     fn store(&mut self, register: Register, k: u32) -> Flow
         requires { k < 16 }
         ensures leads { flow_next result self.new
@@ -72,8 +72,8 @@ impl Step {
         Flow::Further(0)
     }
 
-    /// The second number of arithmetic or of a test: k or X.
-    fn operand(&self, operand: Operand, k: u32) -> u32
+    /// The second number of arithmetic or of a test, by what its operand is: k or X.
+    fn operand_value(&self, operand: Operand, k: u32) -> u32
         ensures { result ≡ operand_value operand k self.now.index }
     {
         match operand {
@@ -83,7 +83,8 @@ impl Step {
     }
 }
 
-/// The big-endian number in the packet at a place, from 0, or `None` where it isn't all captured.
+/// The big-endian number of this width in the packet at the byte `at`, from 0, or `None` where it
+/// isn't all captured.
 fn field(packet: &[u8], at: u32, width: Width) -> Option<u32>
     ensures { result ≡ field packet.now at width }
 {
@@ -96,7 +97,7 @@ fn field(packet: &[u8], at: u32, width: Width) -> Option<u32>
     }
 }
 
-/// Whether a test holds of A and another number, `b`.
+/// Whether a test holds of what A holds, `a`, and its operand, `b`.
 fn test_holds(test: Test, a: u32, b: u32) -> bool
     ensures { result ≡ test_holds test a b }
 {
@@ -108,8 +109,10 @@ fn test_holds(test: Test, a: u32, b: u32) -> bool
     }
 }
 
-/// What one instruction of a valid program does to the registers and the memory, on a packet of
-/// original length `len`, and where it leads. The step's place isn't moved.
+/// Does one instruction on a packet of original length `len`: changes the registers and the memory
+/// of `state`, and returns where the instruction leads. The place stays. The clause asks that the
+/// instruction breaks no rule, with whatever number of instructions after it: in a valid program
+/// none does.
 #[tactic(auto, unfolding(flt_bpf::specs::Machine::step, flt_bpf::specs::Check::fault_of))]
 fn execute(insn: &Insn, packet: &[u8], len: u32, state: &mut Step) -> Flow
     requires { (following : ℕ) × (fault_of insn.now following ≡ None) }
@@ -142,13 +145,13 @@ fn execute(insn: &Insn, packet: &[u8], len: u32, state: &mut Step) -> Flow
         }
         Store(register) => state.store(register, k),
         Compute(operator, operand) => {
-            let number = state.operand(operand, k);
+            let number = state.operand_value(operand, k);
             state.set_or_end(Accumulator, compute(operator, a, number))
         }
         Negate => state.set_or_end(Accumulator, Some(a.wrapping_neg())),
         Jump => Flow::Further(k),
         JumpIf(test, operand) => {
-            let is_true = test_holds(test, a, state.operand(operand, k));
+            let is_true = test_holds(test, a, state.operand_value(operand, k));
             Flow::Further(u32::from(if is_true { insn.jt } else { insn.jf }))
         }
         ReturnConstant => Flow::End(k),
@@ -158,7 +161,7 @@ fn execute(insn: &Insn, packet: &[u8], len: u32, state: &mut Step) -> Flow
     }
 }
 
-/// Writes a step at an index of the caller's array. Past its end nothing is written.
+/// Writes a step at an index of the caller's array, or nothing where the array ends before it.
 fn put_step(steps: &mut [Step], at: usize, step: &Step)
     ensures { steps.new ≡ slice_set steps.old at step.now }
 {
@@ -167,10 +170,10 @@ fn put_step(steps: &mut [Step], at: usize, step: &Step)
     }
 }
 
-/// Runs a valid program on a packet of original length `len`, and writes what the run is before
-/// each instruction that it meets, from the first one on, as far as there is room. Returns what the
-/// program returns, and how many instructions the run met, which may be more than there is room
-/// for.
+/// Runs a valid program on a packet of original length `len`, and writes into `steps` what the run
+/// is before each instruction that it meets, from the first one on, as far as there is room.
+/// Returns what the program returns, and how many instructions the run met, which may be more than
+/// there is room for.
 pub fn trace(insns: &[Insn], packet: &[u8], len: u32, steps: &mut [Step]) -> (u32, usize)
     requires { IsValid insns.now }
     ensures { Traces insns.now packet.now len steps.old steps.new result.0 result.1 }

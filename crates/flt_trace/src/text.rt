@@ -1,6 +1,7 @@
 //! Instructions, as `tcpdump -d` prints them: `(000) ldh      [12]`, or for a test
 //! `(001) jeq      #0x800           jt 2\tjf 5`. libpcap's `bpf_image` fills the name up to 8 bytes
-//! and the operand of a test up to 16.
+//! with blanks, and the operand of a test up to 16. In clauses 80 is the room of a line, and 32 a
+//! blank.
 
 ghost use Rattle.std.specs.Prelude.{◌≡◌, ◌+◌, ◌-◌, ◌≤◌, ◌++◌, [], codes, length, replicate};
 ghost use Rattle.flt_trace.specs.Text.{branch_text, front_text, hex, insn_text, operand_text};
@@ -12,7 +13,8 @@ use flt_bpf::Insn;
 use flt_bpf::operation::{Operation, decode};
 use itoa::Buffer;
 
-/// Appends blanks until what begins at `start` has `width` bytes; none if it has as many already.
+/// Appends blanks until the line has `width` bytes from the index `start` on; none if it has as
+/// many already.
 fn pad_to_width(line: &mut Line, start: usize, width: usize)
     requires inside { start ≤ length line.old }
     requires room { start + width ≤ 80 }
@@ -22,7 +24,7 @@ fn pad_to_width(line: &mut Line, start: usize, width: usize)
     line.push_times(b' ', width.saturating_sub(len));
 }
 
-/// Appends a number in decimal, of three digits at least: with zeros before it.
+/// Appends a number in decimal, of three digits at least: with zeros before it (C's `%03d`).
 fn push_three_digits(line: &mut Line, number: u32)
     requires { length line.old + 10 ≤ 80 }
     ensures value { line.new ≡ line.old ++ three_digits number }
@@ -46,7 +48,8 @@ fn push_name(line: &mut Line, name: &str)
     pad_to_width(line, start, 8);
 }
 
-/// The line of an instruction up to its operand: its place, from 0, and its name.
+/// The line of an instruction up to its operand: its place in the program, from 0, and its name, as
+/// in `(000) ldh      `. With a place of 10 digits it has 22 bytes.
 fn line_front(place: u32, name: &str) -> Line
     requires { length name.now ≤ 8 }
     ensures value { result ≡ front_text place name.now }
@@ -61,8 +64,8 @@ fn line_front(place: u32, name: &str) -> Line
     line
 }
 
-/// Appends the operand of a conditional jump, in a column of 16 bytes, and the places of its two
-/// targets in the program, where the jump itself is at `place`.
+/// Appends to what `line_front` begins the operand of a conditional jump, in a column of 16 bytes,
+/// and the places of its two targets in the program, where the jump itself is at `place`.
 fn push_branch(line: &mut Line, operation: Operation, insn: &Insn, place: u32)
     requires { length line.old ≤ 22 }
     ensures { line.new ≡ line.old ++ branch_text (operand_text operation insn.now.k place)
@@ -90,6 +93,7 @@ pub fn insn_text(insn: &Insn, place: u32) -> Line
     ensures { result ≡ insn_text insn.now place }
 {
     let Some(operation) = decode(insn.code) else {
+        // A code of no operation is shown as a number.
         let mut line = line_front(place, "unimp");
         line.push_all(b"0x");
         line.push_hex(u32::from(insn.code));
