@@ -27,7 +27,7 @@ has_zero_divisor (applied o a b) =
     has_zero_divisor a || (has_zero_divisor b || is_division o && is_zero b)
 has_zero_divisor _ = false
 
--- the same of a primitive: only comparisons have arithmetic
+-- some divisor in a primitive is the number 0 as it is written; only comparisons have arithmetic
 abbrev pub divides_by_zero : TruthTree → Bool
 divides_by_zero (compared c a b) = has_zero_divisor a || has_zero_divisor b
 divides_by_zero _ = false

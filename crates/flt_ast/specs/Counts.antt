@@ -22,13 +22,14 @@ abbrev pub side_tests : Direction → ℕ → ℕ
 side_tests (direction.One s) n = n
 side_tests (direction.Both j) n = n + n
 
--- the check of the protocol above, and the number; without a protocol for IPv4 or for IPv6
+-- the tests of a protocol number: the EtherType and the number, without a protocol for IPv4 and for
+-- IPv6
 abbrev pub proto_tests : Option Protocol → ℕ
 proto_tests None = (1 + 1) + (1 + 1)
 proto_tests (Some p) = 1 + 1
 
--- `tcp` and `udp` mean `proto 6` and `proto 17`, `icmp` for `ip proto 1`, `icmp6` for `ip6 proto
--- 58`
+-- the tests of a protocol alone: `tcp` and `udp` mean `proto 6` and `proto 17`, `icmp` means `ip
+-- proto 1`, `icmp6` means `ip6 proto 58`
 abbrev pub check_tests : Protocol → ℕ
 check_tests protocol.Tcp = proto_tests None
 check_tests protocol.Udp = proto_tests None
@@ -36,16 +37,17 @@ check_tests protocol.Icmp = proto_tests (Some protocol.Ip)
 check_tests protocol.Icmp6 = proto_tests (Some protocol.Ip6)
 check_tests _ = 1
 
--- a MAC address is tested as four bytes and two
+-- the tests of a MAC address: that the link is Ethernet, and each side as four bytes and two
 abbrev pub ether_tests : Direction → ℕ
 ether_tests d = 1 + side_tests d 2
 
--- `broadcast` means a destination, a multicast is one test
+-- the tests of `broadcast`, a MAC address of the destination, and of `multicast`: the protocol, and
+-- one bit or byte
 abbrev pub cast_tests : Cast → ℕ
 cast_tests casts.Broadcast = ether_tests (direction.One Destination)
 cast_tests casts.Multicast = 1 + 1
 
--- an IPv4 address, which without a protocol may be of IPv4, ARP or RARP
+-- the tests of an IPv4 address, which without a protocol may be of IPv4, ARP or RARP
 abbrev pub ip4_tests : Option Protocol → Direction → ℕ
 ip4_tests None d = (1 + side_tests d 1) + (1 + side_tests d 1) + (1 + side_tests d 1)
 ip4_tests (Some p) d = 1 + side_tests d 1
@@ -54,23 +56,24 @@ ip4_tests (Some p) d = 1 + side_tests d 1
 abbrev pub ip6_test_count : Direction → ℕ
 ip6_test_count d = 1 + side_tests d 4
 
--- the protocol above is TCP, UDP, or either
+-- the tests of the transport protocol: TCP, UDP, or both where none is named
 abbrev pub transport_tests : Option Protocol → ℕ
 transport_tests None = 2
 transport_tests (Some p) = 1
 
--- ports over IPv4, where the packet is no later fragment, or over IPv6, n tests a side
+-- the tests of ports over IPv4, where the packet is no later fragment, and over IPv6, n tests a
+-- side
 abbrev pub port_tests : Option Protocol → Direction → ℕ → ℕ
 port_tests p d n =
     (1 + transport_tests p + 1 + side_tests d n) + (1 + transport_tests p + side_tests d n)
 
--- an address or a network, by its kind
+-- the tests of an address or a network, by its kind
 abbrev pub address_tests : Option Protocol → Direction → Value → ℕ
 address_tests p d (value.Mac a) = ether_tests d
 address_tests p d (value.Ip6 a n) = ip6_test_count d
 address_tests p d _ = ip4_tests p d
 
--- a value with its qualifiers
+-- the tests of a value with these qualifiers
 abbrev pub typed_tests : ValueType → Option Protocol → Direction → Value → ℕ
 typed_tests Host p d v = address_tests p d v
 typed_tests Net p d v = address_tests p d v
@@ -78,25 +81,27 @@ typed_tests Port p d v = port_tests p d 1
 typed_tests PortRange p d v = port_tests p d 2
 typed_tests Proto p d v = proto_tests p
 
+-- the tests of a value with all its qualifiers
 abbrev pub value_tests : CompleteQualifiers → Value → ℕ
 value_tests q v = typed_tests q.value_type q.protocol q.direction v
 
--- the checks of an accessor: the protocol, and of one above IPv4 its number and that the packet is
--- no later fragment
+-- the tests of an accessor: its protocol, or of one above IPv4 the EtherType, its number and that
+-- the packet is no later fragment
 abbrev pub accessor_test_count : Protocol → ℕ
 accessor_test_count protocol.Tcp = 1 + 1 + 1
 accessor_test_count protocol.Udp = 1 + 1 + 1
 accessor_test_count protocol.Icmp = 1 + 1 + 1
 accessor_test_count _ = 1
 
--- the checks of all accessors
+-- the tests of all accessors of a number
 abbrev pub number_tests : NumberTree → ℕ
 number_tests (load p s a) = number_tests a + accessor_test_count p
 number_tests (negated a) = number_tests a
 number_tests (applied o a b) = number_tests a + number_tests b
 number_tests _ = 0
 
--- a value that lacks qualifiers has no formula; a comparison is one test after the checks
+-- the tests of a truth's formula: a value that lacks qualifiers has none; a comparison is one test
+-- after those of its accessors
 abbrev pub truth_tests : TruthTree → ℕ
 truth_tests (check p) = check_tests p
 truth_tests (cast p c) = cast_tests c
@@ -107,14 +112,15 @@ truth_tests (denied a) = truth_tests a
 truth_tests (joined j a b) = truth_tests a + truth_tests b
 truth_tests _ = 0
 
--- how many nodes the arithmetic has
+-- how many nodes the arithmetic of a number has
 abbrev pub number_size : NumberTree → ℕ
 number_size (load p s a) = number_size a + 1
 number_size (negated a) = number_size a + 1
 number_size (applied o a b) = number_size a + number_size b + 1
 number_size _ = 1
 
--- `less` and `greater` compare the length with a number
+-- how many nodes the arithmetic of a truth has; `less` and `greater` compare the length with a
+-- number
 abbrev pub truth_size : TruthTree → ℕ
 truth_size (sized s n) = 2
 truth_size (compared c a b) = number_size a + number_size b
@@ -122,13 +128,14 @@ truth_size (denied a) = truth_size a
 truth_size (joined j a b) = truth_size a + truth_size b
 truth_size _ = 0
 
--- how many words of memory hold what waits while the right side is computed
+-- how many words of memory a number needs: for left sides that wait while right sides are computed
 abbrev pub number_words : NumberTree → ℕ
 number_words (load p s a) = number_words a
 number_words (negated a) = number_words a
 number_words (applied o a b) = max (number_words a) (1 + number_words b)
 number_words _ = 0
 
+-- how many words of memory a truth needs
 abbrev pub truth_words : TruthTree → ℕ
 truth_words (sized s n) = max (number_words len) (1 + number_words (literal n))
 truth_words (compared c a b) = max (number_words a) (1 + number_words b)
@@ -136,24 +143,27 @@ truth_words (denied a) = truth_words a
 truth_words (joined j a b) = max (truth_words a) (truth_words b)
 truth_words _ = 0
 
--- of an expression
+-- how many elementary tests the formulas of an expression's primitives have
 abbrev pub tests_of : Expression → ℕ
 tests_of empty = 0
 tests_of (truth a) = truth_tests a
 
+-- how many nodes the arithmetic of an expression has
 abbrev pub nodes_of : Expression → ℕ
 nodes_of empty = 0
 nodes_of (truth a) = truth_size a
 
+-- how many words of memory an expression's program needs
 abbrev pub words_of : Expression → ℕ
 words_of empty = 0
 words_of (truth a) = truth_words a
 
--- how many instructions a program for it has at most
+-- how many instructions a program for an expression has at most: two returns, and 6 for each test
+-- and node
 abbrev pub bound_of : Expression → ℕ
 bound_of e = 2 + 6 * (tests_of e + nodes_of e)
 
--- what a node alone adds to the tests of its tree, and to the nodes of its arithmetic
+-- what a node alone adds to the tests of its tree
 abbrev pub node_tests : Node → ℕ
 node_tests (node.Check p) = check_tests p
 node_tests (node.Cast p c) = cast_tests c
@@ -163,6 +173,7 @@ node_tests (node.Compare c) = 1
 node_tests (node.Load p s) = accessor_test_count p
 node_tests _ = 0
 
+-- what a node alone adds to the nodes of its tree's arithmetic
 abbrev pub node_size : Node → ℕ
 node_size (node.Sized s n) = 2
 node_size (node.Literal n) = 1

@@ -25,10 +25,11 @@ with_inherited q (denied a) = denied (with_inherited q a)
 with_inherited q (joined j a b) = joined j (with_inherited q a) (with_inherited (latest q a) b)
 with_inherited q a = a
 
--- a type that is left out is `host`, a direction `src or dst`
+-- the type that is written, or `host` where it is left out
 abbrev pub type_or_host : Qualifiers → ValueType
 type_or_host q = unwrap_or q.value_type Host
 
+-- qualifiers with what is left out filled in: the type `host`, the direction `src or dst`
 abbrev pub completed_qualifiers : Qualifiers → CompleteQualifiers
 completed_qualifiers q =
     record {
@@ -44,7 +45,7 @@ complete (denied a) = denied (complete a)
 complete (joined j a b) = joined j (complete a) (complete b)
 complete a = a
 
--- where nothing is to the left
+-- the qualifiers that a bare value takes where no value to its left has any: `host`
 abbrev pub only_host : Qualifiers
 only_host = record { protocol = None; direction = None; value_type = Some Host }
 
@@ -53,12 +54,12 @@ abbrev pub expr_inherited : Expression → Expression
 expr_inherited empty = empty
 expr_inherited (truth a) = truth (with_inherited only_host a)
 
--- and one whose values have all qualifiers, as `flt_lang::resolve` returns it
+-- an expression whose values have all qualifiers, as `flt_lang::resolve` returns it
 abbrev pub fill_expression : Expression → Expression
 fill_expression empty = empty
 fill_expression (truth a) = truth (complete (with_inherited only_host a))
 
--- the same of a node
+-- a node with what is left out before its value filled in; others are unchanged
 abbrev pub completed_node : Node → Node
 completed_node (node.Valued q v) = node.Qualified (completed_qualifiers q) v
 completed_node n = n

@@ -17,8 +17,7 @@ use Rattle.flt_ast.specs.declared.value.Value.TheVariants as value
 use Rattle.flt_ast.specs.declared.fits.Fit.{Fit}
 use Rattle.flt_ast.specs.declared.fits.Fit.TheVariants as fit
 
--- the protocols that an IPv4 address, an IPv6 address, a port and a protocol number may have, or
--- none
+-- the protocols, or none, after which an IPv4 address may stand
 abbrev pub has_ip4_addresses : Option Protocol → Bool
 has_ip4_addresses None = true
 has_ip4_addresses (Some protocol.Ip) = true
@@ -26,23 +25,27 @@ has_ip4_addresses (Some protocol.Arp) = true
 has_ip4_addresses (Some protocol.Rarp) = true
 has_ip4_addresses _ = false
 
+-- the protocols, or none, after which an IPv6 address may stand
 abbrev pub has_ip6_addresses : Option Protocol → Bool
 has_ip6_addresses None = true
 has_ip6_addresses (Some protocol.Ip6) = true
 has_ip6_addresses _ = false
 
+-- the protocols, or none, after which a port may stand
 abbrev pub has_port_numbers : Option Protocol → Bool
 has_port_numbers None = true
 has_port_numbers (Some protocol.Tcp) = true
 has_port_numbers (Some protocol.Udp) = true
 has_port_numbers _ = false
 
+-- the protocols, or none, after which an IP protocol number may stand
 abbrev pub has_protocol_numbers : Option Protocol → Bool
 has_protocol_numbers None = true
 has_protocol_numbers (Some protocol.Ip) = true
 has_protocol_numbers (Some protocol.Ip6) = true
 has_protocol_numbers _ = false
 
+-- the protocol after which a MAC address may stand
 abbrev pub has_mac_addresses : Option Protocol → Bool
 has_mac_addresses (Some protocol.Ether) = true
 has_mac_addresses _ = false
@@ -51,26 +54,28 @@ has_mac_addresses _ = false
 abbrev pub is_whole : Dotted → Bool
 is_whole d = d.parts == 4
 
--- a mask has four parts, a prefix at most as many bits as the address
+-- a mask that a network may have: one of `mask D` has four parts
 abbrev pub is_net_mask : NetMask → Bool
 is_net_mask (mask.Mask d) = is_whole d
 is_net_mask _ = true
 
+-- the length of a prefix, if one is written, is at most that of an IPv4 address
 abbrev pub is_ip4_prefix_len : NetMask → Bool
 is_ip4_prefix_len (mask.Prefix n) = nat_le n 32
 is_ip4_prefix_len _ = true
 
+-- the length of a prefix, if one is written, is at most that of an IPv6 address
 abbrev pub is_ip6_prefix_len : Option ℕ → Bool
 is_ip6_prefix_len None = true
 is_ip6_prefix_len (Some n) = nat_le n 128
 
--- whether it fits, and then whether it is in range
+-- the fit of a value, by whether it goes with its type and protocol, and whether it is in range
 abbrev pub fit_if : Bool → Bool → Fit
 fit_if true true = fit.InRange
 fit_if true false = fit.OutOfRange
 fit_if false _ = fit.Misfit
 
--- the table of docs/FILTER.md ("What fits")
+-- how a value fits its type and protocol: the table of docs/FILTER.md ("What fits")
 abbrev pub fit_of : ValueType → Value → Option Protocol → Fit
 fit_of Host (value.Dotted d mask.Unwritten) p = fit_if (is_whole d && has_ip4_addresses p) true
 fit_of Host (value.Ip6 a None) p = fit_if (has_ip6_addresses p) true
@@ -86,23 +91,28 @@ fit_of Proto (value.Number n mask.Unwritten) (Some protocol.Ether) =
 fit_of Proto (value.Number n mask.Unwritten) p = fit_if (has_protocol_numbers p) (nat_le n 255)
 fit_of _ _ _ = fit.Misfit
 
+-- the value doesn't go with its type and protocol
 abbrev pub is_misfit_fit : Fit → Bool
 is_misfit_fit fit.Misfit = true
 is_misfit_fit _ = false
 
+-- the value goes with its type and protocol, but is out of range
 abbrev pub is_out_of_range_fit : Fit → Bool
 is_out_of_range_fit fit.OutOfRange = true
 is_out_of_range_fit _ = false
 
+-- the type `net`
 abbrev pub is_net : ValueType → Bool
 is_net Net = true
 is_net _ = false
 
+-- the type `proto`
 abbrev pub is_proto : ValueType → Bool
 is_proto Proto = true
 is_proto _ = false
 
--- with a protocol's number stands no direction; where directions are filled in that is either side
+-- the direction `src or dst`, as it is filled in where none is written: with a protocol's number
+-- none may be
 abbrev pub is_either : Direction → Bool
 is_either (direction.Both join.Or) = true
 is_either _ = false
@@ -113,6 +123,6 @@ is_cast_misfit (Some protocol.Ip) casts.Broadcast = true
 is_cast_misfit (Some protocol.Ip6) casts.Broadcast = true
 is_cast_misfit _ _ = false
 
--- the sizes of accessors
+-- the sizes that an accessor may have, in bytes
 abbrev pub is_size : ℕ → Bool
 is_size n = n == 1 || (n == 2 || n == 4)

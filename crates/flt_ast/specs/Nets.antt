@@ -7,17 +7,18 @@ use Rattle.flt_ast.specs.declared.value.Value.TheVariants as value
 use Rattle.flt_ast.specs.declared.net.Ip4Net.{Ip4Net}
 use Rattle.flt_ast.specs.declared.net.Ip6Net.{Ip6Net}
 
--- the first n of a number of bits
+-- the mask of the first n of a number of bits
 abbrev pub first_bits : ℕ → ℕ → ℕ
 first_bits width n = 2 ^ width - 2 ^ (width - n)
 
--- an address of these parts with no mask has a mask of as many bytes
+-- the mask of an IPv4 network: the one that is written, or else as many bytes as the address has
+-- parts
 abbrev pub ip4_mask : ℕ → NetMask → ℕ
 ip4_mask parts mask.Unwritten = first_bits 32 (8 * parts)
 ip4_mask parts (mask.Prefix n) = first_bits 32 n
 ip4_mask parts (mask.Mask d) = d.address
 
--- without the length of a prefix all bits are meant
+-- the mask of an IPv6 network; without the length of a prefix it is of all bits
 abbrev pub ip6_mask : Option ℕ → ℕ
 ip6_mask None = first_bits 128 128
 ip6_mask (Some n) = first_bits 128 n
@@ -37,14 +38,16 @@ ip6_net _ = None
 abbrev pub is_past : ℕ → ℕ → Bool
 is_past address m = not (bit_and address m == address)
 
+-- the address of an IPv4 network, if there is one, has bits that its mask leaves out
 abbrev pub ip4_past : Option Ip4Net → Bool
 ip4_past None = false
 ip4_past (Some n) = is_past n.address n.mask
 
+-- the address of an IPv6 network, if there is one, has bits that its mask leaves out
 abbrev pub ip6_past : Option Ip6Net → Bool
 ip6_past None = false
 ip6_past (Some n) = is_past n.address n.mask
 
--- the same of the network that a value means, if it means one
+-- a value means a network whose address has bits that the mask leaves out
 abbrev pub is_past_mask : Value → Bool
 is_past_mask v = ip4_past (ip4_net v) || ip6_past (ip6_net v)

@@ -26,6 +26,7 @@ truth_nodes (compared c a b) rest = number_nodes a (number_nodes b (node.Compare
 truth_nodes (denied a) rest = truth_nodes a (node.Not ∷ rest)
 truth_nodes (joined j a b) rest = truth_nodes a (truth_nodes b (node.Join j ∷ rest))
 
+-- the nodes of an expression, operands first
 abbrev pub expr_nodes : Expression → List Node
 expr_nodes empty = []
 expr_nodes (truth a) = truth_nodes a []
@@ -35,25 +36,30 @@ pub record Trees : Type 0 where
   pub truths : List TruthTree
   pub numbers : List NumberTree
 
--- the latest one or two trees give way to what is made of them
+-- the latest tree gives way to what is made of it
 abbrev pub with_latest : {T : Type 0} → (T → T) → List T → List T
 with_latest f [] = []
 with_latest f (a ∷ rest) = f a ∷ rest
 
+-- the latest two trees give way to what is made of them
 abbrev pub with_two : {T : Type 0} → (T → T → T) → List T → List T
 with_two f (b ∷ a ∷ rest) = f a b ∷ rest
 with_two f rest = rest
 
+-- the latest two numbers give way to a truth, their comparison
 abbrev pub with_compared : Comparison → List TruthTree → List NumberTree → Trees
 with_compared c truths (b ∷ a ∷ rest) = record { truths = compared c a b ∷ truths; numbers = rest }
 with_compared c truths rest = record { truths = truths; numbers = rest }
 
+-- one more number
 abbrev pub with_number : NumberTree → Trees → Trees
 with_number a t = record { truths = t.truths; numbers = a ∷ t.numbers }
 
+-- one more truth
 abbrev pub with_truth : TruthTree → Trees → Trees
 with_truth a t = record { truths = a ∷ t.truths; numbers = t.numbers }
 
+-- the trees after one more node, which takes its operands
 abbrev pub with_node : Trees → Node → Trees
 with_node t (node.Check p) = with_truth (check p) t
 with_node t (node.Cast p c) = with_truth (cast p c) t
@@ -72,6 +78,7 @@ with_node t (node.Load p s) =
 with_node t node.Negate = record { truths = t.truths; numbers = with_latest negated t.numbers }
 with_node t (node.Apply o) = record { truths = t.truths; numbers = with_two (applied o) t.numbers }
 
+-- the latest truth is the whole expression; without one it is the empty one
 abbrev pub first_truth : List TruthTree → Expression
 first_truth [] = empty
 first_truth (t ∷ ts) = truth t

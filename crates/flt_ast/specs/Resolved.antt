@@ -10,14 +10,14 @@ use Rattle.flt_ast.specs.Nets.{is_past_mask}
 use Rattle.flt_ast.specs.Fits.{fit_of, is_misfit_fit, is_out_of_range_fit, is_net, is_proto, is_either, is_cast_misfit, is_size}
 use Rattle.flt_ast.specs.Filled.{type_or_host, expr_inherited}
 
--- some accessor has a size that there is not
+-- some accessor in a number has a size other than 1, 2 and 4
 abbrev pub has_wrong_size : NumberTree → Bool
 has_wrong_size (load p s a) = has_wrong_size a || not (is_size s)
 has_wrong_size (negated a) = has_wrong_size a
 has_wrong_size (applied o a b) = has_wrong_size a || has_wrong_size b
 has_wrong_size _ = false
 
--- the faults of a primitive: E7, E8, E9
+-- what is written before a primitive's value doesn't go with it (E7)
 abbrev pub is_misfit : TruthTree → Bool
 is_misfit (cast p c) = is_cast_misfit p c
 is_misfit (valued q v) =
@@ -28,12 +28,14 @@ is_misfit (qualified q v) =
     || is_proto q.value_type && not (is_either q.direction)
 is_misfit _ = false
 
+-- a number of a primitive's value, or an accessor's size, is out of range (E8)
 abbrev pub is_out_of_range : TruthTree → Bool
 is_out_of_range (valued q v) = is_out_of_range_fit (fit_of (type_or_host q) v q.protocol)
 is_out_of_range (qualified q v) = is_out_of_range_fit (fit_of q.value_type v q.protocol)
 is_out_of_range (compared c a b) = has_wrong_size a || has_wrong_size b
 is_out_of_range _ = false
 
+-- a primitive's network has bits set that its mask leaves out (E9)
 abbrev pub has_bits_past_mask : TruthTree → Bool
 has_bits_past_mask (valued q v) = is_net (type_or_host q) && is_past_mask v
 has_bits_past_mask (qualified q v) = is_net q.value_type && is_past_mask v
@@ -45,12 +47,13 @@ is_unfilled (bare v) = true
 is_unfilled (valued q v) = true
 is_unfilled _ = false
 
--- some primitive of a tree has a fault
+-- some primitive of a truth has the property
 abbrev pub any_primitive : (TruthTree → Bool) → TruthTree → Bool
 any_primitive f (denied a) = any_primitive f a
 any_primitive f (joined j a b) = any_primitive f a || any_primitive f b
 any_primitive f a = f a
 
+-- some primitive of an expression has the property
 abbrev pub some_primitive : (TruthTree → Bool) → Expression → Bool
 some_primitive f empty = false
 some_primitive f (truth a) = any_primitive f a
@@ -62,12 +65,14 @@ first_fault false true past = Some fault.ValueOutOfRange
 first_fault false false true = Some fault.BitsPastMask
 first_fault false false false = None
 
+-- the fault of a tree whose bare values have inherited, or none: the one with the smallest number
 abbrev pub tree_fault : Expression → Option ExprFault
 tree_fault e =
     first_fault (some_primitive is_misfit e) (some_primitive is_out_of_range e)
     (some_primitive has_bits_past_mask e)
 
--- the fault of an expression is reported once its bare values have their qualifiers
+-- the fault that `flt_lang::resolve` reports of an expression, once its bare values have their
+-- qualifiers, or none
 abbrev pub fill_fault : Expression → Option ExprFault
 fill_fault e = tree_fault (expr_inherited e)
 
@@ -78,19 +83,21 @@ pub record IsResolved (e : Expression) : Type 0 where
   pub in_range : some_primitive is_out_of_range e ≡ false
   pub in_mask : some_primitive has_bits_past_mask e ≡ false
 
--- the same of a node
+-- what is written before a node's value doesn't go with it (E7)
 abbrev pub is_misfit_node : Node → Bool
 is_misfit_node (node.Cast p c) = is_misfit (cast p c)
 is_misfit_node (node.Valued q v) = is_misfit (valued q v)
 is_misfit_node (node.Qualified q v) = is_misfit (qualified q v)
 is_misfit_node _ = false
 
+-- a number of a node's value, or an accessor's size, is out of range (E8)
 abbrev pub is_out_of_range_node : Node → Bool
 is_out_of_range_node (node.Valued q v) = is_out_of_range (valued q v)
 is_out_of_range_node (node.Qualified q v) = is_out_of_range (qualified q v)
 is_out_of_range_node (node.Load p s) = not (is_size s)
 is_out_of_range_node _ = false
 
+-- a node's network has bits set that its mask leaves out (E9)
 abbrev pub has_bits_past_mask_node : Node → Bool
 has_bits_past_mask_node (node.Valued q v) = has_bits_past_mask (valued q v)
 has_bits_past_mask_node (node.Qualified q v) = has_bits_past_mask (qualified q v)

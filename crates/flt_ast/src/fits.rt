@@ -13,13 +13,16 @@ use flt_words::{Cast, Protocol, ValueType};
 /// Whether a value goes with a type and a protocol, and then whether its numbers are in range.
 #[derive(Clone, Copy, PartialEq, Eq)]
 pub enum Fit {
+    /// The value doesn't go with its type or its protocol (E7).
     Misfit,
+    /// It goes with them, and a number in it is out of range (E8).
     OutOfRange,
+    /// It goes with them, and its numbers are in range.
     InRange,
 }
 
-/// The fit of a value that goes with its type and protocol if `fits`, and has its numbers in range
-/// if `in_range`. One that doesn't go with them is a misfit, whatever its numbers are.
+/// The fit of a value by two answers: whether it goes with its type and protocol, and whether its
+/// numbers are in range. One that doesn't go with them is a misfit, whatever its numbers are.
 fn fit_if(fits: bool, in_range: bool) -> Fit
     ensures { result ≡ fit_if fits in_range }
 {
@@ -72,8 +75,9 @@ fn host_fit(value: Value, protocol: Option<Protocol>) -> Fit
     }
 }
 
-/// The fit of a value of the type `net`: an address or its first parts, alone, with a mask or with
-/// the length of a prefix.
+/// The fit of a value of the type `net`: an IPv4 address or its first parts, alone, with a mask or
+/// with the length of a prefix, or an IPv6 address, alone or with the length of a prefix. A number
+/// is the first byte of an IPv4 address.
 fn net_fit(value: Value, protocol: Option<Protocol>) -> Fit
     ensures { result ≡ fit_of ValueType.Net value protocol }
 {
@@ -102,7 +106,7 @@ fn proto_fit(number: u32, protocol: Option<Protocol>) -> Fit
     }
 }
 
-/// Whether IPv4 addresses go with a protocol, or with none written.
+/// Whether IPv4 addresses go with a protocol, or with none written: `ip`, `arp`, `rarp`.
 fn has_ip4_addresses(protocol: Option<Protocol>) -> bool
     ensures { result ≡ has_ip4_addresses protocol }
 {
@@ -112,21 +116,21 @@ fn has_ip4_addresses(protocol: Option<Protocol>) -> bool
     )
 }
 
-/// Whether IPv6 addresses go with a protocol, or with none written.
+/// Whether IPv6 addresses go with a protocol, or with none written: `ip6`.
 fn has_ip6_addresses(protocol: Option<Protocol>) -> bool
     ensures { result ≡ has_ip6_addresses protocol }
 {
     matches!(protocol, None | Some(Protocol::Ip6))
 }
 
-/// Whether ports go with a protocol, or with none written.
+/// Whether ports go with a protocol, or with none written: `tcp`, `udp`.
 fn has_port_numbers(protocol: Option<Protocol>) -> bool
     ensures { result ≡ has_port_numbers protocol }
 {
     matches!(protocol, None | Some(Protocol::Tcp | Protocol::Udp))
 }
 
-/// Whether IP protocol numbers go with a protocol, or with none written.
+/// Whether IP protocol numbers go with a protocol, or with none written: `ip`, `ip6`.
 fn has_protocol_numbers(protocol: Option<Protocol>) -> bool
     ensures { result ≡ has_protocol_numbers protocol }
 {

@@ -78,22 +78,22 @@ fn ip4_mask(parts: u8, mask: NetMask) -> u32
     }
 }
 
-/// The mask of the first `len` of 32 bits; all of them from 32 on.
+/// The mask of the first `len` of 32 bits; all of them where `len` is 32 or more.
 fn ip4_prefix_mask(len: u32) -> u32
     ensures { result ≡ first_bits 32 len }
 {
-    // A shift by all bits isn't defined.
+    // Without a bit it is 0: a shift of 32 bits by 32 isn't defined.
     match 32u32.saturating_sub(len) {
         32 => 0,
         rest => u32::MAX - ((1 << rest) - 1),
     }
 }
 
-/// The mask of the first `len` of 128 bits; all of them from 128 on.
+/// The mask of the first `len` of 128 bits; all of them where `len` is 128 or more.
 fn ip6_prefix_mask(len: u32) -> u128
     ensures { result ≡ first_bits 128 len }
 {
-    // A shift by all bits isn't defined.
+    // Without a bit it is 0: a shift of 128 bits by 128 isn't defined.
     match 128u32.saturating_sub(len) {
         128 => 0,
         rest => u128::MAX - ((1 << rest) - 1),

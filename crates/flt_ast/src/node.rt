@@ -22,23 +22,23 @@ pub enum Node {
     Valued(Qualifiers, Value),
     /// A value with all its qualifiers.
     Qualified(CompleteQualifiers, Value),
-    /// Takes two numbers.
+    /// Takes two numbers: whether they compare so.
     Compare(Comparison),
-    /// Takes a truth.
+    /// Takes a truth, something that holds of a packet or doesn't.
     Not,
-    /// Takes two truths.
+    /// Takes two truths: both hold, or either does.
     Join(Join),
     /// A number.
     Literal(u32),
     /// The length of the packet.
     Len,
-    /// A name of a number.
+    /// A number that is written by its name, as `tcp-syn`.
     Named(u32),
     /// Takes a number, the place, and reads this many bytes there: 1 where no size is written.
     Load(Protocol, u32),
-    /// Takes a number.
+    /// Takes a number, after a sign `-`.
     Negate,
-    /// Takes two numbers.
+    /// Takes two numbers, with an operator between them.
     Apply(Operator),
 }
 
@@ -89,7 +89,8 @@ impl Node {
         }
     }
 
-    /// Whether the address of a network has bits set that its mask leaves out (E9).
+    /// Whether the address of a network has bits set that its mask leaves out (E9). Nodes other
+    /// than values of the type `net` have none.
     pub fn has_bits_past_mask(self) -> bool
         ensures { result ≡ has_bits_past_mask_node self }
     {
@@ -131,7 +132,8 @@ impl Node {
         }
     }
 
-    /// How many nodes of arithmetic the node counts as: `less N` is `len <= N`, of two.
+    /// How many nodes of arithmetic the node counts as, for the bound of a program. Nodes of truths
+    /// count none, but for `less N`, which is `len <= N` and counts two, and `greater N`.
     pub fn arithmetic_nodes(self) -> u8
         ensures count { result ≡ node_size self }
         ensures upper_bound { result ≤ 2 }

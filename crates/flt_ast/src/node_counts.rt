@@ -61,8 +61,8 @@ fn ether_tests(direction: Direction) -> u8
     1 + side_tests(direction, 2)
 }
 
-/// The tests of `broadcast`, the MAC address of a destination, and of `multicast`: the protocol,
-/// and one bit or byte.
+/// The tests of `broadcast`, which is the MAC address of a destination, and of `multicast`: the
+/// protocol, and one bit or byte of the address.
 pub(crate) fn cast_tests(cast: Cast) -> u8
     ensures count { result ≡ cast_tests cast }
     ensures upper_bound { result ≤ 9 }
@@ -86,7 +86,7 @@ fn ip4_tests(protocol: Option<Protocol>, direction: Direction) -> u8
     }
 }
 
-/// The tests whether a packet is TCP or UDP, or of both if no protocol is named.
+/// The tests whether a packet is TCP, or whether it is UDP; both if no protocol is named.
 fn transport_tests(protocol: Option<Protocol>) -> u8
     ensures count { result ≡ transport_tests protocol }
     ensures upper_bound { result ≤ 2 }

@@ -11,7 +11,7 @@ pub enum Direction {
     Both(Join),
 }
 
-/// Qualifiers, as they are written.
+/// The qualifiers of a value, as they are written: each may be left out.
 #[derive(Clone, Copy)]
 pub struct Qualifiers {
     pub protocol: Option<Protocol>,

@@ -4,10 +4,12 @@ use Rattle.flt_ast.specs.declared.node.Node.{Node}
 use Rattle.flt_ast.specs.declared.node.Node.TheVariants as node
 use Rattle.flt_ast.specs.Checks.{is_division}
 
+-- the node is the number 0, as it is written
 abbrev pub is_zero_node : Node → Bool
 is_zero_node (node.Literal n) = n == 0
 is_zero_node _ = false
 
+-- the node divides, or takes a remainder
 abbrev pub is_division_node : Node → Bool
 is_division_node (node.Apply o) = is_division o
 is_division_node _ = false

@@ -4,11 +4,12 @@ use Rattle.flt_ast.specs.declared.qualifiers.Qualifiers.{Qualifiers}
 use Rattle.flt_ast.specs.declared.node.Node.{Node}
 use Rattle.flt_ast.specs.declared.node.Node.TheVariants as node
 
--- the qualifiers that are the latest written after a node, where q were before it
+-- the latest qualifiers that are written, after one more node; q were the latest before it
 abbrev pub next_latest : Qualifiers → Node → Qualifiers
 next_latest q (node.Valued p v) = p
 next_latest q _ = q
 
+-- a node, which takes these qualifiers if it is a bare value
 abbrev pub inherited_node : Qualifiers → Node → Node
 inherited_node q (node.Bare v) = node.Valued q v
 inherited_node q n = n

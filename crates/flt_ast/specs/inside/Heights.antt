@@ -3,6 +3,6 @@ use Rattle.std.specs.Prelude.{ℕ, max}
 use Rattle.flt_ast.specs.declared.node.Node.{Node}
 use Rattle.flt_ast.specs.Heights.{height_after, peak_height}
 
--- how many wait after a node, and the most so far
+-- how many numbers wait after one more node, and the most that waited so far
 abbrev pub climb : ℕ × ℕ → Node → ℕ × ℕ
 climb s n = (height_after s.0 n, max s.1 (peak_height s.0 n))

@@ -6,7 +6,7 @@ use Rattle.flt_ast.specs.declared.node.Node.TheVariants as node
 use Rattle.flt_ast.specs.Tree.{NumberTree, literal, len, named, load, negated, applied, TruthTree, check, cast, sized, bare, valued, qualified, compared, denied, joined, Expression, empty, truth}
 use Rattle.flt_ast.specs.Nodes.{number_nodes, truth_nodes, expr_nodes, Trees, with_number, with_truth, with_node, first_truth, tree_of}
 
--- the nodes of a tree, latest first, before those that were written earlier
+-- the nodes of a number, latest first, before those that were written earlier
 abbrev pub number_onto : NumberTree → List Node → List Node
 number_onto (literal n) d = node.Literal n ∷ d
 number_onto len d = node.Len ∷ d
@@ -15,6 +15,7 @@ number_onto (load p s a) d = node.Load p s ∷ number_onto a d
 number_onto (negated a) d = node.Negate ∷ number_onto a d
 number_onto (applied o a b) d = node.Apply o ∷ number_onto b (number_onto a d)
 
+-- the nodes of a truth, latest first, before those that were written earlier
 abbrev pub truth_onto : TruthTree → List Node → List Node
 truth_onto (check p) d = node.Check p ∷ d
 truth_onto (cast p c) d = node.Cast p c ∷ d
@@ -26,11 +27,12 @@ truth_onto (compared c a b) d = node.Compare c ∷ number_onto b (number_onto a 
 truth_onto (denied a) d = node.Not ∷ truth_onto a d
 truth_onto (joined j a b) d = node.Join j ∷ truth_onto b (truth_onto a d)
 
+-- the nodes of an expression, latest first
 abbrev pub expr_onto : Expression → List Node
 expr_onto empty = []
 expr_onto (truth a) = truth_onto a []
 
--- each node but the last belongs to a later one
+-- the nodes are those of a tree: each but the last is an operand of a later one
 abbrev pub IsTree : List Node → Type 0
 IsTree nodes = expr_nodes (tree_of nodes) ≡ nodes
 
