@@ -53,7 +53,7 @@ field_at (Fixed k) width p = field p k width
 field_at (AfterHeader header k) width p =
     with (header_at p header) (λ x. field p ((x + k) % 2 ^ 32) width)
 
--- the bits of a mask
+-- the bits of a number that a mask leaves, or all of them without one
 abbrev pub under_mask : Option ℕ → ℕ → ℕ
 under_mask None v = v
 under_mask (Some mask) v = bit_and v mask
@@ -81,13 +81,15 @@ compares_under mask offset width comparison value =
       value = value;
     })
 
+-- the field there compares so with this number
 abbrev pub compares_at : Offset → Width → Comparison → ℕ → Elementary
 compares_at offset width comparison value = compares_under None offset width comparison value
 
--- the field at a place is this number; its bits under a mask are
+-- the field at a place is this number
 abbrev pub is_at : ℕ → Width → ℕ → Elementary
 is_at at width value = compares_at (Fixed at) width Equal value
 
+-- the bits of the field at a place under a mask are this number
 abbrev pub is_masked : ℕ → Width → ℕ → ℕ → Elementary
 is_masked at width mask value = compares_under (Some mask) (Fixed at) width Equal value
 
@@ -96,6 +98,7 @@ abbrev pub has_type_at : Option ℕ → ℕ → Elementary
 has_type_at None n = Outcome false
 has_type_at (Some at) n = is_at at HalfWord n
 
+-- the EtherType in the link header is this number
 abbrev pub has_type : Link → ℕ → Elementary
 has_type link n = has_type_at (type_offset link) n
 
@@ -109,6 +112,7 @@ type_test at Ip6 = has_type_at at ETHERTYPE_IPV6
 type_test at Arp = has_type_at at ETHERTYPE_ARP
 type_test at Rarp = has_type_at at ETHERTYPE_RARP
 
+-- the link type is Ethernet
 abbrev pub is_ethernet : Link → Bool
 is_ethernet Ether = true
 is_ethernet _ = false
@@ -122,9 +126,10 @@ kind_test link kind = type_test (type_offset link) kind
 abbrev pub first_fragment : Link → Elementary
 first_fragment link = is_masked (network_offset link + 6) HalfWord 0x1fff 0
 
--- the protocol after an IPv4 header, and after an IPv6 header
+-- the protocol that an IPv4 header names is this number
 abbrev pub has_ip_proto : Link → ℕ → Elementary
 has_ip_proto link n = is_at (network_offset link + 9) Byte n
 
+-- the next header that an IPv6 header names is this number
 abbrev pub has_ip6_proto : Link → ℕ → Elementary
 has_ip6_proto link n = is_at (network_offset link + 6) Byte n

@@ -18,6 +18,8 @@ use Rattle.flt_emit.specs.declared.elementary.Elementary.TheVariants.{Outcome}
 use Rattle.flt_emit.specs.Elementary.{MatchResult, Yes, No, Rejected, reading_of, with, compares, field_at, under_mask, elementary_reads, compares_at}
 use Rattle.flt_emit.specs.Numbers.{number, accessor_tests}
 
+-- a test, a comparison of two numbers, two formulas that both hold or either of which does, one
+-- that doesn't hold, or whether a field is one of some numbers
 pub data Formula : Type 0 where
   Single : Elementary → Formula
   Compare : Comparison → NumberTree → NumberTree → Formula
@@ -27,12 +29,13 @@ pub data Formula : Type 0 where
   -- a field is one of some numbers
   Among : MaskedField → List ℕ → Formula
 
--- the second is read only where the first is yes; only where it is no
+-- both hold: the second is read only where the first is yes
 abbrev pub both : MatchResult → MatchResult → MatchResult
 both Yes b = b
 both No b = No
 both Rejected b = Rejected
 
+-- either holds: the second is read only where the first is no
 abbrev pub either : MatchResult → MatchResult → MatchResult
 either Yes b = Yes
 either No b = b
@@ -98,12 +101,13 @@ sides (direction.Both And) source destination = Both (all_of source) (all_of des
 abbrev pub whole_field : Offset → Width → MaskedField
 whole_field offset width = record { offset = offset; width = width; mask = None }
 
--- the numbers without one of them
+-- the numbers without this one, where it stands first
 abbrev pub without : ℕ → List ℕ → List ℕ
 without a [] = []
 without a (v ∷ vs) = if v == a then vs else v ∷ without a vs
 
--- those that are left after the first, of which there is one at least
+-- the numbers without the first of the expression; one that is alone stays, so that one is left at
+-- least
 abbrev pub remaining : ℕ → List ℕ → List ℕ
 remaining first numbers = if nat_lt (length numbers) 2 then numbers else without first numbers
 

@@ -30,7 +30,7 @@ pub fn whole_field(offset: Offset, width: Width) -> MaskedField
     }
 }
 
-/// The number at a place of two slices, the second after the first.
+/// The number at an index of two slices, which are as one: the second after the first.
 fn number_at(lower: &[u32], upper: &[u32], at: usize) -> u32
     requires { at < length lower.now + length upper.now }
     ensures { result ≡ get_or (lower.now ++ upper.now) at 0 }
@@ -42,9 +42,10 @@ fn number_at(lower: &[u32], upper: &[u32], at: usize) -> u32
     }
 }
 
-/// The index at which a number stands first among others, or their count if it doesn't.
+/// The index at which a number stands first among others, or their count if it isn't there. Without
+/// what stands at this index they are the numbers without it.
 #[tactic(auto, using(crate::proofs::Search::without_at))]
-fn place_of(number: u32, numbers: &[u32]) -> usize
+fn index_of(number: u32, numbers: &[u32]) -> usize
     ensures upper_bound { result ≤ length numbers.now }
     ensures place { take result numbers.now ++ drop (result + 1) numbers.now
         ≡ without number numbers.now }
@@ -65,7 +66,7 @@ fn remaining(first: u32, numbers: &[u32]) -> (&[u32], &[u32])
     if numbers.len() < 2 {
         return (numbers, &[]);
     }
-    let at = place_of(first, numbers);
+    let at = index_of(first, numbers);
     if at == numbers.len() {
         return (numbers, &[]);
     }
@@ -73,8 +74,9 @@ fn remaining(first: u32, numbers: &[u32]) -> (&[u32], &[u32])
 }
 
 impl<A: Allocator> Code<A> {
-    /// Emits whether A is one of some numbers, by one test after the other. Returns where the code
-    /// begins; of no number that is `to.no`. It calls itself for each: they are few.
+    /// Emits whether A is one of some numbers, by one test after the other. Returns the place where
+    /// the code begins; of no number that is `to.no`. It calls itself for each: they are few, once
+    /// `emit_search` has halved them.
     fn emit_chain(&mut self, values: &[u32], to: Targets) -> Result<usize, AllocError>
         ensures { Emits result (emit_chain values.now to.yes to.no self.old) self.new }
     {
@@ -89,8 +91,9 @@ impl<A: Allocator> Code<A> {
         }
     }
 
-    /// As `emit_chain`, of numbers that ascend, which are halved at most `halvings` times. They are
-    /// in two slices, the second after the first.
+    /// As `emit_chain`, of numbers that ascend, by a binary search: they are halved at most
+    /// `halvings` times, by a test whether A is in the upper half. They are in two slices, the
+    /// second after the first.
     fn emit_search(
         &mut self,
         halvings: usize,
@@ -107,6 +110,7 @@ impl<A: Allocator> Code<A> {
             return self.emit_chain(lower, Targets { yes: to.yes, no });
         }
         let half = count / 2;
+        // The upper half begins in `lower` at this index, or else in `upper`.
         let cut = half.min(lower.len());
         let yes = self.emit_search(halvings - 1, &lower[cut..], &upper[half - cut..], to)?;
         let no = self.emit_search(halvings - 1, &lower[..cut], &upper[..half - cut], to)?;
@@ -116,7 +120,7 @@ impl<A: Allocator> Code<A> {
     }
 
     /// Emits whether a field is one of some numbers. There is one at least, and they ascend.
-    /// Returns where the code begins.
+    /// Returns the place where the code begins.
     pub fn emit_among(
         &mut self,
         field: MaskedField,
@@ -128,7 +132,8 @@ impl<A: Allocator> Code<A> {
         self.emit_among_slices(field, numbers, &[], to)
     }
 
-    /// As `emit_among`, of the numbers without `first`, which is tested before.
+    /// As `emit_among`, of the numbers without `first`, since that was tested before; of a number
+    /// that is alone, of this one.
     pub fn emit_among_others(
         &mut self,
         field: MaskedField,
@@ -143,8 +148,8 @@ impl<A: Allocator> Code<A> {
         self.emit_among_slices(field, lower, upper, to)
     }
 
-    /// As `emit_among`, so of one number at least, of numbers in two slices, the second after the
-    /// first.
+    /// As `emit_among`, of numbers in two slices, the second after the first. There is one at
+    /// least.
     fn emit_among_slices(
         &mut self,
         field: MaskedField,

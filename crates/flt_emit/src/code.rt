@@ -52,7 +52,7 @@ impl Targets {
 }
 
 impl<A: Allocator> Code<A> {
-    /// No instruction is there yet.
+    /// Code without an instruction yet.
     pub fn new(alloc: A) -> Self
         ensures { result ≡ [] }
     {
@@ -69,7 +69,8 @@ impl<A: Allocator> Code<A> {
     }
 
     /// How many instructions stand in front of a place: as many are skipped by a test that is put
-    /// in front and goes on there. An error is a number of more than 32 bits.
+    /// in front and goes on there. An error is a number of more than 32 bits: such code counts as
+    /// out of memory.
     fn distance(&self, place: usize) -> Result<u32, AllocError>
         ensures { IfOk result (λ skipped. skipped ≡ length self.now - place) }
     {
@@ -79,7 +80,7 @@ impl<A: Allocator> Code<A> {
         }
     }
 
-    /// Puts an instruction in front that isn't a test.
+    /// Puts an instruction in front that isn't a test, with the number `k`.
     pub fn emit_plain(&mut self, operation: Operation, k: u32) -> Result<(), AllocError>
         ensures { OnOk result (self.new ≡ plain operation k ∷ self.old) }
     {
@@ -92,7 +93,7 @@ impl<A: Allocator> Code<A> {
         Ok(())
     }
 
-    /// Puts a test in front, which goes on at one of two places.
+    /// Puts a test of A and an operand in front, which goes on at one of two places.
     pub fn emit_branch(
         &mut self,
         test: Test,
@@ -112,7 +113,7 @@ impl<A: Allocator> Code<A> {
         Ok(())
     }
 
-    /// The instructions from a place on, in their order.
+    /// The instructions from the place `entry` on, in their order: what stands in front of it goes.
     pub fn into_insns(self, entry: usize) -> Vec<Wide, A>
         ensures { result.items ≡ drop (length self - entry) self }
     {

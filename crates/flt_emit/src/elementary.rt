@@ -45,11 +45,12 @@ pub struct FieldTest {
 /// A test that the link type alone decides, or a test of a field.
 #[derive(Clone, Copy)]
 pub enum Elementary {
+    /// Yes or no, whatever the packet is.
     Outcome(bool),
     Field(FieldTest),
 }
 
-/// Where a source and a destination stand, and how wide they are.
+/// Where a source and a destination stand, both addresses or both ports, and how wide they are.
 #[derive(Clone, Copy)]
 pub struct Sides {
     pub width: Width,

@@ -12,7 +12,7 @@ use cap_octet::assigned::{ETHERTYPE_ARP, ETHERTYPE_IPV4, ETHERTYPE_IPV6, ETHERTY
 use flt_bpf::operation::Width;
 use flt_words::Comparison;
 
-/// Where the network header begins.
+/// Where the network header begins, in bytes from the start of the packet.
 pub fn network_offset(link: Link) -> u32
     ensures place { result ≡ network_offset link }
     ensures near { result ≤ longest_header }
@@ -27,7 +27,7 @@ pub fn is_at(at: u32, width: Width, value: u32) -> Elementary
     compares_at(Offset::Fixed(at), width, Comparison::Equal, value)
 }
 
-/// The bits of a field under a mask are a number.
+/// The bits of the field at a place under a mask are a number.
 fn is_masked(at: u32, width: Width, mask: u32, value: u32) -> Elementary
     ensures { result ≡ is_masked at width mask value }
 {
@@ -71,8 +71,8 @@ pub fn has_type(link: Link, ethertype: u32) -> Elementary
     has_type_at(link.type_offset(), ethertype)
 }
 
-/// A frame is of a kind: by the EtherType at a place, or of raw IP by the version in its first
-/// byte.
+/// A frame is of a kind: by the EtherType at a place, or of raw IP, which has none, by the version
+/// in the upper half of its first byte.
 fn type_test(type_offset: Option<usize>, kind: FrameKind) -> Elementary
     requires { IfSome type_offset (λ at. at ≤ longest_header) }
     ensures { result ≡ type_test type_offset kind }
@@ -88,7 +88,7 @@ fn type_test(type_offset: Option<usize>, kind: FrameKind) -> Elementary
     }
 }
 
-/// A frame is of a kind.
+/// A frame is of a kind: Ethernet by the link type alone, the others as in `type_test`.
 pub fn kind_test(link: Link, kind: FrameKind) -> Elementary
     ensures { result ≡ kind_test link kind }
 {
@@ -98,21 +98,22 @@ pub fn kind_test(link: Link, kind: FrameKind) -> Elementary
     }
 }
 
-/// An IPv4 packet is no fragment but the first (RFC 791, section 3.1).
+/// An IPv4 packet is no fragment but the first: the offset, the lower 13 bits of the half word at
+/// byte 6, is 0 (RFC 791, section 3.1).
 pub fn first_fragment(link: Link) -> Elementary
     ensures { result ≡ first_fragment link }
 {
     is_masked(network_offset(link) + 6, Width::HalfWord, 0x1fff, 0)
 }
 
-/// The protocol that an IPv4 header names is this number (RFC 791, section 3.1).
+/// The protocol that an IPv4 header names, at byte 9, is this number (RFC 791, section 3.1).
 pub fn has_ip_proto(link: Link, protocol: u32) -> Elementary
     ensures { result ≡ has_ip_proto link protocol }
 {
     is_at(network_offset(link) + 9, Width::Byte, protocol)
 }
 
-/// The next header that an IPv6 header names is this number (RFC 8200, section 3).
+/// The next header that an IPv6 header names, at byte 6, is this number (RFC 8200, section 3).
 pub fn has_ip6_proto(link: Link, protocol: u32) -> Elementary
     ensures { result ≡ has_ip6_proto link protocol }
 {

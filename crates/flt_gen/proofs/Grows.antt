@@ -36,7 +36,7 @@ use Rattle.flt_emit.specs.declared.elementary.Offset.{Offset}
 use Rattle.flt_emit.specs.declared.elementary.Offset.TheVariants.{Fixed, AfterHeader}
 use Rattle.flt_emit.specs.Numbers.{width_of}
 use Rattle.flt_emit.specs.Formula.{Formula, Single, Compare, Both, Either, Except, Among}
-use Rattle.flt_emit.specs.inside.Code.{plain, computation, takes, constant, constant_operand, branch_insn, emit_branch, emit_comparison, emit_field, emit_mask, emit_accessor, emit_number, Block, at_top, emit_chain, emit_search, most_halvings, emit_elementary, emit_formula}
+use Rattle.flt_emit.specs.inside.Code.{plain, computation, takes_constant, constant, constant_operand, branch_insn, emit_branch, emit_comparison, emit_field, emit_mask, emit_accessor, emit_number, Block, at_top, emit_chain, emit_search, most_halvings, emit_elementary, emit_formula}
 use Rattle.flt_gen.specs.inside.Counts.{words, nodes, tests}
 use Rattle.flt_gen.proofs.Ascending.{if_case}
 use Rattle.flt_gen.proofs.Codes.{code_is}
@@ -183,7 +183,7 @@ not_zero : (b : Bool) → not b ≡ true → (if b then Some DivisionByZero else
 not_zero true e = cc
 not_zero false e = refl
 
-constant_fine : (operator : Operator) (k m : ℕ) → takes operator k ≡ true → operation_fault (computation operator Constant) (plain (computation operator Constant) k) m ≡ None
+constant_fine : (operator : Operator) (k m : ℕ) → takes_constant operator k ≡ true → operation_fault (computation operator Constant) (plain (computation operator Constant) k) m ≡ None
 constant_fine Divide k m t = not_zero (k == 0) t
 constant_fine Remainder k m t = not_zero (k == 0) t
 constant_fine ShiftLeft k m t = ap (λ b. unless b ShiftTooFar) t

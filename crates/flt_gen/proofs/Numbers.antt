@@ -25,7 +25,7 @@ use Rattle.flt_emit.specs.Elementary.{with}
 use Rattle.cap_octet.specs.Link.{network_offset}
 use Rattle.flt_emit.specs.Numbers.{width_of, base, result_of, number}
 use Rattle.flt_ast.specs.Counts.{number_words}
-use Rattle.flt_emit.specs.inside.Code.{plain, alu_operation, computation, takes, constant, constant_operand, emit_base, emit_transport, emit_accessor, emit_operands, emit_number}
+use Rattle.flt_emit.specs.inside.Code.{plain, alu_operation, computation, takes_constant, constant, constant_operand, emit_base, emit_transport, emit_accessor, emit_operands, emit_number}
 use Rattle.flt_gen.proofs.Tails.{by_right}
 use Rattle.flt_bpf.specs.Answer.{answer_of, answer_after}
 use Rattle.flt_bpf.specs.declared.operation.Operation.TheVariants.{LoadIndirect, Load, LoadHeaderLength, Store, Negate, CopyToIndex}
@@ -58,18 +58,18 @@ computed ExclusiveOr a b = refl
 -- a right operand that is in an instruction is a constant that this may have
 pub record IsConstant (operator : Operator) (r : NumberTree) (k : ℕ) : Type 0 where
   pub is : constant r ≡ Some k
-  pub taken : takes operator k ≡ true
+  pub taken : takes_constant operator k ≡ true
 
 pub operand_is : (operator : Operator) (r : NumberTree) (k : ℕ) → constant_operand operator r ≡ Some k → IsConstant operator r k
 operand_is operator r k e = by_constant (constant r) refl e
   where
-    by_taken : (j : ℕ) (t : Bool) → constant r ≡ Some j → takes operator j ≡ t → (if t then Some j else None) ≡ Some k → IsConstant operator r k
-    by_taken j true c t f = let same : j ≡ k = cc in record { is = c ∙ f; taken = subst (λ m. takes operator m ≡ true) same t }
+    by_taken : (j : ℕ) (t : Bool) → constant r ≡ Some j → takes_constant operator j ≡ t → (if t then Some j else None) ≡ Some k → IsConstant operator r k
+    by_taken j true c t f = let same : j ≡ k = cc in record { is = c ∙ f; taken = subst (λ m. takes_constant operator m ≡ true) same t }
     by_taken j false c t f = cc
 
-    by_constant : (o : Option ℕ) → constant r ≡ o → with o (λ j. if takes operator j then Some j else None) ≡ Some k → IsConstant operator r k
+    by_constant : (o : Option ℕ) → constant r ≡ o → with o (λ j. if takes_constant operator j then Some j else None) ≡ Some k → IsConstant operator r k
     by_constant None c f = cc
-    by_constant (Some j) c f = by_taken j (takes operator j) c refl f
+    by_constant (Some j) c f = by_taken j (takes_constant operator j) c refl f
 
 -- the answer for a number; without one the run ends with 0
 abbrev pub answer_for : Option ℕ → (ℕ → ℕ) → ℕ

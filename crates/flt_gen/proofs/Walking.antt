@@ -23,7 +23,7 @@ use Rattle.flt_emit.specs.Formula.{Formula, Both, Either, Except, Compare as com
 use Rattle.flt_emit.specs.Numbers.{accessor_tests}
 use Rattle.flt_emit.specs.declared.elementary.Elementary.{Elementary}
 use Rattle.flt_words.specs.declared.token.Protocol.{Protocol}
-use Rattle.flt_emit.specs.inside.Code.{plain, computation, takes, emit_comparison, emit_operands, emit_right, emit_number, Block, emit_elementary, emit_formula, emit_all}
+use Rattle.flt_emit.specs.inside.Code.{plain, computation, takes_constant, emit_comparison, emit_operands, emit_right, emit_number, Block, emit_elementary, emit_formula, emit_all}
 use Rattle.flt_gen.specs.inside.ProgramCode.{emit_accessor_tests, expression_code}
 use Rattle.flt_gen.specs.inside.Walk.{Walk, targets, finish_truth, finish_number, with_insns, finish_formula, flush_members, flush_group, emit_value, emit_truth_node, emit_node, or_walk, start_walk, emit_nodes}
 
@@ -52,8 +52,8 @@ number_walked link (named n) w d = refl
 number_walked link len w d = refl
 number_walked link (load p s a) w d = number_walked link a _ d
 number_walked link (negated a) w d = number_walked link a _ d
-number_walked link (applied o a (literal k)) w d = constant_walked link o k a w d (λ v. number_walked link a v d) (takes o k)
-number_walked link (applied o a (named k)) w d = constant_walked link o k a w d (λ v. number_walked link a v d) (takes o k)
+number_walked link (applied o a (literal k)) w d = constant_walked link o k a w d (λ v. number_walked link a v d) (takes_constant o k)
+number_walked link (applied o a (named k)) w d = constant_walked link o k a w d (λ v. number_walked link a v d) (takes_constant o k)
 number_walked link (applied o a len) w d = number_walked link a _ d
 number_walked link (applied o a r) w d = number_walked link r _ (number_onto a d) ∙ number_walked link a _ d
 

@@ -2,8 +2,8 @@
 
 ghost use Rattle.std.specs.Prelude.{◌≡◌, OnOk, reverse};
 ghost use Rattle.flt_emit.specs.inside.Code.{emit_base, emit_transport, emit_accessor};
-ghost use Rattle.flt_emit.specs.inside.Code.{alu_operation, computation, takes, emit_operands};
-ghost use Rattle.flt_emit.specs.inside.Code.{emit_all};
+ghost use Rattle.flt_emit.specs.inside.Code.{alu_operation, computation, takes_constant};
+ghost use Rattle.flt_emit.specs.inside.Code.{emit_operands, emit_all};
 ghost use Rattle.flt_gen.specs.inside.ProgramCode.{emit_accessor_tests};
 ghost use Rattle.flt_emit.specs.Numbers.{accessor_tests, width_of};
 ghost use Rattle.flt_emit.specs.inside.Emits.{Emits};
@@ -42,8 +42,8 @@ pub fn computation(operator: Operator, operand: Operand) -> Operation
 
 /// Whether an operator's instruction may have a constant: a division by 0 and a shift by 32 or
 /// more aren't valid with one.
-pub fn takes(operator: Operator, constant: u32) -> bool
-    ensures { result ≡ takes operator constant }
+pub fn takes_constant(operator: Operator, constant: u32) -> bool
+    ensures { result ≡ takes_constant operator constant }
 {
     match operator {
         Operator::Divide | Operator::Remainder => constant != 0,

@@ -26,7 +26,7 @@ ghost use Rattle.flt_gen.specs.inside.Walk.{begin_operands, finish_number, finis
 
 use crate::group::Group;
 use crate::number::{
-    computation, emit_accessor, emit_accessor_tests, emit_operands, takes, width_of,
+    computation, emit_accessor, emit_accessor_tests, emit_operands, takes_constant, width_of,
 };
 use crate::steps::{Step, Steps};
 use crate::waiting::{LeftTruth, Pending, Stack, Waiting, add_accessor};
@@ -154,7 +154,7 @@ impl<A: Allocator + Clone> Walk<A> {
             ≡ (if fits then Some self.new else None)) }
         ensures same { IfOk result (λ fits. self.new ≡ (if fits then self.new else self.old)) }
     {
-        if !takes(operator, constant) {
+        if !takes_constant(operator, constant) {
             return Ok(false);
         }
         self.code

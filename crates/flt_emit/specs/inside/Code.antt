@@ -55,12 +55,12 @@ computation operator operand = Compute (alu_operation operator) operand
 
 -- whether an operator's instruction may have a constant: a division by 0 and a shift by 32 or more
 -- aren't valid with one
-abbrev pub takes : Operator → ℕ → Bool
-takes Divide k = not (k == 0)
-takes Remainder k = not (k == 0)
-takes ShiftLeft k = nat_lt k 32
-takes ShiftRight k = nat_lt k 32
-takes _ k = true
+abbrev pub takes_constant : Operator → ℕ → Bool
+takes_constant Divide k = not (k == 0)
+takes_constant Remainder k = not (k == 0)
+takes_constant ShiftLeft k = nat_lt k 32
+takes_constant ShiftRight k = nat_lt k 32
+takes_constant _ k = true
 
 -- the constant that arithmetic is
 abbrev pub constant : NumberTree → Option ℕ
@@ -70,7 +70,7 @@ constant _ = None
 
 -- a right operand that is in the operator's instruction
 abbrev pub constant_operand : Operator → NumberTree → Option ℕ
-constant_operand operator r = with (constant r) (λ k. if takes operator k then Some k else None)
+constant_operand operator r = with (constant r) (λ k. if takes_constant operator k then Some k else None)
 
 -- a test that skips this many instructions if it holds, and this many if it doesn't
 abbrev pub branch_insn : Test → Operand → ℕ → ℕ → ℕ → Insn
@@ -107,19 +107,19 @@ abbrev pub emit_mask : Option ℕ → List Insn → List Insn
 emit_mask None c = c
 emit_mask (Some mask) c = plain (Compute arithmetic.And Constant) mask ∷ c
 
--- a test of a field
+-- a field is loaded, masked and compared
 abbrev pub emit_test : FieldTest → ℕ → ℕ → List Insn → List Insn
 emit_test t hit miss c =
     emit_field t.offset t.width (emit_mask t.mask
     (emit_comparison t.comparison Constant t.value hit miss c))
 
--- what loads an accessor's field where its first byte stands at the number in A
+-- the field as far past the IPv4 header as the number in A goes into A
 abbrev pub emit_transport : Link → Width → List Insn → List Insn
 emit_transport link width c =
     plain LoadHeaderLength (network_offset link) ∷ plain (Compute arithmetic.Add IndexRegister) 0
     ∷ plain CopyToIndex 0 ∷ plain (LoadIndirect width) (network_offset link) ∷ c
 
--- the field at a fixed place and the number in A goes into A
+-- the field as far past a fixed place as the number in A goes into A
 abbrev pub emit_base : ℕ → Width → List Insn → List Insn
 emit_base at width c = plain CopyToIndex 0 ∷ plain (LoadIndirect width) at ∷ c
 
@@ -156,7 +156,7 @@ emit_number link (applied operator l r) slot c =
     (emit_number link r (slot + 1)
     (emit_operands slot (plain (computation operator IndexRegister) 0 ∷ c))))
 
--- a comparison of two numbers
+-- two numbers are computed and compared, and the code goes on at one of two places
 abbrev pub emit_relation : Link → Comparison → NumberTree → NumberTree → ℕ → ℕ → List Insn
     → List Insn
 emit_relation link comparison l r hit miss c =
@@ -170,6 +170,7 @@ pub record Block : Type 0 where
   pub code : List Insn
   pub entry : ℕ
 
+-- this code, entered at this place
 abbrev pub block : List Insn → ℕ → Block
 block c entry = record { code = c; entry = entry }
 
@@ -177,7 +178,7 @@ block c entry = record { code = c; entry = entry }
 abbrev pub at_top : List Insn → Block
 at_top c = record { code = c; entry = length c }
 
--- a test that the link type decides takes no code
+-- an elementary test; one that the link type decides takes no code
 abbrev pub emit_elementary : Elementary → ℕ → ℕ → List Insn → Block
 emit_elementary (Outcome true) hit miss c = block c hit
 emit_elementary (Outcome false) hit miss c = block c miss

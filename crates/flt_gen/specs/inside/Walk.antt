@@ -23,7 +23,7 @@ use Rattle.flt_emit.specs.Formula.{Formula}
 use Rattle.flt_gen.specs.inside.Emitted.{with_accessor, qualified_needed}
 use Rattle.flt_gen.specs.inside.Group.{Group, no_group, larger_group, group_formula}
 use Rattle.flt_gen.specs.Primitives.{check_formula, cast_formula, sized_formula}
-use Rattle.flt_emit.specs.inside.Code.{plain, emit_comparison, emit_accessor, computation, takes, emit_operands, Block, block, emit_formula}
+use Rattle.flt_emit.specs.inside.Code.{plain, emit_comparison, emit_accessor, computation, takes_constant, emit_operands, Block, block, emit_formula}
 use Rattle.flt_gen.specs.inside.Steps.{Part, Leaf, Joint}
 use Rattle.flt_gen.specs.inside.ProgramCode.{emit_accessor_tests, returns_code}
 use Rattle.flt_bpf.specs.declared.operation.Operation.TheVariants.{Load, Store, Negate}
@@ -199,7 +199,7 @@ emit_node link w node.Not = emit_truth_node link (flush_group link w) node.Not
 -- left operand is next
 abbrev pub emit_applied : Operator → ℕ → Walk → Option Walk
 emit_applied operator k w =
-    if takes operator k
+    if takes_constant operator k
     then Some (with_insns (plain (computation operator Constant) k ∷ w.code) w)
     else None
 

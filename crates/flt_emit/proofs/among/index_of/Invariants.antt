@@ -1,7 +1,7 @@
 -- The numbers so far are other ones.
 use Rattle.std.proofs.Common.{ℕ, ◌-◌, ◌<◌, ◌≤◌, length, get_or}
 use Rattle.std.specs.Prelude.{◌≢◌}
-use Rattle.flt_emit.proofs.among.place_of.Given as goal
+use Rattle.flt_emit.proofs.among.index_of.Given as goal
 
 abbrev pub invariant-other : goal.invariant-other
 invariant-other l = record {
