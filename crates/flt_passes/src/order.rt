@@ -1,5 +1,5 @@
-//! The nodes of a graph in an order in which all edges lead to later nodes: each pass asks for it,
-//! and restores it.
+//! The nodes of a graph in an order in which all edges lead to later nodes (a topological order):
+//! each pass asks for it, and restores it where it changed the graph.
 
 use crate::graph::{NOWHERE, Node};
 use std::alloc::{AllocError, Allocator};
@@ -7,22 +7,25 @@ use std::alloc::{AllocError, Allocator};
 /// How far a search of a graph is with a node.
 #[derive(Clone, Copy)]
 enum Mark {
+    /// The search hasn't come to it yet.
     Unseen,
-    /// What is after it is searched.
+    /// The nodes to which its edges lead are being searched.
     Entered,
-    /// Its place from the end.
-    Left(usize),
+    /// All to which its edges lead is searched: its index in the new order, counted from the end.
+    Finished(usize),
 }
 
-/// A search of a graph by depth.
+/// A depth-first search of a graph. A node is finished after all to which it leads, so the new
+/// order is that in which nodes are finished, backwards.
 #[derive(Drop)]
 struct Search<'a, A: Allocator> {
     nodes: &'a [Node],
+    /// The mark of each node.
     marks: Vec<Mark, A>,
-    /// The nodes that are entered, and those to be entered, the next one last.
+    /// A stack of the nodes that are entered, and of those to be entered, the next one last.
     work: Vec<usize, A>,
-    /// How many nodes are left.
-    left: usize,
+    /// How many nodes are finished.
+    finished: usize,
 }
 
 impl<A: Allocator> Search<'_, A> {
@@ -33,8 +36,9 @@ impl<A: Allocator> Search<'_, A> {
         }
     }
 
-    /// Begins with a node. The side where a test doesn't hold is searched first, so the other one
-    /// is nearer to the test in the new order.
+    /// Begins with the node `at`. The side where a test doesn't hold is searched first, so the
+    /// other one is nearer to the test in the new order. (`NOWHERE` is put on the stack too, and
+    /// has no mark.)
     fn enter(&mut self, at: usize) -> Result<(), AllocError> {
         self.mark(at, Mark::Entered);
         if let Some(node) = self.nodes.get(at) {
@@ -44,17 +48,18 @@ impl<A: Allocator> Search<'_, A> {
         Ok(())
     }
 
-    /// Ends with a node: all after it is searched.
-    fn leave(&mut self, at: usize) {
-        self.mark(at, Mark::Left(self.left));
-        self.left = self.left.saturating_add(1);
+    /// Ends with the node `at`, which is last on the stack: all to which it leads is searched.
+    fn finish(&mut self, at: usize) {
+        self.mark(at, Mark::Finished(self.finished));
+        self.finished = self.finished.saturating_add(1);
         self.work.pop();
     }
 
     /// Searches all that a run reaches from the entry on.
     fn search(&mut self, entry: usize) -> Result<(), AllocError> {
         self.work.push(entry)?;
-        // Each node is entered once, which puts two on: so 3 steps a node and 1 are enough.
+        // Each node is entered once, in one step, which puts two on the stack; and a step takes one
+        // off. So 3 steps for each node and one more are enough.
         let steps = self.nodes.len().saturating_mul(4).saturating_add(1);
         for _ in 0..steps {
             let Some(at) = self.work.last().copied() else {
@@ -62,7 +67,7 @@ impl<A: Allocator> Search<'_, A> {
             };
             match self.marks.get(at) {
                 Some(Mark::Unseen) => self.enter(at)?,
-                Some(Mark::Entered) => self.leave(at),
+                Some(Mark::Entered) => self.finish(at),
                 _ => {
                     self.work.pop();
                 }
@@ -71,22 +76,24 @@ impl<A: Allocator> Search<'_, A> {
         Ok(())
     }
 
-    /// The index of a node in the new order, or `NOWHERE` where no run reaches it.
-    fn place(&self, at: usize) -> usize {
+    /// The index in the new order of the node `at`, or `NOWHERE` where no run reaches it.
+    fn new_index(&self, at: usize) -> usize {
         match self.marks.get(at) {
-            Some(Mark::Left(from_end)) => { self.left.saturating_sub(1).saturating_sub(*from_end) }
+            Some(Mark::Finished(from_end)) => {
+                self.finished.saturating_sub(1).saturating_sub(*from_end)
+            }
             _ => NOWHERE,
         }
     }
 }
 
-/// The entry of a list for a node, or `NOWHERE`.
+/// The entry for the node `at` of a list with an index for each node; `NOWHERE` if it has none.
 pub(crate) fn entry_at(list: &[usize], at: usize) -> usize {
     list.get(at).copied().unwrap_or(NOWHERE)
 }
 
-/// The nodes that runs from an entry reach, in an order in which all edges lead to later nodes (a
-/// topological order by a search in depth).
+/// The nodes that runs from an entry reach, in an order in which all edges lead to later nodes; the
+/// others are left out. The edges are those of a graph without cycles, in any order.
 pub(crate) fn order_nodes<A: Allocator + Clone>(
     alloc: A,
     nodes: &[Node],
@@ -97,18 +104,19 @@ pub(crate) fn order_nodes<A: Allocator + Clone>(
         nodes,
         marks: vec![in alloc.clone()?; Mark::Unseen; count]?,
         work: Vec::with_capacity(alloc.clone()?, count)?,
-        left: 0,
+        finished: 0,
     };
     search.search(entry)?;
     let Some(first) = nodes.first().copied() else {
         return Ok(Vec::new(alloc));
     };
-    let mut moved = vec![in alloc; first; search.left]?;
+    // The first node only fills the list: each entry is put in below.
+    let mut ordered = vec![in alloc; first; search.finished]?;
     for (at, node) in nodes.iter().enumerate() {
-        if let Some(place) = moved.get_mut(search.place(at)) {
-            let (yes, no) = (search.place(node.yes), search.place(node.no));
+        if let Some(place) = ordered.get_mut(search.new_index(at)) {
+            let (yes, no) = (search.new_index(node.yes), search.new_index(node.no));
             *place = Node { yes, no, ..*node };
         }
     }
-    Ok(moved)
+    Ok(ordered)
 }
