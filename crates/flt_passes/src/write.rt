@@ -1,5 +1,9 @@
-//! The code of a graph, from its end to its beginning. What isn't a test needs the node next to it,
-//! where it goes on: where that stands elsewhere, it is written once more.
+//! The code of a graph, from its end to its beginning. After an instruction that isn't a test a run
+//! goes on at the next one, so the node to which it leads has to stand there: where that stands
+//! elsewhere already, it is written once more. A test may skip any number of instructions.
+//!
+//! A *place* counts the instructions from one to the end, both included, so that it stays the same
+//! while code is put in front. 0 is no place.
 
 use crate::graph::{Flow, NOWHERE, Node};
 use crate::order::entry_at;
@@ -10,15 +14,17 @@ use std::alloc::{AllocError, Allocator};
 #[derive(Drop)]
 struct Writer<'a, A: Allocator> {
     nodes: &'a [Node],
-    /// The number of instructions from each node's to the end, or 0 where it has none yet.
+    /// The place of each node's instruction, the newest one if it was written twice; 0 where it has
+    /// none yet.
     places: Vec<usize, A>,
+    /// The code so far, its last instruction first.
     backwards: Vec<Wide, A>,
-    /// How many instructions there may be.
+    /// How many instructions there may be at most.
     most: usize,
 }
 
-/// How many instructions stand between two places, which count from the end; `None` if `to` isn't
-/// placed.
+/// How many instructions a test skips that is put in front of the place `from` and leads to the
+/// place `to`. `None`: there is no such place, or it is too far for 32 bits.
 fn distance(from: usize, to: usize) -> Option<u32> {
     if to == 0 || from < to {
         return None;
@@ -32,26 +38,27 @@ impl<A: Allocator + Clone> Writer<'_, A> {
         self.nodes.get(at).copied()
     }
 
-    /// The place of a node, from the end, or 0 where it has none yet.
+    /// The place of the node `at`, or 0 where it has none yet.
     fn place(&self, at: usize) -> usize {
         self.places.get(at).copied().unwrap_or(0)
     }
 
-    /// Whether a node stands first in the code so far.
-    fn is_next(&self, at: usize) -> bool {
+    /// Whether the node `at` stands first in the code so far.
+    fn stands_first(&self, at: usize) -> bool {
         self.place(at) == self.backwards.len() && self.place(at) != 0
     }
 
-    /// The instruction of a node, where the code so far has what it goes on to.
-    fn insn(&self, node: Node) -> Option<Wide> {
-        let top = self.backwards.len();
+    /// The instruction of a node, as it can be put in front of the code so far. `None`: it can't,
+    /// since a node to which it leads isn't there, or doesn't stand first where it has to.
+    fn next_insn(&self, node: Node) -> Option<Wide> {
+        let first = self.backwards.len();
         let (yes, no) = match node.flow() {
             Flow::Ends => (0, 0),
-            Flow::GoesOn if self.is_next(node.yes) => (0, 0),
+            Flow::GoesOn if self.stands_first(node.yes) => (0, 0),
             Flow::GoesOn => return None,
             Flow::Branches => (
-                distance(top, self.place(node.yes))?,
-                distance(top, self.place(node.no))?,
+                distance(first, self.place(node.yes))?,
+                distance(first, self.place(node.no))?,
             ),
         };
         Some(Wide {
@@ -62,9 +69,10 @@ impl<A: Allocator + Clone> Writer<'_, A> {
         })
     }
 
-    /// Puts the instruction of a node in front, where it can stand there.
+    /// Puts the instruction of the node `at` in front. Where it can't stand there, or there is no
+    /// room for it, the node has no place then.
     fn put_node(&mut self, at: usize) -> Result<(), AllocError> {
-        let insn = self.node(at).and_then(|node| self.insn(node));
+        let insn = self.node(at).and_then(|node| self.next_insn(node));
         let mut place = 0;
         if let Some(insn) = insn
             && self.backwards.len() < self.most
@@ -78,8 +86,9 @@ impl<A: Allocator + Clone> Writer<'_, A> {
         Ok(())
     }
 
-    /// The nodes from one on up to the first that is a test or a return.
-    fn tail(&self, from: usize, alloc: A) -> Result<Vec<usize, A>, AllocError> {
+    /// The nodes from one on that have to stand one after the other: up to the first that is a test
+    /// or a return, which is the last of them.
+    fn tail_from(&self, from: usize, alloc: A) -> Result<Vec<usize, A>, AllocError> {
         let mut tail = Vec::new(alloc);
         let mut at = from;
         for _ in 0..self.nodes.len() {
@@ -95,14 +104,15 @@ impl<A: Allocator + Clone> Writer<'_, A> {
         Ok(tail)
     }
 
-    /// Puts the instruction of a node in front. Where the node next to it stands elsewhere, that
-    /// one and those after it, up to a test or a return, are written once more between.
-    fn put_before(&mut self, at: usize, alloc: A) -> Result<(), AllocError> {
+    /// Puts the instruction of the node `at` in front. Where it isn't a test and the node to which
+    /// it leads doesn't stand first, that one and those after it (`tail_from`) are written once
+    /// more before.
+    fn put_with_tail(&mut self, at: usize, alloc: A) -> Result<(), AllocError> {
         if let Some(node) = self.node(at)
             && node.flow() == Flow::GoesOn
-            && !self.is_next(node.yes)
+            && !self.stands_first(node.yes)
         {
-            let tail = self.tail(node.yes, alloc)?;
+            let tail = self.tail_from(node.yes, alloc)?;
             for again in tail.iter().rev() {
                 self.put_node(*again)?;
             }
@@ -111,68 +121,71 @@ impl<A: Allocator + Clone> Writer<'_, A> {
     }
 }
 
-/// For each node the last one that leads to it and is no test, or `NOWHERE`.
-fn last_before<A: Allocator>(alloc: A, nodes: &[Node]) -> Result<Vec<usize, A>, AllocError> {
-    let mut before = vec![in alloc; NOWHERE; nodes.len()]?;
+/// For each node the last one that leads to it and is no test, or `NOWHERE`: it can stand right in
+/// front of the node, so that the node isn't written twice for it.
+fn last_predecessors<A: Allocator>(alloc: A, nodes: &[Node]) -> Result<Vec<usize, A>, AllocError> {
+    let mut predecessors = vec![in alloc; NOWHERE; nodes.len()]?;
     for (at, node) in nodes.iter().enumerate() {
         if node.flow() == Flow::GoesOn
-            && let Some(last) = before.get_mut(node.yes)
+            && let Some(last) = predecessors.get_mut(node.yes)
         {
             *last = at;
         }
     }
-    Ok(before)
+    Ok(predecessors)
 }
 
 impl<A: Allocator + Clone> Writer<'_, A> {
-    /// Puts the nodes that lead to one and are no tests in front of it, one before the other.
-    fn put_nodes_before(
+    /// Puts the predecessor of the node `at` in front of it, then that one's own, and so on, up to
+    /// a node that has none, or that has a place already.
+    fn put_predecessors(
         &mut self,
         at: usize,
-        before: &[usize],
+        predecessors: &[usize],
         alloc: A,
     ) -> Result<(), AllocError> {
-        let mut last = entry_at(before, at);
+        let mut last = entry_at(predecessors, at);
         for _ in 0..self.nodes.len() {
             if last == NOWHERE || self.place(last) != 0 {
                 break;
             }
-            self.put_before(last, alloc.clone()?)?;
+            self.put_with_tail(last, alloc.clone()?)?;
             if self.place(last) == 0 {
                 break;
             }
-            last = entry_at(before, last);
+            last = entry_at(predecessors, last);
         }
         Ok(())
     }
 
-    /// Puts all nodes, from the last to the first.
-    fn put_all(&mut self, before: &[usize], alloc: A) -> Result<(), AllocError> {
+    /// Puts all nodes, from the last to the first, each with its predecessors.
+    fn put_all(&mut self, predecessors: &[usize], alloc: A) -> Result<(), AllocError> {
         for at in (0..self.nodes.len()).rev() {
             if self.place(at) == 0 {
-                self.put_before(at, alloc.clone()?)?;
-                self.put_nodes_before(at, before, alloc.clone()?)?;
+                self.put_with_tail(at, alloc.clone()?)?;
+                self.put_predecessors(at, predecessors, alloc.clone()?)?;
             }
         }
         Ok(())
     }
 }
 
-/// The code of a graph whose edges lead to later nodes, or `None` where it would have more than
-/// `most` instructions.
+/// The code of a graph whose edges lead to later nodes. A run begins at node 0. `None`: the code
+/// would have more than `most` instructions, or the graph has no node.
 pub(crate) fn write_code<A: Allocator + Clone>(
     alloc: A,
     nodes: &[Node],
     most: usize,
 ) -> Result<Option<Vec<Wide, A>>, AllocError> {
-    let before = last_before(alloc.clone()?, nodes)?;
+    let predecessors = last_predecessors(alloc.clone()?, nodes)?;
     let mut writer = Writer {
         nodes,
         places: vec![in alloc.clone()?; 0; nodes.len()]?,
         backwards: Vec::new(alloc.clone()?),
         most,
     };
-    writer.put_all(&before, alloc)?;
+    writer.put_all(&predecessors, alloc)?;
+    // Runs begin at node 0, so none reaches what was put in front of it.
     let len = writer.place(0);
     let mut code = writer.backwards;
     code.truncate(len);
