@@ -1,5 +1,6 @@
-//! How far a run can be taken to have gone already, by what is known of it: for the passes `Thread`
-//! and `ThreadFar`.
+//! How far on an edge may lead, for the passes `Thread` and `ThreadFar`: from the node where the
+//! edge leads a run is followed, by what is known of it, past nodes without which it would go on
+//! the same.
 
 use crate::graph::{Flow, Node};
 use crate::known::{Known, loads_from_packet};
@@ -11,28 +12,32 @@ use flt_opt::{
 };
 use std::alloc::{AllocError, Allocator};
 
-/// How many nodes are passed at most, on all ways together.
+/// How many nodes are passed at most for one edge, on all ways together.
 const FUEL: usize = 32;
 
-/// A run at a node.
+/// Where a run is that is followed, and what has become of its registers since the beginning: the
+/// node from which it is followed.
 #[derive(Clone, Copy)]
 struct Way {
+    /// The index of the node where it is.
     at: usize,
     registers: Registers,
-    /// A is what it was in the beginning.
+    /// Nothing was put into A since the beginning.
     keeps_accumulator: bool,
+    /// Nothing was put into X since the beginning.
     keeps_index: bool,
-    /// Something was loaded that may not be there, so it may have been rejected.
+    /// A load was passed whose bytes may not be captured, so the packet may have been rejected.
     may_fail: bool,
 }
 
-/// How a run goes on.
+/// How a run goes on after a node.
 #[derive(Clone, Copy)]
 enum Step {
     /// It ends, or may not be followed farther.
     Ends,
+    /// It goes on there.
     To(Way),
-    /// On a side of a test that isn't decided.
+    /// It goes on at either side of a test that isn't decided.
     Either,
 }
 
@@ -40,23 +45,29 @@ enum Step {
 #[derive(Drop)]
 struct Follower<'a, A: Allocator> {
     nodes: &'a [Node],
+    /// What is read from each node on.
     lives: &'a [Live],
+    /// The list in which the facts' sets of numbers are.
     pieces: &'a [Piece],
+    /// What is known of the run at the beginning.
     known: &'a Known,
-    /// What tests have shown that aren't decided.
+    /// What the undecided tests have shown on whose sides it is.
     learnt: Vec<Learnt, A>,
-    /// Where it may be put, the nearest first.
+    /// The nodes that were met to which the edge may lead (`may_lead_to`), the nearest first.
     trail: Vec<usize, A>,
+    /// How many more nodes may be passed.
     fuel: usize,
 }
 
-/// Whether a register holds what it held first: it was kept, or its term is the same.
+/// Whether a register holds what it held at the beginning: it was kept, or its term is known and
+/// the same.
 fn holds_again(keeps: bool, now: Term, first: Term) -> bool {
     keeps || is_known(now) && now == first
 }
 
 impl<A: Allocator> Follower<'_, A> {
-    /// All that is known of the packet on this way.
+    /// All that is known of the packet where the run is: facts of the beginning, and what undecided
+    /// tests have shown since.
     fn knowledge(&self) -> Knowledge<'_> {
         Knowledge {
             facts: self.known.facts.as_slice(),
@@ -65,9 +76,10 @@ impl<A: Allocator> Follower<'_, A> {
         }
     }
 
-    /// Whether a run may be put at the node where this one is: what is read from there on is the
-    /// same.
-    fn may_be_put_at(&self, way: &Way, node: Node) -> bool {
+    /// Whether the edge may lead to the node where the run is: each register that is read from
+    /// there on holds what it held at the beginning; and if the packet may have been rejected on
+    /// the way, the node rejects it.
+    fn may_lead_to(&self, way: &Way, node: Node) -> bool {
         let (live, first) = (live_at(self.lives, way.at), self.known.registers);
         let accumulator = holds_again(
             way.keeps_accumulator,
@@ -80,8 +92,10 @@ impl<A: Allocator> Follower<'_, A> {
             && (index || !live.index)
     }
 
-    /// Whether what an operation loads is there.
+    /// Whether the bytes are known to be captured that an operation loads, where the registers hold
+    /// this.
     fn is_there(&self, operation: Operation, k: u32, registers: Registers) -> bool {
+        // `flt_opt` asks of two runs: here one that stays at the beginning, and this one.
         let both = Both {
             new: self.known.registers,
             old: registers,
@@ -92,7 +106,7 @@ impl<A: Allocator> Follower<'_, A> {
         is_there(term, self.known.facts.as_slice(), &both)
     }
 
-    /// Whether an operation leads on, on each packet of which this is known.
+    /// Whether an operation is known to lead on to the next node, and changes no word of memory.
     fn succeeds(&self, operation: Operation, k: u32, registers: Registers) -> bool {
         is_sure(
             operation,
@@ -101,8 +115,9 @@ impl<A: Allocator> Follower<'_, A> {
         )
     }
 
-    /// How the run goes on after a node that isn't a test.
-    fn after_operation(&self, way: &Way, node: Node) -> Step {
+    /// How the run goes on after a node that isn't a test. A load that may fail is passed, which is
+    /// noted; anything else that may fail is not, and no store.
+    fn step_past_operation(&self, way: &Way, node: Node) -> Step {
         let operation = node.operation;
         let succeeds = self.succeeds(operation, node.k, way.registers);
         if !succeeds && !loads_from_packet(operation) {
@@ -117,8 +132,8 @@ impl<A: Allocator> Follower<'_, A> {
         })
     }
 
-    /// How the run goes on after a test, where what is known decides it.
-    fn after_test(&self, way: &Way, node: Node) -> Step {
+    /// How the run goes on after a test: on the side that what is known decides, else at either.
+    fn step_past_test(&self, way: &Way, node: Node) -> Step {
         let term = way.registers.accumulator;
         let knowledge = self.knowledge();
         let Some(test) = node.test() else {
@@ -137,24 +152,26 @@ impl<A: Allocator> Follower<'_, A> {
         }
     }
 
-    /// How the run goes on after a node.
+    /// How the run goes on after the node where it is.
     fn step(&self, way: &Way, node: Node) -> Step {
         match node.flow() {
             Flow::Ends => Step::Ends,
-            Flow::GoesOn => self.after_operation(way, node),
-            Flow::Branches => self.after_test(way, node),
+            Flow::GoesOn => self.step_past_operation(way, node),
+            Flow::Branches => self.step_past_test(way, node),
         }
     }
 
-    /// Follows a run as far as it is decided. Returns where it isn't, if it reaches such a test.
-    fn follow(&mut self, from: Way) -> Result<Option<Way>, AllocError> {
+    /// Follows a run as far as its tests are decided, and adds to the trail. Returns where it is at
+    /// a test that isn't decided. `None`: it reaches none, since it ends, may not be followed
+    /// farther, or the fuel is used up.
+    fn follow_decided(&mut self, from: Way) -> Result<Option<Way>, AllocError> {
         let mut way = from;
         for _ in 0..self.fuel {
             let Some(node) = self.nodes.get(way.at).copied() else {
                 return Ok(None);
             };
             self.fuel = self.fuel.saturating_sub(1);
-            if self.may_be_put_at(&way, node) {
+            if self.may_lead_to(&way, node) {
                 self.trail.push(way.at)?;
             }
             match self.step(&way, node) {
@@ -166,9 +183,10 @@ impl<A: Allocator> Follower<'_, A> {
         Ok(None)
     }
 
-    /// The trail from `first` on is that of one side of a test, and from `second` on that of the
-    /// other one; both ascend. Keeps the nodes that are on both.
-    fn keep_common(&mut self, first: usize, second: usize) {
+    /// Where both sides of a test came together: keeps of the trail the nodes that are on both. The
+    /// trail from the index `first` on is that of one side, and from `second` on that of the other
+    /// one; both ascend, since edges lead to later nodes.
+    fn keep_common_trail(&mut self, first: usize, second: usize) {
         let mut kept = first;
         for at in first..second {
             let Some(place) = self.trail.get(at).copied() else {
@@ -185,7 +203,8 @@ impl<A: Allocator> Follower<'_, A> {
         self.trail.truncate(kept);
     }
 
-    /// Follows a run on a side of a test that isn't decided, past `splits` more of them.
+    /// Follows a run on a side of the test where it is, which isn't decided, and past at most
+    /// `splits` more of these. What the test has shown is forgotten at the end.
     #[cycle(splits)]
     fn follow_side(&mut self, way: &Way, holds: bool, splits: usize) -> Result<(), AllocError> {
         let Some(node) = self.nodes.get(way.at).copied() else {
@@ -197,15 +216,17 @@ impl<A: Allocator> Follower<'_, A> {
                 .push(outcome(test, node.k, way.registers.accumulator, holds))?;
         }
         let at = if holds { node.yes } else { node.no };
-        self.follow_all(Way { at, ..*way }, splits)?;
+        self.follow_splits(Way { at, ..*way }, splits)?;
         self.learnt.truncate(len);
         Ok(())
     }
 
-    /// Follows a run past `splits` tests that aren't decided, where both sides come together.
+    /// Follows a run as far as its tests are decided, and then on both sides of one that isn't, if
+    /// `splits` isn't 0; on each side past at most `splits` - 1 more. The trail then goes on with
+    /// the nodes where both sides come together.
     #[cycle(splits)]
-    fn follow_all(&mut self, from: Way, splits: usize) -> Result<(), AllocError> {
-        let split = self.follow(from)?;
+    fn follow_splits(&mut self, from: Way, splits: usize) -> Result<(), AllocError> {
+        let split = self.follow_decided(from)?;
         if let Some(way) = split
             && splits > 0
         {
@@ -214,7 +235,7 @@ impl<A: Allocator> Follower<'_, A> {
             let second = self.trail.len();
             if second > first {
                 self.follow_side(&way, false, splits - 1)?;
-                self.keep_common(first, second);
+                self.keep_common_trail(first, second);
             }
         }
         Ok(())
@@ -222,8 +243,8 @@ impl<A: Allocator> Follower<'_, A> {
 }
 
 impl<A: Allocator> Follower<'_, A> {
-    /// The farthest node where a run may go on in place of one, as far as all tests are decided. It
-    /// follows as `follow` does, but keeps no trail, so that no memory is taken.
+    /// The index of the farthest node to which the edge may lead, as far as all tests are decided.
+    /// It follows as `follow_decided` does, but keeps no trail, so that no memory is taken.
     fn farthest_decided(&self, from: Way) -> usize {
         let mut way = from;
         let mut farthest = from.at;
@@ -231,7 +252,7 @@ impl<A: Allocator> Follower<'_, A> {
             let Some(node) = self.nodes.get(way.at).copied() else {
                 break;
             };
-            if self.may_be_put_at(&way, node) {
+            if self.may_lead_to(&way, node) {
                 farthest = way.at;
             }
             match self.step(&way, node) {
@@ -243,10 +264,10 @@ impl<A: Allocator> Follower<'_, A> {
     }
 }
 
-/// The farthest node where a run may go on in place of `from`, by what is known of it. Past
-/// `splits` tests that aren't decided it goes one on a side of the other, where both sides come
-/// together.
-pub(crate) fn farthest_place<A: Allocator + Clone>(
+/// The index of the farthest node where a run may go on in place of the node `from`, by what is
+/// `known` of it there. Tests that aren't decided are passed where both sides come together, at
+/// most `splits` of them on one way. `from` itself, where it may go on at no other.
+pub(crate) fn farthest_node<A: Allocator + Clone>(
     alloc: A,
     nodes: &[Node],
     lives: &[Live],
@@ -274,6 +295,6 @@ pub(crate) fn farthest_place<A: Allocator + Clone>(
     if splits == 0 {
         return Ok(follower.farthest_decided(way));
     }
-    follower.follow_all(way, splits)?;
+    follower.follow_splits(way, splits)?;
     Ok(follower.trail.last().copied().unwrap_or(from))
 }

@@ -1,7 +1,9 @@
-//! The passes `Thread` and `ThreadFar`: each edge goes on as far as what is known on every way to
-//! it decides (jump threading).
+//! The passes `Thread` and `ThreadFar`: each edge is led on, so that it leads to a later node, as
+//! far as what is known on every way to it decides the tests there (jump threading). Nodes are
+//! taken from the first to the last; a node *waits* from the first run that is seen to reach it
+//! until its turn, when all runs to it have been seen.
 
-use crate::follow::farthest_place;
+use crate::follow::farthest_node;
 use crate::graph::{Flow, NOWHERE, Node};
 use crate::known::{AT_START, Known};
 use crate::live::{Live, Reads, is_of_use, live_at, lives_of_graph};
@@ -15,28 +17,33 @@ use std::alloc::{AllocError, Allocator};
 struct Threading<A: Allocator> {
     alloc: A,
     nodes: Vec<Node, A>,
+    /// What is read from each node on.
     lives: Vec<Live, A>,
+    /// The list in which the facts' sets of numbers are.
     pieces: Vec<Piece, A>,
-    /// What is known where a run reaches nodes that wait.
+    /// What is known where runs reach the nodes that wait, in any order.
     waiting: Vec<Known, A>,
-    /// Where that is of each node, if a run was seen to come there.
+    /// For each node the index of its entry in `waiting`, or `NOWHERE` if no run was seen to come
+    /// there.
     slots: Vec<usize, A>,
-    /// The places that no node has.
+    /// The indices of the entries of `waiting` that are used no more.
     free: Vec<usize, A>,
-    /// How many tests that aren't decided are passed, one on a side of the other.
+    /// How many tests that aren't decided may be passed on one way.
     splits: usize,
+    /// Whether an edge was changed.
     is_changed: bool,
 }
 
 impl<A: Allocator + Clone> Threading<A> {
-    /// Whether a run ends at a node, or there is none.
+    /// Whether the node `at` ends a run, or there is none, as of `NOWHERE`.
     fn ends_at(&self, at: usize) -> bool {
         self.nodes
             .get(at)
             .is_none_or(|node| node.flow() == Flow::Ends)
     }
 
-    /// One more run reaches a node, of which this is known.
+    /// One more run, of which this is known, reaches the node `at`, which waits for its turn. What
+    /// holds of all runs to it is kept, unless they end there.
     fn arrive(&mut self, at: usize, mut known: Known) -> Result<(), AllocError> {
         if self.ends_at(at) {
             return Ok(());
@@ -45,7 +52,7 @@ impl<A: Allocator + Clone> Threading<A> {
         known.facts.keep_useful(&reads);
         let slot = entry_at(&self.slots, at);
         match self.waiting.get_mut(slot) {
-            None => self.wait(at, known),
+            None => self.add_waiting(at, known),
             Some(held) => {
                 *held = held.common_with(&known, &mut self.pieces)?;
                 Ok(())
@@ -53,8 +60,8 @@ impl<A: Allocator + Clone> Threading<A> {
         }
     }
 
-    /// The node waits until it is led on, with what is known of the first run that reaches it.
-    fn wait(&mut self, at: usize, known: Known) -> Result<(), AllocError> {
+    /// The node `at` begins to wait, with what is known of the first run that reaches it.
+    fn add_waiting(&mut self, at: usize, known: Known) -> Result<(), AllocError> {
         let slot = match self.free.pop() {
             Some(slot) => slot,
             None => self.waiting.len(),
@@ -69,8 +76,9 @@ impl<A: Allocator + Clone> Threading<A> {
         Ok(())
     }
 
-    /// What is known of all runs that reach a node, if one does. It waits no more.
-    fn take(&mut self, at: usize) -> Result<Option<Known>, AllocError> {
+    /// The turn of the node `at`: what is known of all runs that reach it. It waits no more.
+    /// `None`: no run reaches it.
+    fn take_waiting(&mut self, at: usize) -> Result<Option<Known>, AllocError> {
         let slot = entry_at(&self.slots, at);
         let Some(known) = self.waiting.get(slot).copied() else {
             return Ok(None);
@@ -79,18 +87,20 @@ impl<A: Allocator + Clone> Threading<A> {
         Ok(Some(known))
     }
 
-    /// What a run reads from a node on.
+    /// What a run of which this is known reads from the node `at` on; a list of one, as `live` and
+    /// `known` ask for it.
     fn reads(&self, known: &Known, at: usize) -> [Reads; 1] {
         let (live, accumulator) = (live_at(&self.lives, at), known.registers.accumulator);
         [Reads { live, accumulator }]
     }
 
-    /// The node where a run of which this is known goes on in place of `to`.
-    fn led_to(&self, known: &Known, to: usize) -> Result<usize, AllocError> {
+    /// The index of the node where a run of which this is known may go on in place of the node
+    /// `to`. Where no fact is known, that stays.
+    fn farthest_target(&self, known: &Known, to: usize) -> Result<usize, AllocError> {
         if known.facts.is_empty() {
             return Ok(to);
         }
-        farthest_place(
+        farthest_node(
             self.alloc.clone()?,
             &self.nodes,
             &self.lives,
@@ -101,8 +111,8 @@ impl<A: Allocator + Clone> Threading<A> {
         )
     }
 
-    /// Whether a run of which this is known may go on past a node: a test, or one that does nothing
-    /// new.
+    /// Whether it is of use to follow a run, of which this is known, past the node `at`: a test, or
+    /// one whose result is known.
     fn may_pass(&self, known: &Known, at: usize) -> bool {
         let Some(node) = self.nodes.get(at) else {
             return false;
@@ -110,9 +120,10 @@ impl<A: Allocator + Clone> Threading<A> {
         node.flow() != Flow::GoesOn || known.tells_result_of(*node)
     }
 
-    /// Leads the beginning of all runs on. Returns where they begin.
+    /// Leads the beginning of all runs on, which is at the node `to`. Returns where they begin
+    /// then.
     fn lead_start(&mut self, known: &Known, to: usize) -> Result<usize, AllocError> {
-        let to = self.led_to(known, to)?;
+        let to = self.farthest_target(known, to)?;
         self.arrive(to, *known)?;
         Ok(to)
     }
@@ -120,7 +131,7 @@ impl<A: Allocator + Clone> Threading<A> {
 
 impl<A: Allocator + Clone> Threading<A> {
     /// Whether a test can hold, and whether it can fail, by what is known: one of both at least.
-    fn outcomes(&self, known: &Known, node: Node) -> (bool, bool) {
+    fn possible_outcomes(&self, known: &Known, node: Node) -> (bool, bool) {
         let term = known.registers.accumulator;
         match known.facts.decide(&self.pieces, node.test(), node.k, term) {
             None => (true, true),
@@ -128,7 +139,8 @@ impl<A: Allocator + Clone> Threading<A> {
         }
     }
 
-    /// What is known on the side of a test.
+    /// What is known on the side of a test where it holds or doesn't: what is known in front of it,
+    /// and what it shows, as far as that is of use there.
     fn known_on_side(
         &mut self,
         known: &Known,
@@ -147,21 +159,23 @@ impl<A: Allocator + Clone> Threading<A> {
         Ok(on_side)
     }
 
-    /// Leads the side of a test on. Returns where it leads.
+    /// Leads on one edge of a test: the one for where it holds, or for where it doesn't. Returns
+    /// the index of the node where that leads then.
     fn lead_side(&mut self, known: &Known, node: Node, holds: bool) -> Result<usize, AllocError> {
         let to = if holds { node.yes } else { node.no };
         if self.ends_at(to) {
             return Ok(to);
         }
         let on_side = self.known_on_side(known, node, holds)?;
-        let to = self.led_to(&on_side, to)?;
+        let to = self.farthest_target(&on_side, to)?;
         self.arrive(to, on_side)?;
         Ok(to)
     }
 
-    /// Leads both sides of a test on, by what is known where runs reach it.
+    /// Leads both edges of a test on, by what is known where runs reach it. Where it is decided,
+    /// both lead to the side that is taken.
     fn lead_test(&mut self, at: usize, node: Node, known: &Known) -> Result<(), AllocError> {
-        let (can_hold, can_fail) = self.outcomes(known, node);
+        let (can_hold, can_fail) = self.possible_outcomes(known, node);
         let (mut yes, mut no) = (node.yes, node.no);
         if can_hold {
             yes = self.lead_side(known, node, true)?;
@@ -177,7 +191,7 @@ impl<A: Allocator + Clone> Threading<A> {
         Ok(())
     }
 
-    /// Lets the edges of a node, which stands at `at`, lead to these nodes, and notes whether that
+    /// Lets the edges of the node `at` lead to the nodes `yes` and `no`, and notes whether that
     /// changes one: then the nodes are put in order again.
     fn redirect(&mut self, at: usize, node: Node, yes: usize, no: usize) {
         if let Some(place) = self.nodes.get_mut(at)
@@ -188,14 +202,14 @@ impl<A: Allocator + Clone> Threading<A> {
         }
     }
 
-    /// Leads on the edge of a node that isn't a test. No edge is led to a node that is none either,
-    /// since that would have to stand there once more.
-    fn lead_on(&mut self, at: usize, node: Node, mut known: Known) -> Result<(), AllocError> {
+    /// Leads on the edge of a node that isn't a test, after which this is known. It isn't led to
+    /// another node that is no test: in code that would have to stand there once more.
+    fn lead_edge(&mut self, at: usize, node: Node, mut known: Known) -> Result<(), AllocError> {
         let reads = self.reads(&known, node.yes);
         known.facts.keep_useful(&reads);
         let mut to = node.yes;
         if !self.ends_at(to) && self.may_pass(&known, to) {
-            to = self.led_to(&known, to)?;
+            to = self.farthest_target(&known, to)?;
         }
         if self
             .nodes
@@ -208,33 +222,33 @@ impl<A: Allocator + Clone> Threading<A> {
         self.arrive(to, known)
     }
 
-    /// Leads the edges of a node on, if a run reaches it.
-    fn lead(&mut self, at: usize) -> Result<(), AllocError> {
+    /// Leads the edges of the node `at` on, whose turn it is, if a run reaches it.
+    fn lead_node(&mut self, at: usize) -> Result<(), AllocError> {
         let Some(node) = self.nodes.get(at).copied() else {
             return Ok(());
         };
-        let Some(known) = self.take(at)? else {
+        let Some(known) = self.take_waiting(at)? else {
             return Ok(());
         };
         match node.flow() {
             Flow::Ends => Ok(()),
-            Flow::GoesOn => self.lead_on(at, node, known.after_node(node)),
+            Flow::GoesOn => self.lead_edge(at, node, known.after_node(node)),
             Flow::Branches => self.lead_test(at, node, &known),
         }
     }
 
-    /// Leads all edges on. Returns the node where runs begin.
+    /// Leads all edges on. Returns the index of the node where runs begin then.
     fn lead_all(&mut self) -> Result<usize, AllocError> {
         let entry = self.lead_start(&AT_START, 0)?;
         for at in 0..self.nodes.len() {
-            self.lead(at)?;
+            self.lead_node(at)?;
         }
         Ok(entry)
     }
 }
 
-/// The graph with each edge led on past what is decided, and past `splits` tests that aren't, one
-/// on a side of the other. Its edges lead to later nodes.
+/// The graph with each edge led on past what is decided, and on one way past at most `splits` tests
+/// that aren't. All edges of both graphs lead to later nodes.
 pub(crate) fn thread_edges<A: Allocator + Clone>(
     alloc: A,
     nodes: Vec<Node, A>,
