@@ -25,7 +25,7 @@ use Rattle.flt_opt.specs.declared.note.Term.{Term}
 use Rattle.flt_opt.specs.declared.validator.Condition.{Condition}
 use Rattle.flt_opt.specs.declared.validator.Programs.{Programs}
 use Rattle.flt_opt.specs.declared.validator.Way.{Way}
-use Rattle.flt_opt.specs.inside.Terms.{value, is_known, Hold, Agree, Reads, leads_on, returns, after_both, after_old, after_new, after_loads, asked, is_load}
+use Rattle.flt_opt.specs.inside.Terms.{value, is_known, Hold, Agree, Reads, leads_on, returns, after_both, after_old, after_new, after_loads, made_term, is_load}
 use Rattle.flt_opt.specs.inside.Facts.{part}
 use Rattle.flt_opt.specs.inside.Alike.{IsSure, LeadsTo, Tests, IsSound, IsBits, OperandsAgree}
 use Rattle.flt_opt.proofs.Steps.{op_both, op_sure, agree_old, agree_new, knows_step, load_is}
@@ -155,8 +155,8 @@ module _ (programs : Programs) (m : Note) (i : Insn) (new_there : slice_get prog
         by _ s t answer rn ro reads w di do_ e = cc
 
     -- two loads of one field
-    module _ (op other : Operation) (t : Term) (new_is : operation_of i.code ≡ Some op) (old_is : operation_of o.code ≡ Some other) (new_loads : is_load op ≡ true) (old_loads : is_load other ≡ true) (known : is_known t ≡ true) (new_term : t ≡ asked op i.k m.registers.new) (old_term : t ≡ asked other o.k m.registers.old) where
-      loads : (p : List ℕ) (n : ℕ) (j : Insn) (q : Operation) (r : Registers) (s : State) → operation_of j.code ≡ Some q → is_load q ≡ true → t ≡ asked q j.k r → Hold p n r s → step j p n s ≡ into Accumulator (value p n t) s
+    module _ (op other : Operation) (t : Term) (new_is : operation_of i.code ≡ Some op) (old_is : operation_of o.code ≡ Some other) (new_loads : is_load op ≡ true) (old_loads : is_load other ≡ true) (known : is_known t ≡ true) (new_term : t ≡ made_term op i.k m.registers.new) (old_term : t ≡ made_term other o.k m.registers.old) where
+      loads : (p : List ℕ) (n : ℕ) (j : Insn) (q : Operation) (r : Registers) (s : State) → operation_of j.code ≡ Some q → is_load q ≡ true → t ≡ made_term q j.k r → Hold p n r s → step j p n s ≡ into Accumulator (value p n t) s
       loads p n j q r s is load same hold =
           knows_step p n j q s is
           ∙ load_is p n q j r s load hold (subst (λ z. is_known z ≡ true) same known)

@@ -23,7 +23,7 @@ use Rattle.flt_opt.specs.declared.note.Term.{Term}
 use Rattle.flt_opt.specs.declared.note.Term.TheVariants.{Anything, Number, Length, Field, HeaderLength}
 use Rattle.flt_opt.specs.declared.note.Registers.{Registers}
 use Rattle.flt_opt.specs.declared.note.Both.{Both}
-use Rattle.flt_opt.specs.inside.Terms.{value, is_known, is_load, header_at, past, bare, under, There, Holds, Hold, Agree, after_indirect_load, combined_mask, masked, term_of_sum, after_arithmetic, accumulator_after, index_after, after, reads_index, sets_accumulator, sets_index, after_both, after_old, after_new, asked, is_sure, Reads, leads_on}
+use Rattle.flt_opt.specs.inside.Terms.{value, is_known, is_load, header_at, past, bare, under, There, Holds, Hold, Agree, after_indirect_load, combined_mask, masked, term_of_sum, after_arithmetic, accumulator_after, index_after, after, reads_index, sets_accumulator, sets_index, after_both, after_old, after_new, made_term, is_sure, Reads, leads_on}
 
 pub both_true : (a b : Bool) → (a && b) ≡ true → (a ≡ true) × (b ≡ true)
 both_true true b e = (refl, e)
@@ -293,7 +293,7 @@ module _ (p : List ℕ) (n : ℕ) where
   computes ShiftRight o k a x there e = record { number = _; is = refl }
   computes ExclusiveOr o k a x there e = record { number = _; is = refl }
 
-  pub op_sure : (op : Operation) (i : Insn) (r : Registers) (s : State) (there : Bool) → is_sure op i.k there ≡ true → (there ≡ true → There p n (asked op i.k r)) → Hold p n r s → Sure op i s
+  pub op_sure : (op : Operation) (i : Insn) (r : Registers) (s : State) (there : Bool) → is_sure op i.k there ≡ true → (there ≡ true → There p n (made_term op i.k r)) → Hold p n r s → Sure op i s
   op_sure (LoadAbsolute w) i r s there e t h = let v = t e in let g = got (under None) (field p i.k w) v.number v.is in sure_into Accumulator (LoadAbsolute w) i s (field p i.k w) g.number refl g.is
   op_sure (LoadIndirect w) i r s there e t h = let g = got_indirect w i.k s.index r.index h.index (t e) in sure_into Accumulator (LoadIndirect w) i s (field p ((s.index + i.k) % 2 ^ 32) w) g.number refl g.is
   op_sure (LoadRegister Accumulator Immediate) i r s there e t h = sure_into Accumulator (LoadRegister Accumulator Immediate) i s (Some i.k) i.k refl refl
@@ -367,7 +367,7 @@ module _ (p : List ℕ) (n : ℕ) where
       ap (λ m. field p ((m + k) % 2 ^ 32) w) same ∙ under_none (field p ((y + k) % 2 ^ 32) w)
   indirect_is w k v (HeaderLength at more) h known = past_is w more k v (header_at p at) (h.is refl)
 
-  pub load_is : (op : Operation) (i : Insn) (r : Registers) (s : State) → is_load op ≡ true → Hold p n r s → is_known (asked op i.k r) ≡ true → does op i p n s ≡ into Accumulator (value p n (asked op i.k r)) s
+  pub load_is : (op : Operation) (i : Insn) (r : Registers) (s : State) → is_load op ≡ true → Hold p n r s → is_known (made_term op i.k r) ≡ true → does op i p n s ≡ into Accumulator (value p n (made_term op i.k r)) s
   load_is (LoadAbsolute w) i r s e h known = ap (λ o. into Accumulator o s) (under_none (field p i.k w))
   load_is (LoadIndirect w) i r s e h known = ap (λ o. into Accumulator o s) (indirect_is w i.k s.index r.index h.index known)
   load_is _ i r s e h known = cc

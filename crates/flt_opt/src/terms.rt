@@ -1,5 +1,5 @@
-//! What the registers hold after an instruction, as terms over the packet, and what an instruction
-//! reads and sets. `k` is the instruction's number.
+//! What an operation does: which registers it reads and sets, whether it leads on, and what they
+//! hold then, as terms over the packet. `k` is the number in the instruction.
 //!
 //! The clauses cite definitions of the same names: the proofs show of these that a register holds
 //! what its term says after the machine's own step.
@@ -8,7 +8,7 @@ ghost use Rattle.std.specs.Prelude.{◌≡◌, IsTrue};
 ghost use Rattle.flt_opt.specs.inside.Terms.{after_indirect_load, combined_mask, masked};
 ghost use Rattle.flt_opt.specs.inside.Terms.{term_of_sum, after_arithmetic};
 ghost use Rattle.flt_opt.specs.inside.Terms.{accumulator_after, index_after, after, after_both};
-ghost use Rattle.flt_opt.specs.inside.Terms.{after_old, after_new, asked, reads_accumulator};
+ghost use Rattle.flt_opt.specs.inside.Terms.{after_old, after_new, made_term, reads_accumulator};
 ghost use Rattle.flt_opt.specs.inside.Terms.{reads_index, sets_accumulator};
 ghost use Rattle.flt_opt.specs.inside.Terms.{sets_index, is_known, is_sure, is_jump, leads_on};
 ghost use Rattle.flt_opt.specs.inside.Terms.{returns, test_of, after_loads, is_load};
@@ -263,10 +263,10 @@ pub fn after_new(operation: Operation, k: u32, both: Both) -> Both
     }
 }
 
-/// The term that an operation puts into A or X. Where that has a value, a load from the packet
-/// leads on: its bytes are captured.
-pub fn asked(operation: Operation, k: u32, registers: Registers) -> Term
-    ensures { result ≡ asked operation k registers }
+/// The term that an operation puts into A or X. Of a load it has a value only where its bytes are
+/// captured, and there the load leads on.
+pub fn made_term(operation: Operation, k: u32, registers: Registers) -> Term
+    ensures { result ≡ made_term operation k registers }
 {
     match operation {
         Operation::LoadHeaderLength => Term::HeaderLength { at: k, more: 0 },

@@ -278,7 +278,7 @@ fn what_a_walk_passes(rt: HostRuntime) {
     );
 }
 
-/// On its way to a rejection it passes all but tests that aren't decided.
+/// On its way to a rejection a run passes everything but tests of which one side doesn't reject.
 #[test]
 fn what_a_rejected_run_passes(rt: HostRuntime) {
     let new = [line(LOAD_HALF, 12), line(RETURN, 0)];

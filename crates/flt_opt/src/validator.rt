@@ -28,7 +28,7 @@ use crate::facts::{Knowledge, Learnt, decided, facts_in, outcome, outcomes_at_st
 use crate::follows::{both_fit, facts_follow, same_accumulator, same_index};
 use crate::note::{Both, Fact, Note, Notes, Registers, Term};
 use crate::terms::{
-    after_both, after_loads, after_new, after_old, asked, is_known, is_load, leads_on,
+    after_both, after_loads, after_new, after_old, made_term, is_known, is_load, leads_on,
     reads_accumulator, reads_index, returns, same_term,
 };
 use crate::walk::{MOST_STEPS, Stage, Start, goes_on, is_rejection, rejects, walk};
@@ -332,8 +332,8 @@ fn loads_same(programs: &Programs, note: &Note, new: Wide, old: Wide) -> bool
     if !is_load(operation) || !is_load(other) {
         return false;
     }
-    let field = asked(operation, new.k, note.registers.new);
-    if !is_known(field) || !same_term(field, asked(other, old.k, note.registers.old)) {
+    let field = made_term(operation, new.k, note.registers.new);
+    if !is_known(field) || !same_term(field, made_term(other, old.k, note.registers.old)) {
         return false;
     }
     let both = after_loads(field, note.registers);

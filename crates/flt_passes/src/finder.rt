@@ -12,7 +12,7 @@ use flt_bpf::Wide;
 use flt_bpf::operation::{Operation, decode};
 use flt_opt::{
     Both, Fact, Note, Notes, Piece, Registers, Span, Term, after_both, after_loads, after_new,
-    asked, outcome, test_of,
+    made_term, outcome, test_of,
 };
 use std::alloc::{AllocError, Allocator};
 
@@ -235,7 +235,7 @@ impl<A: Allocator + Clone> Finder<'_, A> {
     fn way_after(&self, way: &Way, insn: Wide, operation: Operation, rule: Rule) -> Way {
         let both = match rule {
             Rule::Own => after_new(operation, insn.k, way.old.both),
-            Rule::Load => after_loads(asked(operation, insn.k, way.old.both.new), way.old.both),
+            Rule::Load => after_loads(made_term(operation, insn.k, way.old.both.new), way.old.both),
             Rule::Same | Rule::Bits => after_both(operation, insn.k, way.old.both),
         };
         Way {

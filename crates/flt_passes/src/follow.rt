@@ -7,7 +7,7 @@ use crate::known::{Known, loads_from_packet};
 use crate::live::{Live, live_at};
 use flt_bpf::operation::Operation;
 use flt_opt::{
-    Both, Knowledge, Learnt, Piece, Registers, Term, after, asked, decided, is_known, is_sure,
+    Both, Knowledge, Learnt, Piece, Registers, Term, after, made_term, decided, is_known, is_sure,
     is_there, outcome, sets_accumulator, sets_index,
 };
 use std::alloc::{AllocError, Allocator};
@@ -102,7 +102,7 @@ impl<A: Allocator> Follower<'_, A> {
             same_accumulator: false,
             same_index: false,
         };
-        let term = asked(operation, k, registers);
+        let term = made_term(operation, k, registers);
         is_there(term, self.known.facts.as_slice(), &both)
     }
 

@@ -8,7 +8,7 @@ use crate::live::{Reads, is_of_use};
 use crate::sets::{ALL_NUMBERS, narrow_set, unite_sets};
 use flt_bpf::operation::{Operation, Test};
 use flt_opt::{
-    Both, Fact, Knowledge, Learnt, Piece, Registers, Span, Term, after, asked, decided, is_known,
+    Both, Fact, Knowledge, Learnt, Piece, Registers, Span, Term, after, made_term, decided, is_known,
     is_there, source,
 };
 use std::alloc::{AllocError, Allocator};
@@ -212,7 +212,7 @@ pub(crate) fn facts_after_operation(
     k: u32,
     registers: Registers,
 ) -> Facts {
-    let term = asked(operation, k, registers);
+    let term = made_term(operation, k, registers);
     if !loads_from_packet(operation) || !is_known(term) {
         return *facts;
     }
@@ -261,7 +261,7 @@ impl Known {
     /// Whether the result of a node, which is no test, is known before a run does it: of a load
     /// from the packet, that its bytes are captured, of any other node, which term it makes.
     pub(crate) fn tells_result_of(&self, node: Node) -> bool {
-        let term = asked(node.operation, node.k, self.registers);
+        let term = made_term(node.operation, node.k, self.registers);
         if !loads_from_packet(node.operation) {
             return is_known(term);
         }

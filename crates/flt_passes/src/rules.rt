@@ -5,7 +5,7 @@ use crate::known::loads_from_packet;
 use flt_bpf::Wide;
 use flt_bpf::operation::{AluOperation, Operand, Operation, Test, decode};
 use flt_opt::{
-    Both, Fact, asked, is_known, is_load, is_sure, is_there, reads_accumulator, reads_index,
+    Both, Fact, made_term, is_known, is_load, is_sure, is_there, reads_accumulator, reads_index,
     same_accumulator, same_index,
 };
 
@@ -33,11 +33,11 @@ fn loads_same(new: Wide, old: Wide, both: &Both) -> bool {
     let (Some(operation), Some(old_operation)) = (decode(new.code), decode(old.code)) else {
         return false;
     };
-    let field = asked(operation, new.k, both.new);
+    let field = made_term(operation, new.k, both.new);
     is_load(operation)
         && is_load(old_operation)
         && is_known(field)
-        && field == asked(old_operation, old.k, both.old)
+        && field == made_term(old_operation, old.k, both.old)
 }
 
 /// Whether both instructions are the same, with the same operands. Where tests lead is not
@@ -92,7 +92,7 @@ pub(crate) fn may_be_own(new: Wide, both: &Both, facts: &[Fact]) -> bool {
         None => false,
         Some(Operation::JumpIf(_, _)) => true,
         Some(operation) => {
-            let term = asked(operation, new.k, both.new);
+            let term = made_term(operation, new.k, both.new);
             let there = loads_from_packet(operation) && is_there(term, facts, both);
             is_sure(operation, new.k, there)
         }

@@ -7,7 +7,7 @@ use crate::rules::rule_at;
 use flt_bpf::Wide;
 use flt_bpf::operation::{Operation, decode};
 use flt_opt::{
-    Both, Knowledge, Learnt, OUTCOMES, Piece, after_old, asked, decided, is_sure, is_there,
+    Both, Knowledge, Learnt, OUTCOMES, Piece, after_old, made_term, decided, is_sure, is_there,
     outcome, outcomes_at_start, same_accumulator, same_index, test_of, with_newest,
 };
 use std::alloc::Allocator;
@@ -97,7 +97,7 @@ impl<A: Allocator> Walker<'_, A> {
     /// How the old run goes on after an operation that is no test.
     fn after_operation(&self, way: &Way, operation: Operation, k: u32) -> Step {
         let here = &way.here;
-        let term = asked(operation, k, here.both.old);
+        let term = made_term(operation, k, here.both.old);
         let there =
             loads_from_packet(operation) && is_there(term, self.facts.as_slice(), &here.both);
         let succeeds = is_sure(operation, k, there);

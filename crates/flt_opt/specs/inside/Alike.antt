@@ -22,7 +22,7 @@ use Rattle.flt_opt.specs.declared.validator.Programs.{Programs}
 use Rattle.flt_opt.specs.declared.validator.Way.{Way}
 use Rattle.flt_opt.specs.declared.walk.Stage.{Stage}
 use Rattle.flt_opt.specs.inside.Facts.{AllLearnt, AllHold, Known, part}
-use Rattle.flt_opt.specs.inside.Terms.{Agree, Hold, There, Reads, asked, is_sure}
+use Rattle.flt_opt.specs.inside.Terms.{Agree, Hold, There, Reads, made_term, is_sure}
 
 -- from a place of each program on both return the same, in all runs of which this is known
 pub record Alike (new old : List Insn) (p : List ℕ) (n : ℕ) (at_new at_old : ℕ) (b : Both)
@@ -60,7 +60,7 @@ pub record Comes (old : List Insn) (p : List ℕ) (n : ℕ) (b : Both) (new_stat
 pub record Leads (op : Operation) (k : ℕ) (r : Registers) (p : List ℕ) (n : ℕ) : Type 0 where
   pub there : Bool
   pub sure : is_sure op k there ≡ true
-  pub is_there : there ≡ true → There p n (asked op k r)
+  pub is_there : there ≡ true → There p n (made_term op k r)
 
 -- an operation of the run with the registers r leads on, in all runs of which this is known
 abbrev pub IsSure : Operation → ℕ → Registers → Both → List Fact → List Piece → List Learnt → Type 0

@@ -209,9 +209,9 @@ after_new op k b = record b {
 
 -- the term that an operation puts into A or X; a load doesn't fail on a packet on which that has a
 -- value
-abbrev pub asked : Operation → ℕ → Registers → Term
-asked LoadHeaderLength k r = HeaderLength k 0
-asked op k r = accumulator_after op k r
+abbrev pub made_term : Operation → ℕ → Registers → Term
+made_term LoadHeaderLength k r = HeaderLength k 0
+made_term op k r = accumulator_after op k r
 
 -- an operation is sure to lead to the next instruction, and changes no word of memory; of a load
 -- `there` says so: that its term has a value

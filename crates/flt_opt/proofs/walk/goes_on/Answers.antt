@@ -7,5 +7,5 @@ returns c = λ e p n s t agree known.
     record {
       there = c.is_there-there.result;
       sure = sym c.is_sure.ensures ∙ e;
-      is_there = λ is. subst (λ z. There p n z) c.asked.ensures (c.is_there-there.ensures is p n c.args.knowledge.now.pieces.now s t agree known.noted);
+      is_there = λ is. subst (λ z. There p n z) c.made_term.ensures (c.is_there-there.ensures is p n c.args.knowledge.now.pieces.now s t agree known.noted);
     }
