@@ -70,7 +70,11 @@ fn has_long_prefix(tokens: &[Token]) -> bool
 {
     let mut run: usize = 0;
     for token in tokens {
-        run = if is_prefix_operator(token) { run + 1 } else { 0 };
+        run = if is_prefix_operator(token) {
+            run + 1
+        } else {
+            0
+        };
         if run > 100 {
             return true;
         }

@@ -28,7 +28,7 @@ use crate::facts::{Knowledge, Learnt, decided, facts_in, outcome, outcomes_at_st
 use crate::follows::{both_fit, facts_follow, same_accumulator, same_index};
 use crate::note::{Both, Fact, Note, Notes, Registers, Term};
 use crate::terms::{
-    after_both, after_loads, after_new, after_old, made_term, is_known, is_load, leads_on,
+    after_both, after_loads, after_new, after_old, is_known, is_load, leads_on, made_term,
     reads_accumulator, reads_index, returns, same_term,
 };
 use crate::walk::{MOST_STEPS, Stage, Start, goes_on, is_rejection, rejects, walk};

@@ -19,7 +19,7 @@ ghost use Rattle.flt_opt.specs.inside.Alike.{Drifts, IsRejection, Rejects};
 use crate::facts::{Knowledge, Learnt, OUTCOMES, decided, outcome, with_newest};
 use crate::follows::{common_both, is_there};
 use crate::note::{Both, Fact, Piece, Registers};
-use crate::terms::{after, after_old, made_term, is_jump, is_sure, leads_on, test_of};
+use crate::terms::{after, after_old, is_jump, is_sure, leads_on, made_term, test_of};
 use flt_bpf::Wide;
 use flt_bpf::operation::{Operation, Test, decode};
 

@@ -7,8 +7,8 @@ use crate::known::{Known, loads_from_packet};
 use crate::live::{Live, live_at};
 use flt_bpf::operation::Operation;
 use flt_opt::{
-    Both, Knowledge, Learnt, Piece, Registers, Term, after, made_term, decided, is_known, is_sure,
-    is_there, outcome, sets_accumulator, sets_index,
+    Both, Knowledge, Learnt, Piece, Registers, Term, after, decided, is_known, is_sure, is_there,
+    made_term, outcome, sets_accumulator, sets_index,
 };
 use std::alloc::{AllocError, Allocator};
 

@@ -8,8 +8,8 @@ use crate::live::{Reads, is_of_use};
 use crate::sets::{ALL_NUMBERS, narrow_set, unite_sets};
 use flt_bpf::operation::{Operation, Test};
 use flt_opt::{
-    Both, Fact, Knowledge, Learnt, Piece, Registers, Span, Term, after, made_term, decided, is_known,
-    is_there, source,
+    Both, Fact, Knowledge, Learnt, Piece, Registers, Span, Term, after, decided, is_known,
+    is_there, made_term, source,
 };
 use std::alloc::{AllocError, Allocator};
 

@@ -5,7 +5,7 @@ use crate::known::loads_from_packet;
 use flt_bpf::Wide;
 use flt_bpf::operation::{AluOperation, Operand, Operation, Test, decode};
 use flt_opt::{
-    Both, Fact, made_term, is_known, is_load, is_sure, is_there, reads_accumulator, reads_index,
+    Both, Fact, is_known, is_load, is_sure, is_there, made_term, reads_accumulator, reads_index,
     same_accumulator, same_index,
 };
 

@@ -7,7 +7,7 @@ use crate::rules::rule_at;
 use flt_bpf::Wide;
 use flt_bpf::operation::{Operation, decode};
 use flt_opt::{
-    Both, Knowledge, Learnt, OUTCOMES, Piece, after_old, made_term, decided, is_sure, is_there,
+    Both, Knowledge, Learnt, OUTCOMES, Piece, after_old, decided, is_sure, is_there, made_term,
     outcome, outcomes_at_start, same_accumulator, same_index, test_of, with_newest,
 };
 use std::alloc::Allocator;
@@ -98,8 +98,8 @@ impl<A: Allocator> Walker<'_, A> {
     fn after_operation(&self, way: &Way, operation: Operation, k: u32) -> Step {
         let here = &way.here;
         let term = made_term(operation, k, here.both.old);
-        let there =
-            loads_from_packet(operation) && is_there(term, self.facts.as_slice(), &here.both);
+        let there = loads_from_packet(operation)
+            && is_there(term, self.facts.as_slice(), &here.both);
         let succeeds = is_sure(operation, k, there);
         if !succeeds && !loads_from_packet(operation) {
             return Step::Ends;
