@@ -1,4 +1,11 @@
 //! From filter expressions to programs of the packet-filter machine.
+//!
+//! - `program` has all stages. `folding` first makes one number of arithmetic of numbers alone.
+//! - `walk` takes the nodes from the last to the first and emits their code, with `waiting` (what
+//!   waits meanwhile) and `number` (arithmetic).
+//! - `steps` has a primitive's formula as tests and operators. `protocol`, `address` and `port` put
+//!   the rows of the table of primitives (`specs/Primitives.antt`) into steps; `group` puts hosts
+//!   or ports that are looked for together, `value` any other value.
 #![tactic(auto)]
 
 mod address;
