@@ -11,6 +11,7 @@ use Rattle.cap_inputs.specs.declared.inputs.Next.{Next}
 use Rattle.cap_inputs.specs.declared.inputs.Next.TheVariants as next
 use Rattle.cap_io.specs.Sequence.{InputItems, Event, Sequence, PacketOrder, InTurn, ByTime, sequence_of, sequence_in_turn, sequence_by_time, with_front}
 
+-- what a contract sees of an input
 pub record InputView : Type 0 where
   pub source : SourceView
   -- whether the current packet isn't decided yet
@@ -18,7 +19,7 @@ pub record InputView : Type 0 where
   -- the greatest time of the packets that are decided
   pub greatest : ℕ
 
--- in which order their packets come, and how far each of them is
+-- what a contract sees of the inputs: in which order their packets come, and how far each is
 pub record InputsView : Type 0 where
   pub order : PacketOrder
   pub cursors : List InputView
@@ -113,7 +114,7 @@ AreSettled ss inputs es = (fs : List Future) → AreFutures inputs.cursors fs
     → sequence_of inputs.order (inputs_with ss inputs.cursors fs)
     ≡ with_front es (sequence_left inputs.order inputs.cursors (inputs_left inputs.cursors fs))
 
--- one of the inputs
+-- the input with index i is h: as many stand in front of it
 pub record IsInput (cursors : List InputView) (i : ℕ) (h : InputView) : Type 0 where
   pub front : List InputView
   pub back : List InputView
@@ -139,7 +140,8 @@ is_clean_end result = false
 abbrev pub with_cursor : InputsView → ℕ → InputView → InputsView
 with_cursor inputs i h = record { order = inputs.order; cursors = slice_set inputs.cursors i h }
 
--- an input was read on
+-- The input with index i was read on, and no other changed: its source advanced, and a packet that
+-- was found waits. On a device that tells its bytes.
 pub record ReadsInput (old : InputsView) (i : ℕ) (r : Result Bool Fault)
     (new : InputsView) : Type 0 where
   pub cursor : InputView
@@ -149,7 +151,7 @@ pub record ReadsInput (old : InputsView) (i : ℕ) (r : Result Bool Fault)
   pub steps : Steps cursor.source.phase cursor.source r source
   pub is : new ≡ with_cursor old i (input_after cursor r source)
 
--- what holds of any device
+-- the same on any device, whether it tells its bytes or not
 pub record ReadSteps (old : InputsView) (i : ℕ) (r : Result Bool Fault)
     (new : InputsView) : Type 0 where
   pub cursor : InputView
@@ -182,7 +184,8 @@ steps_left_in (h ∷ hs) = input_steps_left h + steps_left_in hs
 abbrev pub packet_time : Option Captured → ℕ
 packet_time packet = option_map_or (λ (p : Captured). p.time) packet 0
 
--- the greatest time up to and with the current packet
+-- the greatest time of an input's packets up to and with the current one: by it a merge orders
+-- inputs
 abbrev pub key_of : InputView → ℕ
 key_of h = max h.greatest (packet_time h.source.packet)
 
@@ -221,7 +224,7 @@ next_of inputs =
     next_at (place_next inputs.order inputs.cursors)
     (slice_get inputs.cursors (place_next inputs.order inputs.cursors))
 
--- the current packet is decided
+-- an input after its current packet is decided: it waits no longer, and its time counts
 abbrev pub input_after_decided : InputView → InputView
 input_after_decided h = record h { waiting = false; greatest = key_of h }
 
@@ -242,10 +245,10 @@ pub record DeviceLimits : Type 0 where
   pub sure : Option ℕ
   pub in_all : ℕ
 
--- those of a source
+-- the limits of a source's device
 abbrev pub limits_of : SourceView → DeviceLimits
 limits_of s = record { sure = s.sure; in_all = given_in_all s }
 
--- those of each input
+-- the limits of each input's device
 abbrev pub device_limits : List InputView → List DeviceLimits
 device_limits hs = map (λ h. limits_of h.source) hs

@@ -19,15 +19,15 @@ use cap_octet::{Fault, Input, Packet};
 use std::alloc::Allocator;
 use std::marker::Model;
 
-/// An input, with its current packet.
+/// An input of a job, with its current packet.
 #[derive(Drop)]
 pub struct InputCursor<I: Input, A: Allocator> {
     source: Source<I, A>,
-    /// Whether the current packet isn't decided yet.
+    /// Whether there is a current packet that isn't decided yet.
     waiting: bool,
-    /// The greatest time of the packets that are decided.
+    /// The greatest time of the packets that are decided, in nanoseconds; 0 of none.
     greatest: u64,
-    /// The time of the current packet, 0 where there is none.
+    /// The time of the current packet, in nanoseconds; 0 where there is none.
     time: u64,
 }
 
@@ -48,10 +48,10 @@ impl<I: Input, A: Allocator> Model for InputCursor<I, A> {
 /// Which input is next, by the order of the packets.
 #[derive(Clone, Copy)]
 pub enum Schedule {
-    /// The inputs come one after another, and this one is the current one.
+    /// The inputs come one after another, and it is the turn of the one with this index.
     Turn(usize),
-    /// By the greatest times. First the inputs from the first number on and below the second are
-    /// read on.
+    /// The packets come by the greatest times. Before one is decided, the inputs with indexes from
+    /// the first number on and below the second are to be read on.
     Merge(usize, usize),
 }
 
@@ -66,8 +66,8 @@ pub enum Next {
     Finish,
 }
 
-/// The time of the current packet, 0 where there is none.
-fn time_in<I: Input, A: Allocator>(source: &Source<I, A>) -> u64
+/// The time of a source's current packet, in nanoseconds; 0 where there is none.
+fn current_time<I: Input, A: Allocator>(source: &Source<I, A>) -> u64
     ensures { result ≡ packet_time source.now.packet }
 {
     source.time().unwrap_or(0)
@@ -89,7 +89,7 @@ impl<I: Input, A: Allocator> InputCursor<I, A> {
     fn new(source: Source<I, A>) -> Self
         ensures { result ≡ record { source = source; waiting = false; greatest = 0 } }
     {
-        let time = time_in(&source);
+        let time = current_time(&source);
         InputCursor {
             source,
             waiting: false,
@@ -98,8 +98,8 @@ impl<I: Input, A: Allocator> InputCursor<I, A> {
         }
     }
 
-    /// Reads on to the next packet, as `Source::advance`; where there is one, it waits to be
-    /// decided.
+    /// Reads on to the next packet, as `Source::advance`, and returns whether there is one: it then
+    /// waits to be decided. `false` at the clean end; a fault as of `Source::advance`.
     fn advance(&mut self) -> Result<bool, Fault>
         ensures exact { IsTrue I.tells → Advances self.old.source.phase self.old.source result
             self.new.source }
@@ -110,7 +110,7 @@ impl<I: Input, A: Allocator> InputCursor<I, A> {
     {
         let result = self.source.advance();
         self.waiting = matches!(result, Ok(true));
-        self.time = time_in(&self.source);
+        self.time = current_time(&self.source);
         result
     }
 
@@ -123,8 +123,8 @@ impl<I: Input, A: Allocator> InputCursor<I, A> {
         self.source.head()
     }
 
-    /// Notes that the current packet is decided: it waits no longer, and its time counts among the
-    /// greatest.
+    /// Notes that the current packet is decided: it waits no longer, and `greatest` is its time
+    /// where that is greater.
     fn mark_decided(&mut self)
         ensures following { self.new ≡ input_after_decided self.old }
         ensures reading { self.old.waiting ≡ true → self.old.source.phase ≡ Reading }
@@ -133,7 +133,9 @@ impl<I: Input, A: Allocator> InputCursor<I, A> {
         self.waiting = false;
     }
 
-    /// Whether the next packet is at hand, so that no read is made for it.
+    /// Whether the next packet is at hand, so that no read is made for it; `false` where that can't
+    /// be told.
+    // No clause: see `Source::has_next_at_hand`.
     fn has_next_at_hand(&self) -> bool {
         self.source.has_next_at_hand()
     }
@@ -145,7 +147,8 @@ impl<I: Input, A: Allocator> InputCursor<I, A> {
         self.source.first_link()
     }
 
-    /// The greatest time up to and with the current packet, by which a merge orders inputs.
+    /// The greatest time of the packets up to and with the current one, by which a merge orders
+    /// inputs.
     fn key(&self) -> u64
         ensures { result ≡ key_of self.now }
     {
@@ -159,14 +162,15 @@ impl<I: Input, A: Allocator> InputCursor<I, A> {
         self.source.kind()
     }
 
-    /// Where the current unit begins, in bytes; at the clean end, the number of bytes.
+    /// Where the current unit begins, in bytes from the start of the file; after a fault, where the
+    /// unit that has it begins; at the clean end, the number of bytes.
     pub fn offset(&self) -> u64
         ensures { result ≡ self.now.source.offset }
     {
         self.source.offset()
     }
 
-    /// The device, as it stands. It takes no memory.
+    /// The device, as it is after what was read. It takes no memory.
     pub fn into_input(self) -> I
     where
         A: Drop,
@@ -184,7 +188,7 @@ impl<I: Input, A: Allocator> InputCursor<I, A> {
 pub struct Inputs<I: Input, A: Allocator> {
     cursors: Vec<InputCursor<I, A>, A>,
     schedule: Schedule,
-    /// Of a merge the inputs whose packets wait, with their keys.
+    /// Of a merge the inputs whose packets wait, with their keys; else empty.
     queue: Queue<A>,
 }
 
@@ -210,7 +214,8 @@ impl<I: Input, A: Allocator> Inputs<I, A> {
     ghost use Rattle.cap_inputs.specs.inside.Inputs.{first_declared_link};
     ghost use Rattle.cap_inputs.specs.inside.Inputs.{is_in_turn};
 
-    /// The inputs, one after another or merged; `None` where there is no memory.
+    /// The inputs of a job, of which nothing is read: merged by time, or one after another. `None`
+    /// where there is no memory.
     pub fn new(alloc: A, inputs: Vec<I, A>, merges: bool) -> Option<Self>
     where
         I: Drop,
@@ -220,7 +225,7 @@ impl<I: Input, A: Allocator> Inputs<I, A> {
     {
         let cursors = cursors_of(alloc, inputs)?;
         let queue = queue_for(alloc, merges, cursors.len())?;
-        let schedule = schedule_at_first(&cursors, merges);
+        let schedule = first_schedule(&cursors, merges);
         Some(Inputs {
             cursors,
             schedule,
@@ -228,7 +233,7 @@ impl<I: Input, A: Allocator> Inputs<I, A> {
         })
     }
 
-    /// The inputs, as they stand, in their order. It takes no memory.
+    /// The inputs, as far as they were read, by their indexes. It takes no memory.
     pub fn into_cursors(self) -> Vec<InputCursor<I, A>, A>
     where
         A: Drop,
@@ -252,8 +257,8 @@ impl<I: Input, A: Allocator> Inputs<I, A> {
         self.cursors.len()
     }
 
-    /// Where the current unit of an input begins, or its next unit, in bytes; 0 where there is no
-    /// such input.
+    /// Where the current unit of the input with this index begins, or else its next unit, in bytes;
+    /// 0 where there is no such input.
     pub fn offset(&self, input: usize) -> u64
         ensures { result ≡ offset_at self.now.cursors input }
     {
@@ -281,7 +286,8 @@ impl<I: Input, A: Allocator> Inputs<I, A> {
         &self.cursors[input]
     }
 
-    /// Notes that the current packet of the input is decided, which `next` told to decide.
+    /// Notes that the current packet of the input with this index is decided, which `next` told to
+    /// decide.
     pub fn mark_decided(&mut self, input: usize)
         requires within { input < length self.old.cursors }
         requires next { IsNext self.old (Next.Decide input) }
@@ -293,6 +299,7 @@ impl<I: Input, A: Allocator> Inputs<I, A> {
 
     /// Whether the next packet of an input is at hand, so that no read is made for it; `false`
     /// where that can't be told.
+    // No clause: see `Source::has_next_at_hand`.
     pub fn has_next_at_hand(&self, input: usize) -> bool {
         match self.cursors.get(input) {
             Some(cursor) => cursor.has_next_at_hand(),
@@ -307,8 +314,8 @@ impl<I: Input, A: Allocator> Inputs<I, A> {
         first_link_in(&self.cursors)
     }
 
-    /// Reads on the input that `next` told to read, and returns whether it has a packet; `false` at
-    /// its clean end.
+    /// Reads on the input with this index, which `next` told to read, and returns whether there is
+    /// a packet, which waits then; `false` at its clean end. A fault is as of `Source::advance`.
     pub fn read_input(&mut self, input: usize) -> Result<bool, Fault>
         requires within { input < length self.old.cursors }
         requires next { IsNext self.old (Next.Read input) }
@@ -361,8 +368,8 @@ fn next_in_turn<I: Input, A: Allocator>(cursors: &[InputCursor<I, A>], turn: usi
     }
 }
 
-/// The queue of `count` inputs; `None` where there is no memory. Inputs that aren't merged need
-/// none.
+/// An empty queue with room for `count` inputs, where they are merged; else with room for none,
+/// since inputs in turn need no queue. `None` where there is no memory.
 fn queue_for<A: Allocator>(alloc: A, merges: bool, count: usize) -> Option<Queue<A>>
 where
     A: Drop,
@@ -372,10 +379,10 @@ where
     Queue::new(alloc, room).ok()
 }
 
-/// Brings queue and schedule up to date after an input was read on. If the inputs are merged, it
-/// waits where it has a packet, and the schedule goes on to the one after it; if not, it is the
-/// next input's turn where this one is at its end. Where the read failed, nothing changes: the same
-/// read is next.
+/// Updates queue and schedule after the input of an entry was read on. Of a merge the entry is
+/// queued where the read found a packet, and the schedule goes on to the next input; in turn it is
+/// the next input's turn where this one is at its clean end. Where the read failed, nothing
+/// changes: the same read is next.
 fn update_after_read<A: Allocator>(
     queue: &mut Queue<A>,
     schedule: &mut Schedule,
@@ -407,8 +414,9 @@ fn update_after_read<A: Allocator>(
     }
 }
 
-/// Brings queue and schedule up to date after an input's packet was decided: if the inputs are
-/// merged, it waits no more and is read on next; if not, nothing changes.
+/// Updates queue and schedule after the packet of an input was decided. Of a merge that input is
+/// the first one of the queue: it is taken out, and it alone is to be read on. In turn nothing
+/// changes.
 fn update_after_decision<A: Allocator>(queue: &mut Queue<A>, schedule: &mut Schedule, input: usize)
     requires { input < 2 ^ 64 - 1 }
     ensures queue { Leaves (is_merge schedule.old) queue.old queue.new }
@@ -417,7 +425,7 @@ fn update_after_decision<A: Allocator>(queue: &mut Queue<A>, schedule: &mut Sche
     if let Schedule::Merge(next, last) = schedule {
         *next = input;
         *last = input + 1;
-        // The input itself, whose packet came first.
+        // Takes out this input, whose packet came first.
         queue.take();
     }
 }
@@ -442,7 +450,7 @@ fn next_by_time<I: Input, A: Allocator>(
     }
 }
 
-/// The inputs, of which nothing is read; `None` where there is no memory.
+/// The inputs over these devices, of which nothing is read; `None` where there is no memory.
 fn cursors_of<I, A>(alloc: A, inputs: Vec<I, A>) -> Option<Vec<InputCursor<I, A>, A>>
 where
     I: Input + Drop,
@@ -461,7 +469,7 @@ where
 
 /// The schedule before anything is read: in turn from the first input on; of a merge all inputs are
 /// read on first.
-fn schedule_at_first<I: Input, A: Allocator>(
+fn first_schedule<I: Input, A: Allocator>(
     cursors: &[InputCursor<I, A>],
     merges: bool,
 ) -> Schedule

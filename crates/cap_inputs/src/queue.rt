@@ -4,10 +4,13 @@ use std::cmp::Reverse;
 use std::collections::BinaryHeap;
 use std::marker::Model;
 
-/// An input with a current packet: the greatest time in it so far, and its number.
+/// The entry of an input whose packet waits. Entries are ordered by time, then by input, as the
+/// fields are.
 #[derive(Clone, Copy, PartialEq, Eq, PartialOrd, Ord)]
 pub struct Waiting {
+    /// The greatest time of the input's packets up to and with the one that waits, in nanoseconds.
     pub time: u64,
+    /// The input's index.
     pub input: usize,
 }
 
@@ -15,6 +18,7 @@ pub struct Waiting {
 /// times the lowest input.
 #[derive(Drop)]
 pub struct Queue<A: Allocator> {
+    /// The least entry on top: std's heap has the greatest there, so that entries are reversed.
     heap: BinaryHeap<Reverse<Waiting>, A>,
 }
 
@@ -39,7 +43,7 @@ impl<A: Allocator> Queue<A> {
     ghost use Rattle.cap_inputs.specs.Queue.{queue};
     ghost use Rattle.cap_inputs.specs.inside.Queue.{IsFirstWaiting, Precedes};
 
-    /// A queue with room for `room` inputs. It takes its memory here.
+    /// An empty queue with room for `room` inputs. It takes its memory here.
     pub fn new(alloc: A, room: usize) -> Result<Self, AllocError>
         ensures { IfOk result (λ q. q ≡ queue [] room) }
     {
@@ -48,7 +52,8 @@ impl<A: Allocator> Queue<A> {
         })
     }
 
-    /// Lets an input wait that doesn't yet. There is room, so that it takes no memory.
+    /// Puts the entry of an input into the queue, which has none of it yet. There is room, so that
+    /// it takes no memory.
     pub fn add(&mut self, entry: Waiting)
         requires room { length self.old.waiting < self.old.room }
         requires alone { All (λ w. w.input ≢ entry.input) self.old.waiting }
@@ -58,7 +63,7 @@ impl<A: Allocator> Queue<A> {
         self.heap.push(Reverse(entry)).unwrap();
     }
 
-    /// The input that comes first; `None` where none waits.
+    /// The entry that comes first, which stays in the queue; `None` where none waits.
     pub fn peek(&self) -> Option<Waiting>
         ensures { MatchOption result (self.now.waiting
             ≡ []) (λ w. IsFirstWaiting w self.now.waiting) }
@@ -69,7 +74,7 @@ impl<A: Allocator> Queue<A> {
         Some(*first)
     }
 
-    /// Takes out the input that comes first, and returns it; `None` where none waits.
+    /// Takes out the entry that comes first, and returns it; `None` where none waits.
     pub fn take(&mut self) -> Option<Waiting>
         ensures waiting { MatchOption result (self.old.waiting ≡ [])
             (λ w. IsPermutation self.old.waiting (w ∷ self.new.waiting)) }

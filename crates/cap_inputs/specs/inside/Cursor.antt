@@ -15,12 +15,13 @@ use Rattle.cap_io.specs.Sequence.{PacketOrder, InTurn, ByTime}
 use Rattle.cap_inputs.specs.Inputs.{InputView, IsInput, key_of}
 use Rattle.cap_inputs.specs.inside.Inputs.{IsLeast, IsOpen, IsReady, NoneEnded, NoneWaits, AllReady, waiting_count}
 
--- before anything is read: in turn the first input is read; of a merge all are
+-- the schedule before anything is read: in turn it is the first input's turn; of a merge all are to
+-- be read
 abbrev pub first_schedule : PacketOrder → ℕ → Schedule
 first_schedule InTurn count = Turn 0
 first_schedule ByTime count = Merge 0 count
 
--- after an input that was read on; where that failed nothing changes
+-- the schedule after an input was read on; where that failed nothing changes
 abbrev pub schedule_after : Schedule → ℕ → Result Bool Fault → Schedule
 schedule_after (Turn turn) i (Ok true) = Turn turn
 schedule_after (Turn turn) i (Ok false) = Turn (i + 1)
@@ -28,7 +29,7 @@ schedule_after (Turn turn) i (Err fault) = Turn turn
 schedule_after (Merge next last) i (Ok found) = Merge (i + 1) last
 schedule_after (Merge next last) i (Err fault) = Merge next last
 
--- after a packet that is decided
+-- the schedule after a packet of an input was decided: of a merge that input alone is to be read on
 abbrev pub schedule_after_decided : Schedule → ℕ → Schedule
 schedule_after_decided (Turn turn) i = Turn turn
 schedule_after_decided (Merge next last) i = Merge i (i + 1)
@@ -85,7 +86,7 @@ is_merge (Merge next last) = true
 abbrev pub HasPlaceFor : Queue → ℕ → Type 0
 HasPlaceFor q input = (length q.waiting < q.room) × All (λ w. w.input ≢ input) q.waiting
 
--- an entry was added to the others, or not
+-- an entry was added to the others (true), or nothing changed (false)
 abbrev pub EntersQueue : Bool → Waiting → Queue → Queue → Type 0
 EntersQueue true entry old new =
     IsPermutation (entry ∷ old.waiting) new.waiting × (old.room ≤ new.room)
@@ -97,7 +98,7 @@ TakesFirst None old new = old.waiting ≡ []
 TakesFirst (Some w) old new =
     IsPermutation old.waiting (w ∷ new.waiting) × All (Precedes w) new.waiting
 
--- the first entry was taken, or not
+-- the first entry was taken from a queue, if there was one (true); or nothing changed (false)
 abbrev pub Leaves : Bool → Queue → Queue → Type 0
 Leaves true old new = (taken : Option Waiting) × TakesFirst taken old new × (old.room ≤ new.room)
 Leaves false old new = new ≡ old

@@ -3,6 +3,6 @@ use Rattle.std.specs.Prelude.{◌+◌, length}
 use Rattle.cap_octet.specs.Views.{FreshInput}
 use Rattle.cap_inputs.specs.Inputs.{DeviceLimits}
 
--- what no step changes of its device
+-- what no step changes of the device of an input that was handed over
 abbrev pub fresh_limits : FreshInput → DeviceLimits
 fresh_limits o = record { sure = o.sure; in_all = o.given + length o.text }

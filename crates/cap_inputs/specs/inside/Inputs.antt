@@ -41,7 +41,7 @@ abbrev pub KeysOver : ℕ → List InputView → Type 0
 KeysOver k [] = Unit {0}
 KeysOver k (h ∷ hs) = (h.waiting ≡ true → k < key_of h) × KeysOver k hs
 
--- the same, but at least this
+-- where a packet waits, its key is at least this
 abbrev pub KeysFrom : ℕ → List InputView → Type 0
 KeysFrom k [] = Unit {0}
 KeysFrom k (h ∷ hs) = (h.waiting ≡ true → k ≤ key_of h) × KeysFrom k hs
@@ -59,7 +59,7 @@ pub record IsLeast (cursors : List InputView) (i : ℕ) : Type 0 where
   pub over : KeysOver (key_of cursor) among.front
   pub from : KeysFrom (key_of cursor) among.back
 
--- it isn't at its clean end
+-- an input isn't at its clean end
 abbrev pub IsOpen : InputView → Type 0
 IsOpen h = h.source.phase ≡ Ended → ⊥
 
@@ -73,11 +73,11 @@ abbrev pub NoneEnded : List InputView → Type 0
 NoneEnded [] = Unit {0}
 NoneEnded (h ∷ hs) = IsOpen h × NoneEnded hs
 
--- its current packet waits, or it is at its clean end
+-- an input is ready: its current packet waits, or it is at its clean end
 abbrev pub IsReady : InputView → Type 0
 IsReady h = (h.waiting ≡ true) ⊎ (h.source.phase ≡ Ended)
 
--- the same of each input
+-- each input is ready
 abbrev pub AllReady : List InputView → Type 0
 AllReady [] = Unit {0}
 AllReady (h ∷ hs) = IsReady h × AllReady hs
@@ -117,7 +117,7 @@ abbrev pub IsNextIn : PacketOrder → List InputView → Next → Type 0
 IsNextIn InTurn cursors r = IsNextInTurn cursors r
 IsNextIn ByTime cursors r = IsNextByTime cursors r
 
--- What is next of the inputs: `next_of` gives it. In turn, no input after it is at its end.
+-- what is next of the inputs, in the order of their packets
 abbrev pub IsNext : InputsView → Next → Type 0
 IsNext inputs r = IsNextIn inputs.order inputs.cursors r
 

@@ -15,7 +15,7 @@ NotAfter a b = (a.time < b.time) ⊎ ((a.time ≡ b.time) × (a.input ≤ b.inpu
 abbrev pub is_entered : List Waiting → ℕ → ℕ → Bool
 is_entered ws time input = list_any (λ w. (w.time == time) && (w.input == input)) ws
 
--- it waits, and no other comes before it
+-- this one waits, and no other comes before it
 abbrev pub IsFirstWaiting : Waiting → List Waiting → Type 0
 IsFirstWaiting w ws = IsTrue (is_entered ws w.time w.input) × All (NotAfter w) ws
 

@@ -11,14 +11,14 @@ use Rattle.cap_inputs.proofs.inputs.Inputs.new.Goals as goal
 
 pub returns : goal.returns
 returns g c =
-    first-inputs (fresh_input g.I.Input) c.args.inputs.items c.in_ok-cursors.cursors.items c.schedule_at_first-schedule.result c.args.merges c.in_ok-cursors.ensures
-    (c.schedule_at_first-schedule.ensures ∙ ap (λ (l : List InputView). first_schedule (order_of c.args.merges) (length l)) c.deref.ensures.value)
+    first-inputs (fresh_input g.I.Input) c.args.inputs.items c.in_ok-cursors.cursors.items c.first_schedule-schedule.result c.args.merges c.in_ok-cursors.ensures
+    (c.first_schedule-schedule.ensures ∙ ap (λ (l : List InputView). first_schedule (order_of c.args.merges) (length l)) c.deref.ensures.value)
 
 pub invariant_of-result : goal.invariant_of-result
 invariant_of-result g c = (
   let found : (c.in_ok-queue.queue.waiting ≡ []) × (IsTrue c.args.merges → c.len.result ≤ c.in_ok-queue.queue.room) = c.in_ok-queue.ensures in
-      holds-first (λ input. fresh_view (fresh_input g.I.Input input)) c.args.inputs.items c.in_ok-cursors.cursors.items c.args.merges c.schedule_at_first-schedule.result c.in_ok-queue.queue
-      (λ input. refl) c.in_ok-cursors.ensures (c.schedule_at_first-schedule.ensures ∙ ap (λ (l : List InputView). first_schedule (order_of c.args.merges) (length l)) c.deref.ensures.value) (found.0, λ merges. (let fits = found.1 merges in omega (arith, fits, c.len.ensures, c.in_ok-cursors.cursors.ok.0))),
-  placed-first (λ input. fresh_view (fresh_input g.I.Input input)) c.args.inputs.items c.in_ok-cursors.cursors.items (order_of c.args.merges) c.schedule_at_first-schedule.result
-      (λ input. refl) (λ input. refl) c.in_ok-cursors.ensures (c.schedule_at_first-schedule.ensures ∙ ap (λ (l : List InputView). first_schedule (order_of c.args.merges) (length l)) c.deref.ensures.value),
+      holds-first (λ input. fresh_view (fresh_input g.I.Input input)) c.args.inputs.items c.in_ok-cursors.cursors.items c.args.merges c.first_schedule-schedule.result c.in_ok-queue.queue
+      (λ input. refl) c.in_ok-cursors.ensures (c.first_schedule-schedule.ensures ∙ ap (λ (l : List InputView). first_schedule (order_of c.args.merges) (length l)) c.deref.ensures.value) (found.0, λ merges. (let fits = found.1 merges in omega (arith, fits, c.len.ensures, c.in_ok-cursors.cursors.ok.0))),
+  placed-first (λ input. fresh_view (fresh_input g.I.Input input)) c.args.inputs.items c.in_ok-cursors.cursors.items (order_of c.args.merges) c.first_schedule-schedule.result
+      (λ input. refl) (λ input. refl) c.in_ok-cursors.ensures (c.first_schedule-schedule.ensures ∙ ap (λ (l : List InputView). first_schedule (order_of c.args.merges) (length l)) c.deref.ensures.value),
 )
