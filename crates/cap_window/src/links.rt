@@ -8,8 +8,9 @@ use crate::mark::{Mark, is_same_mark};
 use circular_buffer::HeapCircularBuffer;
 use std::alloc::Allocator;
 
-/// How many places before a mark the tops of the two trees below it are, of the marks with a 0 and
-/// of those with a 1 at its depth. Where that is before the window, there is none.
+/// How many places before a mark the tops of the two trees below it are: of the marks with a 0 and
+/// of those with a 1 as the bit at its depth. Where a link leads out of the window, there is no
+/// such tree.
 #[derive(Clone, Copy)]
 pub struct Links {
     pub zeros: u32,
@@ -28,10 +29,10 @@ impl Links {
         if bit { self.ones } else { self.zeros }
     }
 
-    /// The links to the same marks from a mark that is `step` places after; 2^32 - 1 at most, which
-    /// is before every window.
+    /// These links with `step` added to both: they lead to the same marks from a mark that is
+    /// `step` places after. At 2^32 - 1 they stay, which leads out of every window.
     #[inline]
-    fn moved_by(&self, step: u32) -> Links
+    fn plus_step(&self, step: u32) -> Links
         ensures zeros { result.zeros ≡ min (self.now.zeros + step) (2 ^ 32 - 1) }
         ensures ones { result.ones ≡ min (self.now.ones + step) (2 ^ 32 - 1) }
     {
@@ -41,7 +42,7 @@ impl Links {
         }
     }
 
-    /// These links, but with `step` as that to the marks with this bit.
+    /// These links, but with `step` as the link to the marks with this bit.
     #[inline]
     fn with_link(self, bit: bool, step: u32) -> Links
         ensures bit { link_by_bit result bit ≡ step }
@@ -65,6 +66,7 @@ impl Links {
 pub fn mark_bit(mark: &Mark, depth: u32) -> bool
     ensures { result ≡ mark_bit mark.now depth }
 {
+    // The 128 bits of the digest, whose last byte has index 15; then the 32 of the length.
     if depth < 128 {
         let byte = mark.digest[15 - depth as usize / 8];
         (byte >> (depth % 8)) % 2 == 1
@@ -73,9 +75,10 @@ pub fn mark_bit(mark: &Mark, depth: u32) -> bool
     }
 }
 
-/// Puts the newest mark on top of the tree of its hash, whose top is `step` places before it, by
-/// new links. The mark whose place it takes goes down by its own bits and takes another's place,
-/// and so on; a mark that is equal to the one that takes its place goes out, and ends it.
+/// Puts the newest mark, the last of `marks`, on top of the tree of its hash, whose top is `step`
+/// places before it, by new links. The mark whose place it takes goes down by its own bits and
+/// takes another's place, and so on, until there is no tree below. A mark that is equal to the one
+/// that takes its place drops out of the tree, and ends this too.
 pub fn place_newest<A: Allocator>(
     marks: &HeapCircularBuffer<Mark, A>,
     links: &mut HeapCircularBuffer<Links, A>,
@@ -95,17 +98,18 @@ pub fn place_newest<A: Allocator>(
     if marks.is_empty() {
         return;
     }
+    // At each depth the mark at `place` comes on top, and the one at `lower` goes down below it.
     let (mut place, mut step, mut depth) = (marks.len() - 1, step, 0);
     while step as usize <= place {
         let lower = place - step as usize;
         let (above, below) = (marks.get(place).unwrap(), marks.get(lower).unwrap());
         let under = *links.get(lower).unwrap();
         if is_same_mark(above, below) {
-            *links.get_mut(place).unwrap() = under.moved_by(step);
+            *links.get_mut(place).unwrap() = under.plus_step(step);
             return;
         }
         let bit = mark_bit(below, depth);
-        *links.get_mut(place).unwrap() = under.moved_by(step).with_link(bit, step);
+        *links.get_mut(place).unwrap() = under.plus_step(step).with_link(bit, step);
         (place, step, depth) = (lower, under.link(bit), depth + 1);
     }
     // The step leads out of the window, so that there is no tree below.

@@ -4,7 +4,7 @@ ghost use Rattle.cap_window.specs.Marks.{mark_of};
 
 use md5::{Digest, Md5};
 
-/// The number of captured bytes of a packet and their MD5 (RFC 1321).
+/// What packets are compared by: the number of captured bytes, and their MD5 (RFC 1321).
 #[derive(Clone, Copy)]
 pub struct Mark {
     pub length: u32,

@@ -71,9 +71,9 @@ impl<A: Allocator> Window<A> {
         })
     }
 
-    /// Whether a packet of the window had as many captured bytes with the same digest. The bytes'
-    /// mark enters the window in either case, and the oldest leaves it where it is full. Takes no
-    /// memory.
+    /// Puts the mark of a packet's captured bytes into the window, and returns whether an equal one
+    /// was there: of as many bytes with the same digest. It is put there in either case, and the
+    /// oldest mark leaves the window where it is full. Takes no memory.
     pub fn seen_before(&mut self, bytes: &[u8]) -> bool
         requires { length bytes.now < 2 ^ 32 }
         ensures answer { IsTrue result ↔ Contains self.old.marks (mark_of bytes.now) }
@@ -94,9 +94,11 @@ impl<A: Allocator> Window<A> {
     {
         let hash = hash_of(mark, self.mask);
         let (mut limit, mut depth) = (self.marks.len(), 0);
+        // From the place after the newest mark to the top of the tree of this hash.
         let mut step = self.newest + 1 - self.heads[hash];
-        // `limit` is the place of the mark above, at first that of the next mark, and `step` how
-        // far before it the top of the tree is that is left: none where that is further.
+        // `limit` is the place of the mark above, at first the place after the newest, and the top
+        // of the tree that is left is `step` places before it. Where that leads out of the window,
+        // no mark is left.
         while step as usize <= limit {
             limit -= step as usize;
             if is_same_mark(self.marks.get(limit).unwrap(), mark) {
@@ -146,7 +148,7 @@ fn head_mask(capacity: u32) -> u32
     capacity.min(MOST_HEADS).next_power_of_two() - 1
 }
 
-/// Makes each number smaller by `less`, down to 0.
+/// Subtracts `less` from each number; one that is smaller becomes 0.
 fn lower_all(numbers: &mut [u32], less: u32)
     ensures { EachIndex numbers.old
         (λ i. slice_index numbers.new i ≡ slice_index numbers.old i - less) }
@@ -156,9 +158,10 @@ fn lower_all(numbers: &mut [u32], less: u32)
     }
 }
 
-/// Returns the number of the newest mark, which `newest` stays while numbers last. Where they run
-/// out, all heads become smaller by one difference, so that the `kept` marks of the window are
-/// numbered from 1 again, and what left the window becomes 0.
+/// Numbers the marks from 1 again where the numbers run out, at 2^32 - 1, and returns the number of
+/// the newest mark; before that it stays `newest`, and nothing changes. The same difference is
+/// subtracted from all heads, so that the `kept` marks of the window have the numbers 1 to `kept`,
+/// and those that left the window have 0.
 fn renumber(heads: &mut [u32], newest: u32, kept: u32) -> u32
     requires { (kept ≤ newest) × (kept + 1 < 2 ^ 32) }
     ensures heads { EachIndex heads.old

@@ -13,7 +13,7 @@ mark_bit m depth =
     if nat_lt depth 128 then slice_index m.digest (15 - depth / 8) / 2 ^ (depth % 8) % 2 == 1
     else m.length / 2 ^ (depth % 32) % 2 == 1
 
--- the link to the marks with this bit
+-- the link to the tree of the marks with this bit
 abbrev pub link_by_bit : Links → Bool → ℕ
 link_by_bit links true = links.ones
 link_by_bit links false = links.zeros
@@ -23,7 +23,7 @@ abbrev pub marks_with_bit : (Mark → Bool) → ℕ → Bool → Mark → Bool
 marks_with_bit class depth true m = class m && mark_bit m depth
 marks_with_bit class depth false m = class m && not (mark_bit m depth)
 
--- those that are wanted, without the marks that are equal to a top
+-- the marks that are wanted, without those that are equal to a top
 abbrev pub but : (Mark → Bool) → Mark → Mark → Bool
 but wanted top m = wanted m && not (is_same_mark m top)
 
@@ -35,6 +35,7 @@ every m = true
 abbrev pub mark_at : List Mark → ℕ → Mark
 mark_at marks i = slice_index_or marks i (record { length = 0; digest = [] })
 
+-- the links of the mark at a place
 abbrev pub links_at : List Links → ℕ → Links
 links_at links i = slice_index_or links i (record { zeros = 0; ones = 0 })
 
@@ -75,13 +76,14 @@ pub record IsHung (marks : List Mark) (links : List Links) (class : Mark → Boo
   pub belongs : IsTrue (class (mark_at marks place))
   pub tree : IsMarkTree marks links class (but every (mark_at marks place)) 0 place d
 
--- a mark was put on top of all others of its class, and no links of other marks changed
+-- the mark at this place was put on top of all others of its class, and the links of marks of other
+-- classes didn't change
 pub record IsPutOnTop (marks : List Mark) (old new : List Links) (class : Mark → Bool)
     (place : ℕ) : Type 0 where
   pub below : IsOnTop marks new class every 0 place
   pub others : (j : ℕ) → (IsTrue (class (mark_at marks j)) → ⊥) → links_at new j ≡ links_at old j
 
--- where the marks with this digest hang, of mask + 1 heads
+-- the hash of a mark, from 0 to the mask: which head leads to its tree
 abbrev pub hash_of : ℕ → Mark → ℕ
 hash_of mask m = bit_and (from_le_bytes w32 (take 4 m.digest)) mask
 

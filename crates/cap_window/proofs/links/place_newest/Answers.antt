@@ -54,10 +54,10 @@ returns-then-is_same_mark-clause-placed g c = λ some class hung.
     get_or_from_slice_get marks top c.unwrap-below.result.now _ (sym c.get-in-loop-step.ensures ∙ ap option_copied c.unwrap-below.ensures) in
     let under : links_at c.loop-step.links.items top ≡ c.unwrap.result.now =
     get_or_from_slice_get c.loop-step.links.items top c.unwrap.result.now _ (sym c.get-in-loop-step-2.ensures ∙ ap option_copied c.unwrap.ensures) in
-    placing_equal marks c.args.links.now.items c.loop-step.links.items class (length marks - 1) c.loop-step.depth place c.loop-step.step top c.moved_by.result
+    placing_equal marks c.args.links.now.items c.loop-step.links.items class (length marks - 1) c.loop-step.depth place c.loop-step.step top c.plus_step.result
     (c.loop-step.invariant.placing class hung) (omega arith) (omega arith) (omega arith)
     (above ∙ c.is_same_mark.ensures.0 c.if-is_same_mark.true ∙ sym below)
-    (rw under (after_links c.unwrap.result.now c.moved_by.result c.loop-step.step c.moved_by.ensures.zeros c.moved_by.ensures.ones))
+    (rw under (after_links c.unwrap.result.now c.plus_step.result c.loop-step.step c.plus_step.ensures.zeros c.plus_step.ensures.ones))
 
 pub unwrap-requires-in-loop-step : goal.unwrap-requires-in-loop-step
 unwrap-requires-in-loop-step g c =
@@ -85,7 +85,7 @@ loop-step-preserved g c =
           p (omega arith) (omega arith) (omega arith)
           (c.mark_bit-bit.ensures ∙ ap (λ m. mark_bit m c.loop-step.depth) (sym below))
           c.with_link.ensures.bit
-          (c.with_link.ensures.other ∙ rw under (after_links c.unwrap.result.now c.moved_by-in-loop-step.result c.loop-step.step c.moved_by-in-loop-step.ensures.zeros c.moved_by-in-loop-step.ensures.ones (not bit)))));
+          (c.with_link.ensures.other ∙ rw under (after_links c.unwrap.result.now c.plus_step-in-loop-step.result c.loop-step.step c.plus_step-in-loop-step.ensures.zeros c.plus_step-in-loop-step.ensures.ones (not bit)))));
     }
 
 pub loop-step-smaller : goal.loop-step-smaller
