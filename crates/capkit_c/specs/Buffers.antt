@@ -47,7 +47,7 @@ pub record StandWhole (bytes old new : List ℕ) (count : ℕ) : Type 0 where
   pub fits : length bytes ≤ length old
   pub put : new ≡ bytes ++ drop (length bytes) old
 
--- the buffer has room for fewer, and is as it was
+-- the buffer has room for fewer bytes, and is as it was
 pub record FindNoRoom (bytes old new : List ℕ) (count : ℕ) : Type 0 where
   pub counted : count ≡ length bytes
   pub short : length old < length bytes

@@ -12,7 +12,7 @@ use Rattle.cap_io.specs.declared.file_state.FileState.TheVariants as form
 use Rattle.capkit_c.specs.declared.memory.layout.Interface.{Interface}
 use Rattle.capkit_c.specs.declared.memory.layout.Reader.{Reader}
 
--- flags: 0 is no, and every other number yes
+-- the byte order that a flag tells: 0 is little-endian, every other number big-endian
 abbrev pub order_of_flag : ℕ → Order
 order_of_flag flag = if flag == 0 then Little else Big
 
@@ -24,7 +24,7 @@ resolution_by flag = if flag == 0 then Microseconds else Nanoseconds
 abbrev pub link_by : ℕ → ℕ → Option ℕ
 link_by flag link = if flag == 0 then None else Some link
 
--- what a reader says of the file
+-- what the units that a reader has read declare of the file
 abbrev pub reader_form : Reader → FileState
 reader_form r =
     if r.form == 1 then form.Pcap

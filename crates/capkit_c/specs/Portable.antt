@@ -11,37 +11,38 @@ use Rattle.flt_bpf.specs.declared.operation.Operation.TheVariants.{LoadAbsolute,
 use Rattle.flt_bpf.specs.declared.operation.Register.TheVariants.{Index}
 use Rattle.flt_bpf.specs.declared.operation.Source.TheVariants.{Immediate, Memory, Length}
 
--- Linux takes the offsets of loads from here on as negative
-abbrev pub half_of_places : ℕ
-half_of_places = 2 ^ 31
+-- 2^31, the greatest bit of 32: from here on Linux takes the offset of a load as negative
+abbrev pub sign_bit : ℕ
+sign_bit = 2 ^ 31
 
--- X stays below 2^31 where it is below it
+-- X, the index register, is below 2^31 after an operation if it is before it
 abbrev pub operation_keeps : Option Operation → ℕ → Bool
-operation_keeps (Some (Load Index Immediate)) k = nat_lt k half_of_places
+operation_keeps (Some (Load Index Immediate)) k = nat_lt k sign_bit
 operation_keeps (Some (Load Index _)) k = false
 operation_keeps (Some CopyToIndex) k = false
 operation_keeps _ k = true
 
--- the same of an instruction
+-- X, the index register, is below 2^31 after an instruction if it is before it
 abbrev pub keeps_x_small : Insn → Bool
 keeps_x_small i = operation_keeps (operation_of i.code) i.k
 
--- an operation does the same on both machines, where X is small or not
+-- an operation does the same on libpcap's and Linux's machines; `small` says that X is below 2^31
 abbrev pub operation_alike : Option Operation → ℕ → Bool → Bool
-operation_alike (Some (LoadAbsolute width)) k small = nat_lt k half_of_places
-operation_alike (Some LoadHeaderLength) k small = nat_lt k half_of_places
-operation_alike (Some (LoadIndirect width)) k small = small && nat_lt k half_of_places
+operation_alike (Some (LoadAbsolute width)) k small = nat_lt k sign_bit
+operation_alike (Some LoadHeaderLength) k small = nat_lt k sign_bit
+operation_alike (Some (LoadIndirect width)) k small = small && nat_lt k sign_bit
 operation_alike (Some (Load register Length)) k small = false
 operation_alike (Some (Compute ShiftLeft IndexRegister)) k small = false
 operation_alike (Some (Compute ShiftRight IndexRegister)) k small = false
 operation_alike _ k small = true
 
--- the same of an instruction
+-- an instruction does the same on libpcap's and Linux's machines; `small` says that X is below 2^31
 abbrev pub runs_alike : Bool → Insn → Bool
 runs_alike small i = operation_alike (operation_of i.code) i.k small
 
--- of the places after an instruction, whether the n-th may read a word first; past the last one
--- none does
+-- by what holds of the places after an instruction: whether at the n-th of them a word is live,
+-- which means that a run from there on may read it before it writes it; past the last one nothing
+-- is
 abbrev pub is_live_at : List Bool → ℕ → Bool
 is_live_at following n = slice_index_or following n false
 
@@ -57,11 +58,11 @@ operation_wants (Some ReturnConstant) w i following = false
 operation_wants (Some ReturnAccumulator) w i following = false
 operation_wants _ w i following = is_live_at following 0
 
--- the same by an instruction
+-- whether word w is live before an instruction, by what holds of the places after it
 abbrev pub is_live_before : ℕ → Insn → List Bool → Bool
 is_live_before w i following = operation_wants (operation_of i.code) w i following
 
--- the same of each place of a program
+-- whether word w is live before each instruction of a program
 abbrev pub live_places : ℕ → List Insn → List Bool
 live_places w [] = []
 live_places w (i ∷ is) = is_live_before w i (live_places w is) ∷ live_places w is

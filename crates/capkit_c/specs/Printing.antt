@@ -17,8 +17,8 @@ line_packet link_type time original bytes =
       comment = [];
     }
 
--- its line, with what is said of the link header where the flag isn't 0; nothing where no packet
--- has such a time
+-- the line of a packet, with its link header where the flag isn't 0; nothing where its time is 2^63
+-- nanoseconds or more
 abbrev pub packet_line : ℕ → ℕ → ℕ → ℕ → List ℕ → List ℕ
 packet_line with_link link_type time original bytes =
     if nat_lt time (2 ^ 63)

@@ -41,7 +41,7 @@ found_number found.End = 222
 found_number found.Unit = 223
 found_number found.NoRoom = 224
 
--- something is found, and the number is its own
+-- a call leaves what it does where it finds this, and its number says what that is
 pub record UnitLeaves (capture : List ℕ) (r r' : Reader) (t t' : List Interface) (p p' : Packet)
     (number : ℕ) : Type 0 where
   pub found : Found

@@ -28,7 +28,7 @@ name_by (PcapFile head) number = Some []
 name_by (PcapngFile first section) number =
     option_map (λ (i : Described). i.name) (slice_get section.interfaces number)
 
--- it declares an interface more
+-- the unit that the text begins with declares one interface after these
 pub record DeclaresOne (declared : Declared) (text : List ℕ)
     (interfaces : List Described) : Type 0 where
   pub size : ℕ

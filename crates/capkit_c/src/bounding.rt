@@ -7,8 +7,9 @@ use cap_filter::expression::read_expression;
 use flt_lang::bound;
 use std::alloc::Global;
 
-/// The bound of the expression that a text is, in instructions; or why the text is no expression.
-fn bound_in(alloc: Global, text: &[u8]) -> Result<usize, Failure>
+/// The bound of the expression that a text is: the most instructions that a program of it has. An
+/// error is why the text is no expression, or that memory ran out.
+fn bound_of_text(alloc: Global, text: &[u8]) -> Result<usize, Failure>
     ensures bounded { IfOk result (IsBound text.now) }
     ensures failed { IfErr result (IsTextFailure text.now) }
 {
@@ -28,7 +29,7 @@ fn bound_in(alloc: Global, text: &[u8]) -> Result<usize, Failure>
 pub extern "C" fn capkit_bound(alloc: Global, text: &[u8], number: &mut usize) -> u32
     ensures { BoundLeaves text.now number.new result }
 {
-    match bound_in(alloc, text) {
+    match bound_of_text(alloc, text) {
         Ok(count) => {
             *number = count;
             0

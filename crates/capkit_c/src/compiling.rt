@@ -11,7 +11,7 @@ use flt_bpf::Insn;
 use flt_words::ExprFault;
 use std::alloc::Global;
 
-/// What libpcap's pcap_datalink() calls raw IP.
+/// The number that libpcap's pcap_datalink() has for raw IP (DLT_RAW), where files have 101.
 const DLT_RAW: u16 = 12;
 
 /// Why nothing was compiled.
@@ -27,7 +27,8 @@ pub enum Failure {
     NoRoom(usize),
 }
 
-/// The link type as files have it, of one that libpcap's pcap_datalink() may give.
+/// The link type as files have it, of one that may be as libpcap's pcap_datalink() gives it: raw IP
+/// is 12 there, and 101 in files.
 pub(crate) fn file_link_type(number: u16) -> u16
     ensures { result ≡ file_link_type number }
 {
@@ -38,7 +39,8 @@ pub(crate) fn file_link_type(number: u16) -> u16
     }
 }
 
-/// The bytes as text, or the place of the byte, counted from 1, from which on they aren't UTF-8.
+/// The bytes as text. An error is the place of the byte, counted from 1, from which on they aren't
+/// UTF-8.
 pub(crate) fn utf8_text(bytes: &[u8]) -> Result<&str, usize>
     ensures text { IfOk result (λ text. text.now ≡ bytes.now) }
     ensures failed { IfErr result (IsNotUtf8 bytes.now) }
@@ -83,7 +85,7 @@ fn compile_into(
 }
 
 impl Failure {
-    /// The status that C sees, as `library/include/capkit.h` has it.
+    /// The status that C sees, 1 to 16, as `library/include/capkit.h` has it.
     pub(crate) fn status(self) -> u32
         ensures { result ≡ failure_status self }
     {

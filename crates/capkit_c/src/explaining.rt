@@ -10,7 +10,8 @@ use flt_lang::explain;
 use flt_words::ExprFault;
 use std::alloc::Global;
 
-/// What the expression that a text is means, written out; or why the text is no expression.
+/// What the expression that a text is means, written out as a text again. An error is why the first
+/// text is no expression, or that memory ran out.
 fn meaning_of(alloc: Global, text: &[u8]) -> Result<String, Failure>
     ensures meaning { IfOk result (λ meaning. Explains text.now (string_bytes meaning)) }
     ensures failed { IfErr result (IsTextFailure text.now) }

@@ -13,17 +13,18 @@ const MOST_ATTACHED: usize = 4096;
 /// How many words of memory a program has.
 const WORDS: u32 = 16;
 
-/// 2^31. Linux takes a load's offset from here on as negative, which means something else there.
-/// And where X and an offset are both below it, their sum doesn't wrap.
-const HALF_OF_PLACES: u32 = 0x8000_0000;
+/// 2^31, the greatest bit of 32. From here on Linux takes a load's offset as negative, which means
+/// something else there. And where X, the index register, and an offset are both below it, their
+/// sum doesn't wrap.
+const SIGN_BIT: u32 = 0x8000_0000;
 
-/// Whether X holds less than 2^31 after an instruction if it does before it: it isn't loaded from
-/// memory, from the length or from A, and with no constant from 2^31 on.
+/// Whether X, the index register, holds less than 2^31 after an instruction if it does before it: X
+/// isn't loaded from memory, from the packet's length or from A, and with no constant from 2^31 on.
 fn keeps_x_small(insn: &Insn) -> bool
     ensures { result ≡ keeps_x_small insn.now }
 {
     match decode(insn.code) {
-        Some(Operation::Load(Register::Index, Source::Immediate)) => insn.k < HALF_OF_PLACES,
+        Some(Operation::Load(Register::Index, Source::Immediate)) => insn.k < SIGN_BIT,
         Some(Operation::Load(Register::Index, _) | Operation::CopyToIndex) => false,
         _ => true,
     }
@@ -35,8 +36,8 @@ fn runs_alike(insn: &Insn, small: bool) -> bool
     ensures { result ≡ runs_alike small insn.now }
 {
     match decode(insn.code) {
-        Some(Operation::LoadAbsolute(_) | Operation::LoadHeaderLength) => insn.k < HALF_OF_PLACES,
-        Some(Operation::LoadIndirect(_)) => small && insn.k < HALF_OF_PLACES,
+        Some(Operation::LoadAbsolute(_) | Operation::LoadHeaderLength) => insn.k < SIGN_BIT,
+        Some(Operation::LoadIndirect(_)) => small && insn.k < SIGN_BIT,
         // The length is the captured one on Linux.
         Some(Operation::Load(_, Source::Length)) => false,
         // A shift by 32 or more gives 0 here, and is taken modulo 32 on Linux.
@@ -54,27 +55,28 @@ fn all_keep_x_small(insns: &[Insn]) -> bool
     insns.iter().all(|insn| keeps_x_small(insn))
 }
 
-/// Whether every instruction does the same elsewhere, where `small` says that X is below 2^31
-/// throughout.
+/// Whether every instruction does the same on libpcap's and Linux's machines, where `small` says
+/// that X is below 2^31 throughout.
 fn all_run_alike(insns: &[Insn], small: bool) -> bool
     ensures { result ≡ list_all (runs_alike small) insns.now }
 {
     insns.iter().all(|insn| runs_alike(insn, small))
 }
 
-/// What is noted in `following`, of the instructions after one, of that at index `place`; `false`
-/// past the last one.
+/// Whether a word of memory is live, which means that a run may read it before it writes it, from
+/// the instruction at index `place` on. `following` has the answers for all instructions after a
+/// certain one; past the last of them nothing is live.
 fn is_live_at(following: &[bool], place: usize) -> bool
     ensures { result ≡ is_live_at following.now place }
 {
     match following.get(place) {
-        Some(is_wanted) => *is_wanted,
+        Some(is_live) => *is_live,
         None => false,
     }
 }
 
-/// Whether a run may read a word of memory before it writes it, from an instruction on. `following`
-/// has the same of each instruction after it.
+/// Whether a word of memory is live before an instruction: whether a run from there on may read it
+/// before it writes it. `following` says the same of each instruction after this one.
 fn is_live_before(insn: &Insn, word: u32, following: &[bool]) -> bool
     ensures { result ≡ is_live_before word insn.now following.now }
 {
@@ -90,8 +92,9 @@ fn is_live_before(insn: &Insn, word: u32, following: &[bool]) -> bool
     }
 }
 
-/// Notes of each instruction whether a run from there on may read a word of memory before it writes
-/// it. It goes from the last one to the first, since jumps go forward.
+/// Marks of each instruction whether a word of memory is live before it: whether a run from there
+/// on may read the word before it writes it. It goes from the last instruction to the first, since
+/// jumps go forward.
 fn mark_live(insns: &[Insn], word: u32, marks: &mut [bool])
     requires { length marks.old ≡ length insns.now }
     ensures { marks.new ≡ live_places word insns.now }
@@ -99,13 +102,13 @@ fn mark_live(insns: &[Insn], word: u32, marks: &mut [bool])
     let mut place = insns.len();
     while place > 0 {
         place -= 1;
-        let is_wanted = is_live_before(&insns[place], word, &marks[place + 1..]);
-        marks[place] = is_wanted;
+        let is_live = is_live_before(&insns[place], word, &marks[place + 1..]);
+        marks[place] = is_live;
     }
 }
 
-/// Whether a run may read a word of memory before it writes it. The machine here finds 0 then,
-/// libpcap what lay in its memory, and Linux refuses the program.
+/// Whether a run of the program may read a word of memory before it writes it. The machine here
+/// finds 0 then, libpcap's what was in its memory before, and Linux refuses the program.
 fn may_read_unwritten(insns: &[Insn], word: u32) -> bool
     requires { length insns.now ≤ MOST_ATTACHED }
     ensures { result ≡ is_live_at (live_places word insns.now) 0 }
@@ -128,8 +131,8 @@ fn no_word_read_unwritten(insns: &[Insn]) -> bool
     all
 }
 
-/// 1 where a valid program runs alike on libpcap's and Linux's machines, as far as its instructions
-/// tell; 0 where it may not.
+/// 1 where a valid program returns the same on libpcap's machine and on Linux's, as far as its
+/// instructions tell; 0 where it may not, or has over 4,096 instructions.
 #[unsafe(no_mangle)]
 pub extern "C" fn capkit_is_portable(insns: &[Insn]) -> u32
     ensures { result ≡ is_portable insns.now }

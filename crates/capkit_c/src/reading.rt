@@ -69,9 +69,9 @@ pub extern "C" fn capkit_next(
     found_number(next_unit(reader, interfaces, capture, packet))
 }
 
-/// Puts the comment of the packet that this reader found last into a buffer, and gives its length;
-/// 0 if it has none. It needs the byte order alone, so the clauses hold whatever the table of
-/// interfaces is.
+/// Puts the comment of the packet that this reader found last into a buffer (`put_text`), and gives
+/// the comment's length; 0 if the packet has none. Of the reader it needs the byte order alone, so
+/// the clauses hold whatever the table of interfaces is.
 #[unsafe(no_mangle)]
 pub extern "C" fn capkit_comment(
     reader: &Reader,

@@ -24,8 +24,9 @@ fn rule_number(fault: CheckFault) -> u32
     }
 }
 
-/// 0 if instructions are a valid program; else the number of the first rule that they break, and
-/// the index of the instruction that breaks it, or 0 where the rule is on the whole.
+/// 0 if instructions are a valid program; else the number of the first rule that they break.
+/// `index` becomes the index, from 0, of the instruction that breaks it, or 0 where the rule is on
+/// the whole, and where there is none.
 #[unsafe(no_mangle)]
 pub extern "C" fn capkit_check(insns: &[Insn], index: &mut usize) -> u32
     ensures { CheckLeaves insns.now index.new result }

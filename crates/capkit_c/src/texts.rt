@@ -16,7 +16,7 @@ pub(crate) const FOUND: u32 = 200;
 /// The version of the library.
 const VERSION: [u8; 3] = [0, 1, 0];
 
-/// What a status of a compilation is called; nothing where none has the number.
+/// What a status of a compilation is called, as a message has it; empty where none has the number.
 fn status_text(status: u32) -> &'static str
     ensures { result.now ≡ status_text status }
 {
@@ -41,7 +41,8 @@ fn status_text(status: u32) -> &'static str
     }
 }
 
-/// What the rule is called that has this number after `RULES`; nothing where none has it.
+/// What the rule of valid programs is called that has this number after `RULES`; empty where none
+/// has it.
 fn rule_text(rule: u32) -> &'static str
     ensures { result.now ≡ rule_text rule }
 {
@@ -82,7 +83,7 @@ fn put_with_nul(bytes: &[u8], buffer: &mut [u8])
     buffer[count] = 0;
 }
 
-/// What a number after `FOUND` is called, of a reading or a write; nothing where none has it.
+/// What a number after `FOUND` is called, of a reading or a write; empty where none has it.
 fn found_text(number: u32) -> &'static str
     ensures { result.now ≡ found_text number }
 {
@@ -111,7 +112,7 @@ fn found_text(number: u32) -> &'static str
     }
 }
 
-/// What any number is called; nothing where none has it.
+/// What any number is called that a call may return; empty where none returns it.
 fn number_text(number: u32) -> &'static str
     ensures { result.now ≡ number_text number }
 {
@@ -132,7 +133,8 @@ pub extern "C" fn capkit_text(number: u32, buffer: &mut [u8]) -> usize
     put_text(number_text(number).as_bytes(), buffer)
 }
 
-/// The version of the library: a byte each for its three numbers, the first one in front.
+/// The version of the library: a byte each for its three numbers, the first one in front, so that
+/// 0.1.0 is 0x000100.
 #[unsafe(no_mangle)]
 pub extern "C" fn capkit_version() -> u32
     ensures { result ≡ version }

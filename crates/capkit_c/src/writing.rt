@@ -14,9 +14,9 @@ use crate::memory::{
 };
 use crate::reading::fault_number;
 
-/// Tells C what became of bytes: returns its number, 0, 225 or that of a fault, as
-/// `library/include/capkit.h` has it, and sets the length to how many they are, 0 where they are
-/// refused.
+/// Tells C what became of bytes that were to be written: returns the number of that, as
+/// `library/include/capkit.h` has it: 0 where they are written, 225 where the buffer has no room,
+/// or that of a fault. It sets the length to how many bytes they are, 0 where they are refused.
 fn tell_written(written: Written, length: &mut usize) -> u32
     ensures number { result ≡ written_number written }
     ensures length { length.new ≡ written_length written }

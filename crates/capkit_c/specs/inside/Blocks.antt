@@ -18,7 +18,7 @@ use Rattle.capkit_c.specs.declared.memory.block.UnitPacket.{UnitPacket}
 use Rattle.capkit_c.specs.declared.memory.block.Refusal.{Refusal}
 use Rattle.capkit_c.specs.declared.memory.block.Refusal.TheVariants as refusal
 
--- what is held of a packet in a unit of `size` bytes
+-- where the parts of a packet lie in a unit of `size` bytes
 abbrev pub spans_of : ℕ → UnitPacket → PacketSpans
 spans_of size p = record {
   size = size;
@@ -29,12 +29,13 @@ spans_of size p = record {
   orig = p.orig;
 }
 
--- its link type and snapshot length are those of its interface
+-- the link type and the snap length of a packet are those of its interface
 pub record IsOf (interfaces : List Described) (p : UnitPacket) : Type 0 where
   pub link : option_map (λ (i : Described). i.link) (slice_get interfaces p.interface)
       ≡ Some p.link_type
   pub snap : option_map (λ (i : Described). i.snap) (slice_get interfaces p.interface) ≡ Some p.snap
 
+-- the same of a packet, if there is one
 abbrev pub IsOfIfAny : List Described → Option UnitPacket → Type 0
 IsOfIfAny interfaces None = Unit {0}
 IsOfIfAny interfaces (Some p) = IsOf interfaces p
@@ -73,6 +74,7 @@ pub record BlockPacket (order : Order) (before : Option Section) (block : List �
   pub lies : held_packet order (interfaces_before before) held (span_bytes held.bytes block)
       (span_bytes held.options block) ≡ Some packet
 
+-- a block has this packet, as its parts lie in it, or none
 abbrev pub BlockPacketIfAny : Order → Option Section → List ℕ → Option PacketSpans → Type 0
 BlockPacketIfAny order before block None = packets_in before block ≡ []
 BlockPacketIfAny order before block (Some held) = BlockPacket order before block held
@@ -105,8 +107,8 @@ pub record Declares (before : Option Section) (text : List ℕ)
   pub interface : Described
   pub stands : BlockStands before text order size (interfaces ++ interface ∷ []) None
 
--- the first check that fails; or the table with this room is full, and the block declares an
--- interface
+-- the text begins with no block that is read: the first check that fails; or the table with this
+-- room is full, and the block declares an interface
 abbrev pub IsNoBlock : Option Order → List Described → List ℕ → ℕ → Refusal → Type 0
 IsNoBlock section interfaces text room (refusal.Fault fault) =
     Following section interfaces (λ before. unit_fault before text ≡ Some fault)

@@ -30,6 +30,7 @@ pub record IsPlaced (declared : Declared) (text : List ℕ) (size : ℕ) (p : Un
   pub comment : q.comment ≡ comment_by declared (take p.options_length (drop p.options_start text))
   pub options : p.options_start + p.options_length ≤ size
 
+-- these are the packets of a unit: one, as its parts lie in it, or none
 abbrev pub ArePlaced : Declared → List ℕ → ℕ → Option UnitPacket → List Captured → Type 0
 ArePlaced declared text size None packets = packets ≡ []
 ArePlaced declared text size (Some p) packets =
@@ -50,7 +51,8 @@ pub record BeginsWithUnit (form : FileState) (interfaces : List Described) (text
   pub known : step.interfaces ≤ length table'
   pub upper_bound : step.interfaces ≤ 256
 
--- it begins with no unit, but with a fault; or with an interface that a full table has no room for
+-- a text begins with no unit that is read, but with a fault; or with an interface that a full table
+-- has no room for
 abbrev pub IsNoUnit : FileState → List Described → List ℕ → ℕ → Refusal → Type 0
 IsNoUnit form interfaces text room (refusal.Fault fault) =
     front_of (declared_by form interfaces) text ≡ NoUnit (Some fault)
@@ -65,19 +67,19 @@ Begins (form.Pcap head) section first interfaces text = ⊥
 Begins (form.Pcapng order link) section first interfaces text =
     (section ≡ Some order) × (first ≡ link) × (0 < length text)
 
--- after a unit something is left
+-- where a unit was read before, something is left
 abbrev pub IsSomeFor : FileState → List ℕ → Type 0
 IsSomeFor form.Unknown text = Unit {0}
 IsSomeFor (form.Pcap head) text = 0 < length text
 IsSomeFor (form.Pcapng order link) text = 0 < length text
 
--- before a unit no interface is known
+-- where no unit was read, no interface is known
 abbrev pub IsBare : FileState → ℕ → Type 0
 IsBare form.Unknown count = count ≡ 0
 IsBare (form.Pcap head) count = Unit {0}
 IsBare (form.Pcapng order link) count = Unit {0}
 
--- where the parts of a packet are, given the place of its unit
+-- a packet of the unit at a place of the capture, with its places from the capture's start
 abbrev pub placed_packet : ℕ → UnitPacket → Packet
 placed_packet at p = record {
   time = p.time;
@@ -91,13 +93,13 @@ placed_packet at p = record {
   link_type = p.link_type;
 }
 
--- `count` interfaces are known
+-- `count` interfaces are known, by the reader and the room of the table, where a unit was read
 abbrev pub Counts : FileState → Reader → ℕ → ℕ → Type 0
 Counts form.Unknown r room count = Unit {0}
 Counts (form.Pcap head) r room count = count ≡ most_known r room
 Counts (form.Pcapng order link) r room count = count ≡ most_known r room
 
--- after a unit nothing is left
+-- a unit was read, and nothing is left
 abbrev pub IsAtEnd : FileState → List ℕ → Type 0
 IsAtEnd form.Unknown text = ⊥
 IsAtEnd (form.Pcap head) text = text ≡ []

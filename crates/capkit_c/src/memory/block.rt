@@ -50,8 +50,8 @@ pub(crate) struct BlockEffect {
     pub(crate) packet: Option<UnitPacket>,
 }
 
-/// The interface with this number, from 0, among the first `count` of a table, if it is there: the
-/// table's own entry, where `KnownInterfaces::get` has it as blocks read it.
+/// The interface with this number, from 0, among the first `count` of a table; `None` where there
+/// is none. It is the table's own entry; `KnownInterfaces::get` gives it as `cap_pcapng` has it.
 fn interface_by_number(table: &[Interface], count: usize, number: u32) -> Option<&Interface>
     requires { count ≤ length table.now }
     ensures { option_map (λ i. described_of i.now) result
@@ -63,7 +63,7 @@ fn interface_by_number(table: &[Interface], count: usize, number: u32) -> Option
     table.get(number as usize)
 }
 
-/// Puts an interface after the first `count` of a table.
+/// Puts an interface after the first `count` of a table, in place of what was there.
 fn append_interface(table: &mut [Interface], count: usize, interface: &PcapngInterface<'_>)
     requires { count < length table.old }
     ensures put { first_interfaces (count + 1) table.new
@@ -97,8 +97,8 @@ impl Interfaces for KnownInterfaces<'_> {
     }
 }
 
-/// The packet that a block has at these places, with link type and snap length of its interface,
-/// which is among the first `count` of a table.
+/// The packet that a block has at these places, with the link type and the snap length of its
+/// interface, which is among the first `count` of a table.
 fn unit_packet(table: &[Interface], count: usize, spans: &PacketSpans) -> UnitPacket
     requires known { count ≤ length table.now }
     requires there { is_some (slice_get (first_interfaces count table.now) spans.now.interface)
@@ -121,7 +121,8 @@ fn unit_packet(table: &[Interface], count: usize, spans: &PacketSpans) -> UnitPa
 }
 
 /// Makes the checks of a whole block of this frame, and adds the interface that it describes, if it
-/// describes one, to the first `count` of a table. A refusal leaves the table unchanged.
+/// describes one, to the first `count` of a table. A refusal, by a check or for lack of room in the
+/// table, leaves the table unchanged.
 fn apply_block(
     table: &mut [Interface],
     count: usize,
@@ -177,12 +178,13 @@ pub(crate) struct BlockRead {
     pub(crate) size: usize,
     /// The byte order of its section.
     pub(crate) order: Order,
+    /// How many interfaces there are after it, and its packet.
     pub(crate) effect: BlockEffect,
 }
 
-/// Reads the block that a text begins with, after a section of this byte order or after none, and
-/// adds the interface that it describes to the first `count` of a table. A refusal leaves the table
-/// unchanged.
+/// Reads the block that a text begins with, in a section of this byte order or, where there is none
+/// yet, as the first block of a file, and adds the interface that it describes to the first `count`
+/// of a table. A refusal leaves the table unchanged.
 pub(crate) fn read_block(
     section: Option<Order>,
     table: &mut [Interface],
@@ -203,18 +205,18 @@ pub(crate) fn read_block(
     let Some(first) = text.first_chunk::<12>() else {
         return Err(Refusal::Fault(Fault::Truncated));
     };
-    let found = match read_frame(section, first) {
-        Ok(found) => found,
+    let frame = match read_frame(section, first) {
+        Ok(frame) => frame,
         Err(fault) => return Err(Refusal::Fault(fault)),
     };
-    let size = found.length as usize;
+    let size = frame.length as usize;
     if text.len() < size {
         return Err(Refusal::Fault(Fault::Truncated));
     }
-    match apply_block(table, count, &found, &text[..size]) {
+    match apply_block(table, count, &frame, &text[..size]) {
         Ok(effect) => Ok(BlockRead {
             size,
-            order: found.order,
+            order: frame.order,
             effect,
         }),
         Err(refusal) => Err(refusal),

@@ -115,7 +115,8 @@ impl Reader {
         }
     }
 
-    /// How many interfaces the section has so far; no more than `room` and 256, whatever C wrote.
+    /// How many interfaces the section has so far, by the reader; at most as many as the table has
+    /// room for (`room`), and 256, whatever C wrote.
     pub(crate) fn known_interfaces(&self, room: usize) -> usize
         ensures value { result ≡ most_known self.now room }
         ensures fits { result ≤ room }
@@ -124,8 +125,8 @@ impl Reader {
         (self.interfaces as usize).min(room).min(MOST_INTERFACES)
     }
 
-    /// A reader at `offset` bytes from the start, of a file of which this is declared, with this
-    /// many interfaces. What isn't declared is 0.
+    /// A reader at `offset` bytes from the start of a file, whose units so far declare `form` and
+    /// this many interfaces. What they don't declare is 0.
     pub(crate) fn new_at(offset: usize, form: FileState, interfaces: usize) -> Self
         requires { interfaces ≤ 256 }
         ensures offset { result.offset ≡ offset }

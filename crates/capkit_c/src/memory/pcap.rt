@@ -1,4 +1,5 @@
-//! The file header and the records of a pcap capture in memory.
+//! The file header, of 24 bytes, and the records of a pcap capture in memory, each a header of 16
+//! bytes and its data.
 ghost use Rattle.std.specs.Prelude.{◌≡◌};
 ghost use Rattle.cap_octet.specs.Checks.{checked};
 ghost use Rattle.cap_pcap.specs.Header.{header_fault, header_in};
@@ -10,9 +11,9 @@ use cap_pcap::{Head, RecordHead, read_file_header, read_magic, read_record_heade
 /// The bytes of a record in front of its data.
 pub(crate) const RECORD_HEADER: u32 = 16;
 
-/// The file header that a text begins with, or the first check that fails: `NotACaptureFile`
-/// without a magic number in the first four bytes, `Truncated` where fewer than the header's 24 are
-/// there, and then those of the header.
+/// The file header that a text begins with. An error is the first check that fails:
+/// `NotACaptureFile` without a magic number in the first four bytes, `Truncated` where fewer than
+/// the header's 24 are there, and then those of the header (`read_file_header`).
 pub(crate) fn header_in(text: &[u8]) -> Result<Head, Fault>
     ensures { result ≡ checked (header_fault text.now) (header_in text.now) }
 {
@@ -25,9 +26,9 @@ pub(crate) fn header_in(text: &[u8]) -> Result<Head, Fault>
     read_file_header(bytes)
 }
 
-/// The header of the record that a text begins with, or the first check that fails: `Truncated`
-/// where fewer than the header's 16 bytes are there, then those of the header, and `Truncated`
-/// where the data aren't all there.
+/// The header of the record that a text begins with. An error is the first check that fails:
+/// `Truncated` where fewer than the header's 16 bytes are there, then those of the header
+/// (`read_record_header`), and `Truncated` where the data after it aren't all there.
 pub(crate) fn record_header_in(head: &Head, text: &[u8]) -> Result<RecordHead, Fault>
     ensures { result ≡ checked (record_fault head.now text.now) (record_header_in head.now
         text.now) }

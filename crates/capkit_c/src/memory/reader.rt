@@ -23,6 +23,7 @@ use cap_pcapng::{Options, begins_section};
 pub enum Found {
     /// A unit without a packet.
     Unit,
+    /// A unit with a packet.
     Packet,
     /// The clean end.
     End,
@@ -41,6 +42,7 @@ struct ReadUnit {
     form: FileState,
     /// How many interfaces the section has after it.
     interfaces: usize,
+    /// Its packet, if it has one.
     packet: Option<UnitPacket>,
 }
 
@@ -79,8 +81,9 @@ fn first_link_type(first: Option<u16>, table: &[Interface], count: usize) -> Opt
     first.or(table.first().map(|interface| interface.link_type))
 }
 
-/// Reads the record that a text begins with, in a pcap file with this header. The count of
-/// interfaces, which says nothing in pcap, is handed on as the caller's reader has it.
+/// Reads the record that a text begins with, in a pcap file with this header, or the first check
+/// that it fails. The count of interfaces, which says nothing in pcap, is handed on as the caller's
+/// reader has it.
 fn read_record_unit(head: &Head, text: &[u8], interfaces: usize) -> Result<ReadUnit, Refusal>
     ensures ok { IfOk result (λ step. (known : List Described) (table : List Interface)
         → interfaces ≤ length table → interfaces ≤ 256 → BeginsWithUnit (form.Pcap head.now) known
@@ -109,9 +112,10 @@ fn read_record_unit(head: &Head, text: &[u8], interfaces: usize) -> Result<ReadU
     }
 }
 
-/// Reads the block that a text begins with, after a section of this byte order or after none.
-/// `first` is the file's first link type so far; the first `count` of `table` are the section's
-/// interfaces. `form`, what is declared before the block, is there for the contract alone.
+/// Reads the block that a text begins with, in a section of this byte order or, where there is none
+/// yet, as the first block of a file. `first` is the file's first link type so far; the first
+/// `count` of `table` are the section's interfaces. `form`, what is declared before the block, is
+/// there for the contract alone. A refusal leaves the table unchanged.
 fn read_block_unit(
     form: FileState,
     section: Option<Order>,
@@ -145,7 +149,8 @@ fn read_block_unit(
 }
 
 /// Reads the unit that a text begins with, a file header, a record or a block, by what is declared
-/// of the file. The text isn't empty where a unit was read before.
+/// of the file. The text isn't empty where a unit was read before. A refusal leaves the table
+/// unchanged.
 fn read_unit(
     form: FileState,
     table: &mut [Interface],
@@ -271,7 +276,7 @@ pub fn next_unit(
     }
 }
 
-/// `length` bytes of a text from place `at` on, as far as they are there.
+/// `length` bytes of a text from place `at` on, or fewer where fewer are there.
 fn bytes_at(text: &[u8], at: usize, length: u32) -> &[u8]
     ensures { result.now ≡ take length (drop at text.now) }
 {
@@ -279,8 +284,8 @@ fn bytes_at(text: &[u8], at: usize, length: u32) -> &[u8]
     &rest[..rest.len().min(length as usize)]
 }
 
-/// The comment of the packet that this reader found last; empty if it has none. It needs the byte
-/// order alone, so the clauses hold whatever the table of interfaces is.
+/// The comment of the packet that this reader found last; empty if it has none. Of the reader it
+/// needs the byte order alone, so the clause holds whatever the table of interfaces is.
 pub fn comment_of<'a>(reader: &Reader, capture: &'a [u8], packet: &Packet) -> &'a [u8]
     ensures { (table : List Interface) → result.now ≡ comment_by (declared_in reader.now table)
         (take packet.now.options_length (drop packet.now.options_at capture.now)) }

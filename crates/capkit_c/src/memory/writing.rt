@@ -34,15 +34,16 @@ const MOST_OUTPUT_INTERFACES: u32 = cap_io::MOST_OUTPUT_INTERFACES as u32;
 /// What became of bytes that were to be put into a buffer.
 #[derive(Clone, Copy)]
 pub enum Written {
-    /// This many bytes are at its start.
+    /// They are written: this many bytes are at the start of the buffer.
     Whole(usize),
-    /// They are this many bytes, more than it has room for.
+    /// They are this many bytes, more than the buffer has room for, which is unchanged.
     NoRoom(usize),
-    /// The first check that fails.
+    /// They aren't made, by the first check that fails.
     Refused(Fault),
 }
 
-/// Puts parts, `size` bytes in all, one after another at the start of a buffer, if it has room.
+/// Puts parts, `size` bytes in all, one after another at the start of a buffer, or nothing where it
+/// has no room for all of them.
 fn put_parts(parts: &[&[u8]], size: usize, buffer: &mut [u8]) -> Written
     requires { size ≡ length (flat_map (λ part. part.now) parts.now) }
     ensures { WriteLeaves None (flat_map (λ part. part.now) parts.now) buffer.old buffer.new
@@ -59,7 +60,7 @@ fn put_parts(parts: &[&[u8]], size: usize, buffer: &mut [u8]) -> Written
     Written::Whole(size)
 }
 
-/// The pcap format that a flag tells: with microseconds at 0, else with nanoseconds.
+/// The pcap format that a flag tells: at 0 times are in microseconds, else in nanoseconds.
 fn pcap_format(nanoseconds: u32) -> Format
     ensures form { IsPcap result }
     ensures resolution { resolution_of result ≡ resolution_by nanoseconds }
@@ -157,10 +158,12 @@ fn put_interface(packet: &Packet<'_>, buffer: &mut [u8]) -> Written
     let name = packet.name;
     let padding = padding_after(name.len());
     let option = option_header(NAME_CODE, name);
-    // The header has no data to pad; and where there is no name, its option's header goes too.
+    // `option` is 3 zeros, to pad what is before it, and the option's header of 4 bytes. No data
+    // are before it, so the zeros are left out; without a name the whole option is.
     let start = if name.is_empty() { 7 } else { 3 };
     let option = &option[start..];
-    // 16 bytes before the option, and 16 after the name's padding.
+    // 16 bytes are before the option, and 16 after the name's padding. `end` is 3 zeros and these
+    // 16 bytes; as many of the zeros are put as the name's padding needs.
     let size = 32 + option.len() + name.len() + padding;
     let head = interface_header(size as u32, packet);
     let end = interface_end(size as u32);
@@ -216,8 +219,8 @@ fn put_packet(number: u32, packet: &Packet<'_>, buffer: &mut [u8]) -> Written
         result }
 {
     let padding = padding_after(packet.bytes.len());
-    // 32 are the header's 28 bytes and the total length at the end; of the seven zeros before that
-    // as many are put as the padding needs.
+    // 32 are the header's 28 bytes and the total length, of 4 bytes, at the end. `end` is 7 zeros
+    // and that length; as many of the zeros are put as the padding of the data needs.
     if packet.comment.is_empty() {
         let size = 32 + packet.bytes.len() + padding;
         let head = packet_header(size as u32, number, packet);
@@ -226,8 +229,9 @@ fn put_packet(number: u32, packet: &Packet<'_>, buffer: &mut [u8]) -> Written
     }
     let comment = packet.comment;
     let option = option_header(COMMENT_CODE, comment);
+    // 3 zeros and the option's header of 4 bytes: the zeros that pad the data are put too.
     let option = &option[3 - padding..];
-    // The comment's padding, and the four that end the options.
+    // The comment's padding, and the 4 zeros that end the options.
     let zeros = padding_after(comment.len()) + 4;
     let size = 32 + packet.bytes.len() + option.len() + comment.len() + zeros;
     let head = packet_header(size as u32, number, packet);

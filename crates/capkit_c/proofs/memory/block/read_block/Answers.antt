@@ -11,8 +11,8 @@ returns-in-Err-clause-err c =
 pub returns-then-text-size-clause-err : goal.returns-then-text-size-clause-err
 returns-then-text-size-clause-err c =
     let short = c.if-text-size.true in
-    λ before is same. block_cut before c.args.text.now c.in-Ok.found (omega (arith, c.in-Some.ensures.cases.enough))
-    (framed before c.args.section c.args.text.now c.in-Some.first.now c.in-Ok.found is c.in-Some.ensures.cases.enough c.in-Some.ensures.cases.same c.in-Ok.ensures.answer) (omega (arith, short))
+    λ before is same. block_cut before c.args.text.now c.in-Ok.frame (omega (arith, c.in-Some.ensures.cases.enough))
+    (framed before c.args.section c.args.text.now c.in-Some.first.now c.in-Ok.frame is c.in-Some.ensures.cases.enough c.in-Some.ensures.cases.same c.in-Ok.ensures.answer) (omega (arith, short))
 
 pub returns-in-Ok-apply_block-clause-ok : goal.returns-in-Ok-apply_block-clause-ok
 returns-in-Ok-apply_block-clause-ok c =
@@ -20,7 +20,7 @@ returns-in-Ok-apply_block-clause-ok c =
     let e = c.in-Ok-apply_block.ensures.ok in
     record {
       stands = λ before is same. stands before c.args.section (first_interfaces c.args.count c.args.table.now) (first_interfaces c.in-Ok-apply_block.effect.interfaces c.apply_block.new.table) c.args.text.now c.in-Some.first.now
-          c.in-Ok.found c.in-Ok-apply_block.effect.packet is same c.in-Some.ensures.cases.enough c.in-Some.ensures.cases.same c.in-Ok.ensures.answer c.in-Ok.ensures.shortest (omega (arith, there)) e.enters;
+          c.in-Ok.frame c.in-Ok-apply_block.effect.packet is same c.in-Some.ensures.cases.enough c.in-Some.ensures.cases.same c.in-Ok.ensures.answer c.in-Ok.ensures.shortest (omega (arith, there)) e.enters;
       known = e.known;
       upper_bound = e.upper_bound;
       of = e.of;
@@ -29,5 +29,5 @@ returns-in-Ok-apply_block-clause-ok c =
 pub returns-in-Err-apply_block-clause-err : goal.returns-in-Err-apply_block-clause-err
 returns-in-Err-apply_block-clause-err c =
     let there = c.if-text-size.false in
-    no_block c.args.section (first_interfaces c.args.count c.args.table.now) c.args.text.now c.in-Some.first.now c.in-Ok.found (length c.args.table.now) c.in-Err-apply_block.refusal c.in-Some.ensures.cases.enough c.in-Some.ensures.cases.same
+    no_block c.args.section (first_interfaces c.args.count c.args.table.now) c.args.text.now c.in-Some.first.now c.in-Ok.frame (length c.args.table.now) c.in-Err-apply_block.refusal c.in-Some.ensures.cases.enough c.in-Some.ensures.cases.same
     c.in-Ok.ensures.answer c.in-Ok.ensures.shortest (omega (arith, there)) c.in-Err-apply_block.ensures.err

@@ -2,7 +2,7 @@
 use Rattle.std.proofs.Common.{◌≡◌, ℕ, List, subst, rules}
 use Rattle.capkit_c.specs.Bounding.{IsBound}
 use Rattle.capkit_c.proofs.OneBound.{is_bound}
-use Rattle.capkit_c.proofs.bounding.bound_in.Goals as goal
+use Rattle.capkit_c.proofs.bounding.bound_of_text.Goals as goal
 
 pub returns-in-Ok-read_expression-clause-bounded : goal.returns-in-Ok-read_expression-clause-bounded
 returns-in-Ok-read_expression-clause-bounded c =
