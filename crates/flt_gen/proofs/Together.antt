@@ -187,12 +187,12 @@ module _ (link : Link) (p : List ℕ) (n : ℕ) where
   transport_reads (Some _) header = No
 
   abbrev after_reads : Option Protocol → Transport → MatchResult → MatchResult
-  after_reads protocol header r = both (transport_reads protocol header) (both (whole_reads header.whole) r)
+  after_reads protocol header r = both (transport_reads protocol header) (both (whole_reads header.no_later_fragment) r)
 
   after_more : (protocol : Option Protocol) (header : Transport) (a b : MatchResult) → after_reads protocol header (either a b) ≡ either (after_reads protocol header a) (after_reads protocol header b)
   after_more protocol header a b =
-      ap (both (transport_reads protocol header)) (one_kind (whole_reads header.whole) a b)
-      ∙ one_kind (transport_reads protocol header) (both (whole_reads header.whole) a) (both (whole_reads header.whole) b)
+      ap (both (transport_reads protocol header)) (one_kind (whole_reads header.no_later_fragment) a b)
+      ∙ one_kind (transport_reads protocol header) (both (whole_reads header.no_later_fragment) a) (both (whole_reads header.no_later_fragment) b)
 
   whole_is : (o : Option Elementary) (f : Formula) → reads link (following o f) p n ≡ both (whole_reads o) (reads link f p n)
   whole_is None f = refl
@@ -204,9 +204,9 @@ module _ (link : Link) (p : List ℕ) (n : ℕ) where
   transport_is (Some Udp) header f = refl
   transport_is (Some _) header f = refl
 
-  after_is : (protocol : Option Protocol) (header : Transport) (f : Formula) → reads link (transport protocol header.tcp header.udp (following header.whole f)) p n ≡ after_reads protocol header (reads link f p n)
+  after_is : (protocol : Option Protocol) (header : Transport) (f : Formula) → reads link (transport protocol header.tcp header.udp (following header.no_later_fragment f)) p n ≡ after_reads protocol header (reads link f p n)
   after_is protocol header f =
-      transport_is protocol header (following header.whole f) ∙ ap (both (transport_reads protocol header)) (whole_is header.whole f)
+      transport_is protocol header (following header.no_later_fragment f) ∙ ap (both (transport_reads protocol header)) (whole_is header.no_later_fragment f)
 
   -- hosts or ports, by what is read of their sides
   abbrev two_headers : Option Protocol → MatchResult → MatchResult → MatchResult

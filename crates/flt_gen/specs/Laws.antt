@@ -36,12 +36,13 @@ frame_kind network.Ipv6 = frame.Ip6
 frame_kind network.Arp = frame.Arp
 frame_kind network.Rarp = frame.Rarp
 
--- raw IP, whose header has no EtherType, has neither ARP nor RARP
+-- by whether a link's header has an EtherType: raw IP, which has none, has neither ARP nor RARP
 abbrev pub carries_kind : Option ℕ → NetworkKind → Bool
 carries_kind None network.Arp = false
 carries_kind None network.Rarp = false
 carries_kind type_offset kind = true
 
+-- packets of the link may have a network header of this kind
 abbrev pub carries : Link → NetworkKind → Bool
 carries link kind = carries_kind (type_offset link) kind
 

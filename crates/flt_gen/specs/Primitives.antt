@@ -45,16 +45,19 @@ after t f = Both (Single t) f
 
 -- protocols
 
+-- IPv4 with this protocol
 abbrev pub ip_proto : Link → ℕ → Formula
 ip_proto link n = after (kind_test link Ip) (Single (has_ip_proto link n))
 
+-- IPv6 with this next header, past which extension headers aren't looked
 abbrev pub ip6_proto : Link → ℕ → Formula
 ip6_proto link n = after (kind_test link Ip6) (Single (has_ip6_proto link n))
 
--- the next header of IPv6 alone: extension headers aren't looked past
+-- IPv4 with this protocol, or IPv6 with this next header
 abbrev pub any_proto : Link → ℕ → Formula
 any_proto link n = Either (ip_proto link n) (ip6_proto link n)
 
+-- this EtherType
 abbrev pub ether_proto : Link → ℕ → Formula
 ether_proto link n = Single (has_type link n)
 
@@ -80,7 +83,7 @@ proto_formula link (Some _) n = Single (Outcome false)
 
 -- Ethernet addresses
 
--- the six bytes from a place on
+-- the six bytes from a place on are a MAC address
 abbrev pub mac_tests : ℕ → ℕ → List Elementary
 mac_tests at address =
     is_at at Word (address / 2 ^ 16 % 2 ^ 32) ∷ is_at (at + 4) HalfWord (address % 2 ^ 16) ∷ []
@@ -91,7 +94,7 @@ ether_host link direction address =
     after (kind_test link Ethernet)
     (sides direction (mac_tests 6 address) (mac_tests 0 address))
 
--- the lowest bit of an Ethernet address' first byte is set
+-- the destination is a group of stations: the lowest bit of its first byte is set
 abbrev pub is_group_address : Elementary
 is_group_address = compares_under (Some 1) (Fixed 0) Byte NotEqual 0
 
@@ -121,11 +124,12 @@ partial_mask mask = if mask == 2 ^ 32 - 1 then None else Some mask
 abbrev pub address_test : Option ℕ → ℕ → Offset → Elementary
 address_test mask address offset = compares_under mask offset Word Equal address
 
--- how far past the network header's start the addresses are
+-- how many bytes past the start of a header of a kind the source address stands
 abbrev pub source_offset : FrameKind → ℕ
 source_offset Ip = 12
 source_offset _ = 14
 
+-- how many bytes past the start of a header of a kind the destination address stands
 abbrev pub destination_offset : FrameKind → ℕ
 destination_offset Ip = 16
 destination_offset _ = 24
@@ -138,12 +142,13 @@ address_places link kind = record {
   destination = Fixed (network_offset link + destination_offset kind);
 }
 
+-- the addresses at these places are of a network, as its direction asks for them
 abbrev pub net_tests : Sides → NetTest → Formula
 net_tests at net =
     sides net.direction (address_test net.mask net.address at.source ∷ [])
     (address_test net.mask net.address at.destination ∷ [])
 
--- hosts: those of a network, or several, whose addresses are these numbers
+-- the addresses of a header are those of hosts: of a network, or several, which are these numbers
 abbrev pub hosts_sides : Link → FrameKind → Hosts → List ℕ → Formula
 hosts_sides link kind (hosts.Net net) numbers = net_tests (address_places link kind) net
 hosts_sides link kind (hosts.Several direction first) numbers =
@@ -154,6 +159,7 @@ abbrev pub hosts_of_kind : Link → FrameKind → Hosts → List ℕ → Formula
 hosts_of_kind link kind wanted numbers =
     after (kind_test link kind) (hosts_sides link kind wanted numbers)
 
+-- hosts in a header of IPv4, ARP or RARP
 abbrev pub any_hosts : Link → Hosts → List ℕ → Formula
 any_hosts link wanted numbers =
     Either (hosts_of_kind link Ip wanted numbers)
@@ -167,26 +173,30 @@ hosts_formula link (Some protocol.Rarp) wanted numbers = hosts_of_kind link Rarp
 hosts_formula link None wanted numbers = any_hosts link wanted numbers
 hosts_formula link (Some _) wanted numbers = Single (Outcome false)
 
+-- the hosts of a network, in the headers that a protocol, or none, allows
 abbrev pub net_formula : Link → Option Protocol → NetTest → Formula
 net_formula link protocol net = hosts_formula link protocol (hosts.Net net) []
 
+-- a test of this address, as far as the mask goes
 abbrev pub net_test : Direction → Option ℕ → ℕ → NetTest
 net_test direction mask address = record { direction = direction; mask = mask; address = address }
 
 -- IPv6 addresses and networks: four words
 
--- one of the four words of an IPv6 address, as far as the prefix goes
+-- one of the four words (0 to 3) of the IPv6 address at a place is that of an address, as far as
+-- the prefix goes
 abbrev pub ip6_test : Option ℕ → ℕ → ℕ → ℕ → Elementary
 ip6_test prefix address at word =
     address_test (with prefix (λ bits. partial_mask (first_bits 32 (bits - 32 * word))))
     (address / 2 ^ (96 - 32 * word) % 2 ^ 32) (Fixed (at + 4 * word))
 
--- all four words of an IPv6 address
+-- all four words of the IPv6 address at a place are those of an address, as far as the prefix goes
 abbrev pub ip6_tests : Option ℕ → ℕ → ℕ → List Elementary
 ip6_tests prefix address at =
     ip6_test prefix address at 0 ∷ ip6_test prefix address at 1 ∷ ip6_test prefix address at 2
     ∷ ip6_test prefix address at 3 ∷ []
 
+-- `host` and `net` of IPv6, whose addresses are at bytes 8 and 24 of the header
 abbrev pub ip6_formula : Link → Direction → Option ℕ → ℕ → Formula
 ip6_formula link direction prefix address =
     after (kind_test link Ip6) (sides direction (ip6_tests prefix address (network_offset link + 8))
@@ -203,11 +213,12 @@ abbrev pub port_between : ℕ → ℕ → Offset → List Elementary
 port_between a b offset =
     compares_at offset HalfWord AtLeast a ∷ compares_at offset HalfWord AtMost b ∷ []
 
+-- where both ports after a header stand
 abbrev pub port_places : Transport → Sides
 port_places header =
     record { width = HalfWord; source = header.source; destination = header.destination }
 
--- the ports that are looked for: where they are several, these numbers
+-- the ports after a header are those that are looked for: where they are several, these numbers
 abbrev pub port_sides : Ports → Direction → Transport → List ℕ → Formula
 port_sides (One n) direction header numbers =
     sides direction (port_is n header.source) (port_is n header.destination)
@@ -231,39 +242,40 @@ following (Some t) f = after t f
 -- the ports after a header, which is no later fragment's
 abbrev pub ports_after : Transport → PortTest → List ℕ → Formula
 ports_after header wanted numbers =
-    following header.whole (port_sides wanted.ports wanted.direction header numbers)
+    following header.no_later_fragment (port_sides wanted.ports wanted.direction header numbers)
 
--- the same after the protocol that is asked for
+-- the ports after a header that names the protocol that is asked for
 abbrev pub transport_ports : Transport → PortTest → List ℕ → Formula
 transport_ports header wanted numbers =
     transport wanted.protocol header.tcp header.udp (ports_after header wanted numbers)
 
--- after an IPv4 header, which has no fixed length; no later fragment has ports
+-- what follows an IPv4 header, which has no fixed length; no later fragment has ports
 abbrev pub ip_transport : Link → Transport
 ip_transport link = record {
   tcp = has_ip_proto link IPPROTO_TCP;
   udp = has_ip_proto link IPPROTO_UDP;
-  whole = Some (first_fragment link);
+  no_later_fragment = Some (first_fragment link);
   source = AfterHeader (network_offset link) (network_offset link);
   destination = AfterHeader (network_offset link) (network_offset link + 2);
 }
 
--- after an IPv6 header
+-- what follows an IPv6 header, which has 40 bytes
 abbrev pub ip6_transport : Link → Transport
 ip6_transport link = record {
   tcp = has_ip6_proto link IPPROTO_TCP;
   udp = has_ip6_proto link IPPROTO_UDP;
-  whole = None;
+  no_later_fragment = None;
   source = Fixed (network_offset link + 40);
   destination = Fixed (network_offset link + 42);
 }
 
--- of TCP and UDP; of SCTP no port is read
+-- `port` and `portrange`: the ports of TCP and UDP over IPv4 or IPv6; of SCTP no port is read
 abbrev pub port_formula : Link → PortTest → List ℕ → Formula
 port_formula link wanted numbers =
     Either (after (kind_test link Ip) (transport_ports (ip_transport link) wanted numbers))
     (after (kind_test link Ip6) (transport_ports (ip6_transport link) wanted numbers))
 
+-- a test of these ports
 abbrev pub port_test : Option Protocol → Direction → Ports → PortTest
 port_test protocol direction ports =
     record { protocol = protocol; direction = direction; ports = ports }
@@ -279,31 +291,36 @@ host_formula link protocol direction (value.Ip6 address prefix) =
 host_formula link protocol direction (value.Mac address) = ether_host link direction address
 host_formula link protocol direction _ = Single (Outcome false)
 
--- the network of IPv4 that a value means, if it means one
+-- the hosts of the network of IPv4 that a value means; no, if it means none
 abbrev pub ip4_formula : Link → Option Protocol → Direction → Option Ip4Net → Formula
 ip4_formula link protocol direction (Some net) =
     net_formula link protocol (net_test direction (partial_mask net.mask) net.address)
 ip4_formula link protocol direction None = Single (Outcome false)
 
+-- `net` with a network of IPv4 or IPv6
 abbrev pub net_value_formula : Link → Option Protocol → Direction → Value → Formula
 net_value_formula link protocol direction (value.Ip6 address prefix) =
     ip6_formula link direction prefix address
 net_value_formula link protocol direction v = ip4_formula link protocol direction (ip4_net v)
 
+-- `port` with a number
 abbrev pub port_value_formula : Link → Option Protocol → Direction → Value → Formula
 port_value_formula link protocol direction (value.Number n mask) =
     port_formula link (port_test protocol direction (One n)) []
 port_value_formula link protocol direction _ = Single (Outcome false)
 
+-- `portrange` with a range, whose ends may stand in either order
 abbrev pub range_value_formula : Link → Option Protocol → Direction → Value → Formula
 range_value_formula link protocol direction (value.Range a b) =
     port_formula link (port_test protocol direction (Between (min a b) (max a b))) []
 range_value_formula link protocol direction _ = Single (Outcome false)
 
+-- `proto` with a number
 abbrev pub proto_value_formula : Link → Option Protocol → Value → Formula
 proto_value_formula link protocol (value.Number n mask) = proto_formula link protocol n
 proto_value_formula link protocol _ = Single (Outcome false)
 
+-- a value with these qualifiers
 abbrev pub value_formula : Link → ValueType → Option Protocol → Direction → Value → Formula
 value_formula link Host protocol direction v = host_formula link protocol direction v
 value_formula link Net protocol direction v = net_value_formula link protocol direction v
@@ -311,6 +328,7 @@ value_formula link Port protocol direction v = port_value_formula link protocol 
 value_formula link PortRange protocol direction v = range_value_formula link protocol direction v
 value_formula link Proto protocol direction v = proto_value_formula link protocol v
 
+-- a value with all its qualifiers
 abbrev pub qualified_formula : Link → CompleteQualifiers → Value → Formula
 qualified_formula link q v = value_formula link q.value_type q.protocol q.direction v
 

@@ -48,14 +48,14 @@ pub enum Hosts {
     Several(Direction, u32),
 }
 
-/// The mask of a word, where not all of its bits count.
+/// The mask of a word of 32 bits, or `None` where all of its bits count.
 pub fn partial_mask(mask: u32) -> Option<u32>
     ensures { result ≡ partial_mask mask }
 {
     if mask == u32::MAX { None } else { Some(mask) }
 }
 
-/// The word at a place is an address, as far as the mask goes.
+/// The test that the word at a place is an address, as far as the mask goes.
 fn address_test(mask: Option<u32>, address: u32, offset: Offset) -> Elementary
     ensures { result ≡ address_test mask address offset }
 {
@@ -68,7 +68,8 @@ fn address_test(mask: Option<u32>, address: u32, offset: Offset) -> Elementary
     })
 }
 
-/// Where both addresses of a header of a kind stand: IPv4 (RFC 791), or ARP and RARP (RFC 826).
+/// Where both addresses of a header of a kind stand: IPv4 (RFC 791), at bytes 12 and 16, or ARP and
+/// RARP (RFC 826), at bytes 14 and 24.
 fn address_places(link: Link, kind: FrameKind) -> Sides
     ensures { result ≡ address_places link kind }
 {
@@ -89,11 +90,12 @@ fn prefix_mask(bits: u32) -> u32
     ensures { result ≡ first_bits 32 bits }
 {
     let others = 32u32.saturating_sub(bits);
+    // 2^32 - 1 without the other bits, whose sum is 2^others - 1.
     (0x1_0000_0000 - 2u64.pow(others)) as u32
 }
 
-/// One of the four words (0 to 3) of the IPv6 address that begins at a place is that of `address`,
-/// as far as the prefix goes.
+/// The test that one of the four words (0 to 3) of the IPv6 address that begins at a place is that
+/// of `address`, as far as the prefix goes; without a prefix all bits count.
 fn ip6_test(prefix: Option<u32>, address: u128, at: u32, word: u32) -> Elementary
     requires { (at ≤ longest_header + 24) × (word ≤ 3) }
     ensures { result ≡ ip6_test prefix address at word }
@@ -102,11 +104,13 @@ fn ip6_test(prefix: Option<u32>, address: u128, at: u32, word: u32) -> Elementar
         None => None,
         Some(bits) => partial_mask(prefix_mask(bits.saturating_sub(32 * word))),
     };
+    // Word 0 is the highest: 96 bits are below it.
     let part = address / 2u128.pow(96 - 32 * word) % 0x1_0000_0000;
     address_test(mask, part as u32, Offset::Fixed(at + 4 * word))
 }
 
-/// The tests of all four words.
+/// The tests of all four words of the IPv6 address that begins at a place, as `ip6_test` makes
+/// them.
 fn ip6_tests(prefix: Option<u32>, address: u128, at: u32) -> [Elementary; 4]
     requires { at ≤ longest_header + 24 }
     ensures { result ≡ ip6_tests prefix address at }
@@ -129,7 +133,8 @@ fn is_idle(test: Elementary) -> bool
     }
 }
 
-/// The last test of some words. One of which no bit counts only loads its word.
+/// The test of the last of some words. Where no bit of it counts, it only asks whether the word is
+/// captured: every number is 0 at least.
 fn last_test(test: Elementary) -> Elementary
     ensures { result ≡ last_test test }
 {
@@ -147,7 +152,7 @@ fn last_test(test: Elementary) -> Elementary
 impl<A: Allocator> Steps<A> {
     ghost use Rattle.flt_gen.specs.inside.Steps.{IsPut};
 
-    /// Adds the steps of hosts in a header of a kind.
+    /// Adds the steps of hosts in a header of a kind: IPv4, ARP or RARP.
     fn put_hosts_of_kind(
         &mut self,
         link: Link,
@@ -216,8 +221,8 @@ impl<A: Allocator> Steps<A> {
         }
     }
 
-    /// Adds the steps of the words of the source and of the destination, as a direction asks for
-    /// them.
+    /// Adds the steps of the tests of words of the source and of the destination, as a direction
+    /// asks for them.
     fn check_word_sides(
         &mut self,
         direction: Direction,

@@ -11,7 +11,7 @@ use flt_bpf::compute;
 use flt_words::Operator;
 use std::alloc::{AllocError, Allocator};
 
-/// The number that a node is, if it is one.
+/// The number that a node is, or `None` for other nodes.
 fn node_constant(node: Node) -> Option<u32>
     ensures { result ≡ node_constant node }
 {
@@ -21,7 +21,7 @@ fn node_constant(node: Node) -> Option<u32>
     }
 }
 
-/// The number that an operator makes of two, if both are there. There is none for a division by 0.
+/// The number that an operator makes of two, if both are there; `None` also for a division by 0.
 #[tactic(auto, using(crate::proofs::Numbers::computed))]
 fn applied_constant(operator: Operator, left: Option<u32>, right: Option<u32>) -> Option<u32>
     ensures { result ≡ applied_constant operator left right }
@@ -75,7 +75,8 @@ fn push_operator<A: Allocator>(
     }
 }
 
-/// Pushes one more node; arithmetic of numbers alone becomes one number.
+/// Pushes one more node of a tree, after its operands; arithmetic of numbers alone becomes one
+/// number.
 fn push_folded<A: Allocator>(nodes: &mut Stack<Node, A>, node: Node) -> Result<(), AllocError>
     ensures { OnOk result (nodes.new ≡ with_folded nodes.old node) }
 {
@@ -86,7 +87,8 @@ fn push_folded<A: Allocator>(nodes: &mut Stack<Node, A>, node: Node) -> Result<(
     }
 }
 
-/// The nodes of a tree in which arithmetic of numbers alone is one number.
+/// The nodes of a tree, in which arithmetic of numbers alone becomes one number. An error is a
+/// failed allocation.
 pub fn folded_nodes<A: Allocator>(alloc: A, nodes: &[Node]) -> Result<Vec<Node, A>, AllocError>
     ensures { IfOk result
         (λ folded. reverse folded.items ≡ fold with_folded [] nodes.now) }

@@ -17,8 +17,8 @@ use flt_words::{Join, Protocol, Side, ValueType};
 use std::alloc::{AllocError, Allocator};
 use std::marker::Model;
 
-/// How many are looked for together at most: each is put in its place among the others, which takes
-/// time by their number.
+/// How many hosts or ports are looked for together at most. Each is put in its place among the
+/// others, so that a group takes time by the square of its length.
 const MOST_TOGETHER: usize = 4096;
 
 /// Hosts or ports with the same protocol and direction: the address or number of the one that
@@ -83,7 +83,8 @@ fn same_direction(one: Direction, other: Direction) -> bool
     }
 }
 
-/// The address of an IPv4 host, or the number of a port. `None`: it can't be a member.
+/// The number by which a value is a member of a group: the address of an IPv4 host, or a port.
+/// `None` for a value that can't be one.
 fn member_number(value_type: ValueType, value: Value) -> Option<u32>
     ensures { result ≡ member_number value_type value }
 {
@@ -94,7 +95,7 @@ fn member_number(value_type: ValueType, value: Value) -> Option<u32>
     }
 }
 
-/// The index at which a number is put among others that ascend.
+/// The index at which a number is put among others, so that they still ascend.
 fn place_among(numbers: &[u32], number: u32) -> usize
     ensures inside { result ≤ length numbers.now }
     ensures place { insert numbers.now result number ≡ insert_ascending number numbers.now }
@@ -108,7 +109,7 @@ fn place_among(numbers: &[u32], number: u32) -> usize
 }
 
 impl<A: Allocator> Group<A> {
-    /// A group without members.
+    /// A group without members, which any value may join that can be a member at all.
     pub fn new(alloc: A) -> Self
         ensures { result ≡ no_group }
     {
@@ -121,7 +122,7 @@ impl<A: Allocator> Group<A> {
         }
     }
 
-    /// Leaves no member.
+    /// Takes all members out.
     pub fn clear(&mut self)
         ensures { self.new ≡ no_group }
     {
@@ -172,7 +173,7 @@ impl<A: Allocator> Group<A> {
         }
     }
 
-    /// Adds the steps that look for its members together. `steps` has their numbers.
+    /// Adds the steps that look for the group's members together. `steps` has their numbers.
     pub fn put(&self, link: Link, steps: &mut Steps<A>) -> Result<(), AllocError>
         requires { steps.old.numbers ≡ self.now.numbers }
         ensures { OnOk result (IsPut (group_formula link self.now) steps.old steps.new) }

@@ -71,7 +71,7 @@ pub fn emit_operands<A: Allocator>(code: &mut Code<A>, slot: u32) -> Result<(), 
     code.emit_plain(Operation::CopyToIndex, 0)
 }
 
-/// Emits A = the field A bytes past a place.
+/// Emits A = the field that stands as many bytes past the place `at` as A says.
 fn emit_base<A: Allocator>(code: &mut Code<A>, at: u32, width: Width) -> Result<(), AllocError>
     ensures { OnOk result (code.new ≡ emit_base at width code.old) }
 {
@@ -79,7 +79,7 @@ fn emit_base<A: Allocator>(code: &mut Code<A>, at: u32, width: Width) -> Result<
     code.emit_plain(Operation::CopyToIndex, 0)
 }
 
-/// Emits A = the field A bytes past the IPv4 header.
+/// Emits A = the field that stands as many bytes past the IPv4 header as A says.
 fn emit_transport<A: Allocator>(
     code: &mut Code<A>,
     link: Link,
@@ -94,7 +94,7 @@ fn emit_transport<A: Allocator>(
     code.emit_plain(Operation::LoadHeaderLength, start)
 }
 
-/// Emits the load of an accessor's field into A, which holds its index until then.
+/// Emits the load of an accessor's field into A, which holds the accessor's index until then.
 pub fn emit_accessor<A: Allocator>(
     code: &mut Code<A>,
     link: Link,
@@ -110,7 +110,8 @@ pub fn emit_accessor<A: Allocator>(
     }
 }
 
-/// Emits what must hold of a packet before a protocol's bytes are read. Returns where that begins.
+/// Emits the tests of what must hold of a packet before a protocol's bytes are read. Returns the
+/// place where they begin.
 fn emit_protocol_tests<A: Allocator>(
     code: &mut Code<A>,
     link: Link,
@@ -137,7 +138,7 @@ fn emit_protocol_tests<A: Allocator>(
 }
 
 /// Emits the tests of accessors' protocols, of which that of the last word comes first here.
-/// Returns where they begin.
+/// Returns the place where they begin; of no protocol that is `to.yes`.
 pub fn emit_accessor_tests<A: Allocator>(
     code: &mut Code<A>,
     link: Link,

@@ -50,18 +50,20 @@ impl PortTest {
     }
 }
 
-/// What follows a network header: the tests of TCP and UDP, the test that no later fragment
-/// is there, where there are fragments, and the places of both ports.
+/// What follows a network header: the tests of TCP and UDP, the test that the packet is no later
+/// fragment, which has no ports, and the places of both ports.
 #[derive(Clone, Copy)]
 pub struct Transport {
     pub tcp: Elementary,
     pub udp: Elementary,
-    pub whole: Option<Elementary>,
+    /// `None` for IPv6: a fragment has another next header there.
+    pub no_later_fragment: Option<Elementary>,
     pub source: Offset,
     pub destination: Offset,
 }
 
-/// An IPv4 header has no fixed length: the ports follow the place that it leads to.
+/// What follows an IPv4 header. That has no fixed length: the ports stand at the bytes 0 and 2 past
+/// where it ends.
 fn ip_transport(link: Link) -> Transport
     ensures { result ≡ ip_transport link }
 {
@@ -69,13 +71,13 @@ fn ip_transport(link: Link) -> Transport
     Transport {
         tcp: has_ip_proto(link, IPPROTO_TCP.into()),
         udp: has_ip_proto(link, IPPROTO_UDP.into()),
-        whole: Some(first_fragment(link)),
+        no_later_fragment: Some(first_fragment(link)),
         source: Offset::AfterHeader(start, start),
         destination: Offset::AfterHeader(start, start + 2),
     }
 }
 
-/// An IPv6 header has 40 bytes, and the ports follow it.
+/// What follows an IPv6 header, which has 40 bytes: the ports stand right after it.
 fn ip6_transport(link: Link) -> Transport
     ensures { result ≡ ip6_transport link }
 {
@@ -83,20 +85,20 @@ fn ip6_transport(link: Link) -> Transport
     Transport {
         tcp: has_ip6_proto(link, IPPROTO_TCP.into()),
         udp: has_ip6_proto(link, IPPROTO_UDP.into()),
-        whole: None,
+        no_later_fragment: None,
         source: Offset::Fixed(start + 40),
         destination: Offset::Fixed(start + 42),
     }
 }
 
-/// The port at a place is this one.
+/// The test that the port at a place is this one.
 fn port_is(port: u32, offset: Offset) -> [Elementary; 1]
     ensures { result ≡ port_is port offset }
 {
     [compares_at(offset, Width::HalfWord, Comparison::Equal, port)]
 }
 
-/// The port at a place is in a range.
+/// The tests that the port at a place is in a range: at least the first and at most the last.
 fn port_between(first: u32, last: u32, offset: Offset) -> [Elementary; 2]
     ensures { result ≡ port_between first last offset }
 {
@@ -109,7 +111,7 @@ fn port_between(first: u32, last: u32, offset: Offset) -> [Elementary; 2]
 impl<A: Allocator> Steps<A> {
     ghost use Rattle.flt_gen.specs.inside.Steps.{IsPut};
 
-    /// Adds the steps of a header's ports, on the sides that are asked for.
+    /// Adds the steps of the ports after a header, on the sides that are asked for.
     fn put_port_sides(&mut self, header: Transport, wanted: PortTest) -> Result<(), AllocError>
         ensures { OnOk result (IsPut
             (port_sides wanted.ports wanted.direction header self.old.numbers) self.old self.new) }
@@ -143,23 +145,24 @@ impl<A: Allocator> Steps<A> {
         }
     }
 
-    /// Adds the steps of the ports of a header that isn't a later fragment's.
+    /// Adds the steps of the ports after a header, and before them the test that the packet is no
+    /// later fragment, where there is one.
     fn put_ports_after(&mut self, header: Transport, wanted: PortTest) -> Result<(), AllocError>
         ensures { OnOk result
             (IsPut (ports_after header wanted self.old.numbers) self.old self.new) }
     {
-        match header.whole {
+        match header.no_later_fragment {
             None => self.put_port_sides(header, wanted),
-            Some(whole) => {
-                self.check(whole)?;
+            Some(no_later_fragment) => {
+                self.check(no_later_fragment)?;
                 self.put_port_sides(header, wanted)?;
                 self.join(Join::And)
             }
         }
     }
 
-    /// Adds the steps of the ports of a header whose protocol is the one that is asked for, or else
-    /// TCP or UDP.
+    /// Adds the steps of the ports after a header that names the protocol that is asked for, or, if
+    /// none is, TCP or UDP.
     fn put_transport_ports(&mut self, header: Transport, wanted: PortTest) -> Result<(), AllocError>
         ensures { OnOk result
             (IsPut (transport_ports header wanted self.old.numbers) self.old self.new) }

@@ -17,7 +17,8 @@ use flt_passes::best_of;
 use flt_short::{shortened, threaded};
 use std::alloc::{AllocError, Allocator};
 
-/// The code of the tree with these nodes.
+/// The code of the tree with these nodes, before it is optimised and laid out: its tests may skip
+/// any number of instructions. An error is a failed allocation.
 fn wide_code<A: Allocator + Clone>(
     alloc: A,
     nodes: &[Node],
@@ -54,7 +55,8 @@ pub fn generate<A: Allocator + Clone, B: Allocator>(
 {
     let nodes = folded_nodes(alloc.clone()?, expr.expr.nodes())?;
     let code = wide_code(alloc.clone()?, &nodes, link)?;
-    // If much of it goes, it said the same again and again: then the optimiser finds more.
+    // `best_of` goes by how much shorter the code has become: where much of it goes, it said the
+    // same again and again, and the optimiser finds more.
     let written = code.len();
     let short = shortened(alloc.clone()?, threaded(code))?;
     let best = best_of(alloc, short, written)?;

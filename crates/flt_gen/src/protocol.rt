@@ -17,7 +17,7 @@ use flt_emit::{
 use flt_words::{Cast, Comparison, Join, Protocol, Side};
 use std::alloc::{AllocError, Allocator};
 
-/// The six bytes from a place on are a MAC address of 48 bits.
+/// The tests that the six bytes from a place on are a MAC address of 48 bits: four bytes, and two.
 fn mac_tests(at: u32, address: u64) -> [Elementary; 2]
     requires { at ≤ 6 }
     ensures { result ≡ mac_tests at address }
@@ -30,7 +30,8 @@ fn mac_tests(at: u32, address: u64) -> [Elementary; 2]
     ]
 }
 
-/// The lowest bit of an Ethernet address' first byte is set.
+/// The test that the destination is a group of stations: the lowest bit of its first byte, with
+/// which a frame of Ethernet begins, is set.
 fn is_group_address() -> Elementary
     ensures { result ≡ is_group_address }
 {
@@ -63,7 +64,7 @@ impl<A: Allocator> Steps<A> {
         ])
     }
 
-    /// Adds the steps of either of both.
+    /// Adds the steps of IPv4 with this protocol, or else IPv6 with this next header.
     fn put_any_proto(&mut self, link: Link, protocol: u32) -> Result<(), AllocError>
         ensures { OnOk result (IsPut (any_proto link protocol) self.old self.new) }
     {
@@ -120,11 +121,13 @@ impl<A: Allocator> Steps<A> {
             (IsPut (ether_host link direction address) self.old self.new) }
     {
         self.check(kind_test(link, FrameKind::Ethernet))?;
+        // The source is at byte 6 of a frame, the destination at byte 0.
         self.check_sides(direction, &mac_tests(6, address), &mac_tests(0, address))?;
         self.join(Join::And)
     }
 
-    /// Adds the steps of `broadcast` or `multicast`, with the protocol before it.
+    /// Adds the steps of `broadcast` or `multicast`, with the protocol before it. One that doesn't
+    /// go with it is no: such expressions were refused before.
     pub fn put_cast(
         &mut self,
         link: Link,
@@ -135,6 +138,7 @@ impl<A: Allocator> Steps<A> {
     {
         match (cast, protocol) {
             (Cast::Broadcast, None | Some(Protocol::Ether)) => {
+                // All 48 bits of the address are set.
                 let destination = Direction::One(Side::Destination);
                 self.put_ether_host(link, destination, 0xffff_ffff_ffff)
             }
@@ -144,13 +148,13 @@ impl<A: Allocator> Steps<A> {
             (Cast::Multicast, Some(Protocol::Ip)) => {
                 // The first byte of the destination address: groups begin at 224.0.0.0.
                 let first = Offset::Fixed(network_offset(link) + 16);
-                let is_high = compares_at(first, Width::Byte, Comparison::AtLeast, 224);
-                self.check_all(&[kind_test(link, FrameKind::Ip), is_high])
+                let is_group = compares_at(first, Width::Byte, Comparison::AtLeast, 224);
+                self.check_all(&[kind_test(link, FrameKind::Ip), is_group])
             }
             (Cast::Multicast, Some(Protocol::Ip6)) => {
-                // The same of an IPv6 header: groups are ff00::/8.
-                let is_high = is_at(network_offset(link) + 24, Width::Byte, 255);
-                self.check_all(&[kind_test(link, FrameKind::Ip6), is_high])
+                // The first byte of an IPv6 destination address: groups are ff00::/8.
+                let is_group = is_at(network_offset(link) + 24, Width::Byte, 255);
+                self.check_all(&[kind_test(link, FrameKind::Ip6), is_group])
             }
             (_, Some(_)) => self.check(Elementary::Outcome(false)),
         }

@@ -20,14 +20,16 @@ use flt_words::{Comparison, Join, Side};
 use std::alloc::{AllocError, Allocator};
 use std::marker::Model;
 
-/// A test, or an operator between the two formulas before it.
+/// A step of a formula.
 #[derive(Clone, Copy)]
 pub enum Step {
+    /// A test.
     Check(Elementary),
     /// The field is one of the numbers that are looked for.
     AmongAll(MaskedField),
     /// The field is one of those numbers, but not this one, which was tested before.
     AmongOthers(MaskedField, u32),
+    /// `and` or `or`, between the two formulas before it.
     Joined(Join),
 }
 
@@ -49,7 +51,7 @@ impl<A: Allocator> Model for Steps<A> {
 impl<A: Allocator> Steps<A> {
     ghost use Rattle.flt_gen.specs.inside.Steps.{with_step, no_steps, IsPut, IsJoined};
 
-    /// No step is there yet, and these numbers are looked for.
+    /// Begins a formula: no step is there yet, and these numbers are looked for.
     pub fn begin(&mut self, numbers: &[u32]) -> Result<(), AllocError>
         ensures { OnOk result (self.new ≡ no_steps numbers.now) }
     {
@@ -65,7 +67,7 @@ impl<A: Allocator> Steps<A> {
         &self.numbers
     }
 
-    /// Takes the last step out.
+    /// Takes the last step out; `None` where there is none.
     pub fn pop(&mut self) -> Option<Step>
         ensures { MatchOption result ((self.old.steps ≡ []) × (self.new ≡ self.old))
             (λ step. self.old ≡ with_step step self.new) }
@@ -95,14 +97,14 @@ impl<A: Allocator> Steps<A> {
         self.steps.push(Step::AmongOthers(field, first))
     }
 
-    /// Adds a step: an operator between the last two formulas.
+    /// Adds a step: an operator between the last two formulas, whose steps are there.
     pub fn join(&mut self, join: Join) -> Result<(), AllocError>
         ensures { OnOk result (IsJoined join self.old self.new) }
     {
         self.steps.push(Step::Joined(join))
     }
 
-    /// Adds the steps of all of some tests.
+    /// Adds the steps of some tests that all have to hold; none always do.
     pub fn check_all(&mut self, tests: &[Elementary]) -> Result<(), AllocError>
         ensures { OnOk result (IsPut (all_of tests.now) self.old self.new) }
     {
@@ -170,7 +172,8 @@ impl<A: Allocator> Steps<A> {
 }
 
 impl<A: Allocator + Clone> Steps<A> {
-    /// Room for the steps of one formula after the other.
+    /// Room for the steps of one formula after the other. Nothing is stated of it, since `begin`
+    /// comes before each formula. An error is an allocator that cannot be cloned.
     pub fn new(alloc: A) -> Result<Self, AllocError> {
         Ok(Steps {
             numbers: Vec::new(alloc.clone()?),

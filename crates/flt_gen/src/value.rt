@@ -18,7 +18,8 @@ use std::alloc::{AllocError, Allocator};
 impl<A: Allocator> Steps<A> {
     ghost use Rattle.flt_gen.specs.inside.Steps.{IsPut};
 
-    /// Adds the steps of `host` with an address of any kind.
+    /// Adds the steps of `host` with an IPv4, IPv6 or MAC address. Another value is no, as in
+    /// `put_qualified`.
     fn put_host(
         &mut self,
         link: Link,
@@ -40,7 +41,8 @@ impl<A: Allocator> Steps<A> {
         }
     }
 
-    /// Adds the steps of `net` with a network of IPv4 or IPv6.
+    /// Adds the steps of `net` with a network of IPv4 or IPv6. Another value is no, as in
+    /// `put_qualified`.
     fn put_net(
         &mut self,
         link: Link,

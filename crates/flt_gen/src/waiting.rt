@@ -16,7 +16,7 @@ pub struct LeftTruth {
     pub to: Targets,
 }
 
-/// What waits for a number's code.
+/// What waits for a number whose code is emitted next.
 #[derive(Clone, Copy)]
 pub enum Waiting {
     /// An accessor: the number is its index.
@@ -35,7 +35,7 @@ pub enum Pending {
     Or,
 }
 
-/// What waits, the latest first.
+/// What waits. Contracts see it latest first: `pop` takes the latest.
 #[derive(Drop)]
 pub struct Stack<T, A: Allocator> {
     entries: Vec<T, A>,
@@ -50,6 +50,7 @@ impl<T, A: Allocator> Model for Stack<T, A> {
 }
 
 impl<T: Drop, A: Allocator> Stack<T, A> {
+    /// A stack without entries.
     pub fn new(alloc: A) -> Self
         ensures { result ≡ [] }
     {
@@ -58,6 +59,7 @@ impl<T: Drop, A: Allocator> Stack<T, A> {
         }
     }
 
+    /// Adds an entry, which is the latest then.
     pub fn push(&mut self, entry: T) -> Result<(), AllocError>
         ensures { OnOk result (self.new ≡ entry ∷ self.old) }
     {
@@ -65,6 +67,7 @@ impl<T: Drop, A: Allocator> Stack<T, A> {
         Ok(())
     }
 
+    /// Takes the latest entry out; `None` where there is none.
     pub fn pop(&mut self) -> Option<T>
         ensures { MatchOption result ((self.old ≡ []) × (self.new ≡ []))
             (λ entry. self.old ≡ entry ∷ self.new) }
@@ -72,14 +75,14 @@ impl<T: Drop, A: Allocator> Stack<T, A> {
         self.entries.pop()
     }
 
-    /// The entries, the earliest first.
+    /// The entries, lent, the earliest first.
     pub fn entries(&self) -> &[T]
         ensures { reverse result.now ≡ self.now }
     {
         &self.entries
     }
 
-    /// Leaves no entry.
+    /// Takes all entries out.
     pub fn clear(&mut self)
         ensures { self.new ≡ [] }
     {
@@ -131,7 +134,8 @@ fn leave_out<A: Allocator>(
     protocols.push(latest)
 }
 
-/// Puts the protocol of an accessor in front of those of later words, among which it is left out.
+/// Puts the protocol of an accessor in front of those of later words, among which it is left out:
+/// what its tests ask is then known there.
 pub fn add_accessor<A: Allocator>(
     protocols: &mut Stack<Protocol, A>,
     protocol: Protocol,

@@ -18,10 +18,10 @@ ghost use Rattle.flt_gen.specs.Primitives.{sized_formula};
 ghost use Rattle.flt_gen.specs.inside.Group.{no_group, larger_group, group_formula};
 ghost use Rattle.flt_gen.specs.inside.Steps.{meaning};
 ghost use Rattle.flt_gen.specs.inside.Walk.{start_walk, insns_of, emit_nodes, emit_both_nodes};
-ghost use Rattle.flt_gen.specs.inside.Walk.{emit_applied, emit_compared, emit_node, emit_join};
-ghost use Rattle.flt_gen.specs.inside.Walk.{emit_value, emit_truth_node, is_truth_node};
+ghost use Rattle.flt_gen.specs.inside.Walk.{emit_operator_with, emit_comparison_with, emit_node};
+ghost use Rattle.flt_gen.specs.inside.Walk.{emit_join, emit_value, emit_truth_node, is_truth_node};
 ghost use Rattle.flt_gen.specs.inside.Walk.{begin_right, flush_group, finish_formula, emit_parts};
-ghost use Rattle.flt_gen.specs.inside.Walk.{finish_truth, is_number_node, emit_loaded};
+ghost use Rattle.flt_gen.specs.inside.Walk.{finish_truth, is_number_node, emit_leaf};
 ghost use Rattle.flt_gen.specs.inside.Walk.{begin_operands, finish_number, finish_relation};
 
 use crate::group::Group;
@@ -39,7 +39,8 @@ use flt_words::{Comparison, Join, Operator, Protocol, Size};
 use std::alloc::{AllocError, Allocator};
 use std::marker::Model;
 
-/// What a program returns where it keeps a packet.
+/// What a program returns where it keeps a packet: the default snap length of tcpdump, in bytes, as
+/// its programs do.
 const KEEP: u32 = 262_144;
 
 /// How far the walk has come.
@@ -51,12 +52,15 @@ pub struct Walk<A: Allocator> {
     to: Targets,
     /// The word for the next left operand.
     slot: u32,
+    /// The left operands of `and` and `or`, which come later.
     truths: Stack<LeftTruth, A>,
+    /// What waits for the number that is next.
     numbers: Stack<Waiting, A>,
     /// The protocols of the relation's accessors, each once, that of the last word first.
     accessors: Stack<Protocol, A>,
     /// Hosts or ports that are tested in front of the code, and whose code isn't there yet.
     group: Group<A>,
+    /// Whether the last node was an `or`, whose right operand is next.
     pending: Pending,
 }
 
@@ -78,7 +82,8 @@ impl<A: Allocator> Model for Walk<A> {
 }
 
 impl<A: Allocator + Clone> Walk<A> {
-    /// The two returns: a packet is kept, or it isn't.
+    /// A walk that has seen no node: the code is the two returns, by which a packet is kept or
+    /// isn't.
     pub fn new(alloc: A) -> Result<Self, AllocError>
         ensures { IfOk result (λ walk. walk ≡ start_walk) }
     {
@@ -97,8 +102,8 @@ impl<A: Allocator + Clone> Walk<A> {
         })
     }
 
-    /// Emits the code of all nodes of a tree, from the last to the first. In `steps` each primitive is
-    /// put and emitted, one after the other.
+    /// Emits the code of all nodes of a tree, from the last to the first. `steps` is room in which
+    /// each primitive's steps are put before they are emitted.
     pub fn emit_nodes(
         &mut self,
         link: Link,
@@ -137,10 +142,10 @@ impl<A: Allocator + Clone> Walk<A> {
     {
         match (node, right) {
             (Node::Apply(operator), Node::Literal(n) | Node::Named(n)) => {
-                self.emit_applied(*operator, *n)
+                self.emit_operator_with(*operator, *n)
             }
             (Node::Compare(comparison), Node::Literal(n) | Node::Named(n)) => {
-                self.emit_compared(link, *comparison, *n, steps)?;
+                self.emit_comparison_with(link, *comparison, *n, steps)?;
                 Ok(true)
             }
             _ => Ok(false),
@@ -149,8 +154,8 @@ impl<A: Allocator + Clone> Walk<A> {
 
     /// Emits an operator with a constant as its right operand. `false`: its instruction may not
     /// have it, and nothing is emitted.
-    fn emit_applied(&mut self, operator: Operator, constant: u32) -> Result<bool, AllocError>
-        ensures emits { IfOk result (λ fits. emit_applied operator constant self.old
+    fn emit_operator_with(&mut self, operator: Operator, constant: u32) -> Result<bool, AllocError>
+        ensures emits { IfOk result (λ fits. emit_operator_with operator constant self.old
             ≡ (if fits then Some self.new else None)) }
         ensures same { IfOk result (λ fits. self.new ≡ (if fits then self.new else self.old)) }
     {
@@ -163,7 +168,7 @@ impl<A: Allocator + Clone> Walk<A> {
     }
 
     /// Emits a comparison with a constant as its right operand.
-    fn emit_compared(
+    fn emit_comparison_with(
         &mut self,
         link: Link,
         comparison: Comparison,
@@ -171,14 +176,16 @@ impl<A: Allocator + Clone> Walk<A> {
         steps: &mut Steps<A>,
     ) -> Result<(), AllocError>
         ensures { OnOk result
-            (emit_compared comparison constant (flush_group link self.old) ≡ Some self.new) }
+            (emit_comparison_with comparison constant (flush_group link self.old) ≡ Some self.new) }
     {
         self.flush_group(link, steps)?;
         self.code
             .emit_comparison(comparison, Operand::Constant, constant, self.to)
     }
 
-    /// Emits one more node, the one before those that were emitted.
+    /// Emits one more node, the one before those that were emitted. A group that waits is emitted
+    /// first, unless the node is a value or an `or`, which may go on with it, or arithmetic, of
+    /// which the comparison did so.
     fn emit_node(&mut self, link: Link, node: &Node, steps: &mut Steps<A>) -> Result<(), AllocError>
         ensures { OnOk result (self.new ≡ emit_node link self.old node.now) }
     {
@@ -200,7 +207,7 @@ impl<A: Allocator + Clone> Walk<A> {
         }
     }
 
-    /// Reads `and` or `or`: it has no code of its own, but targets for its operands.
+    /// Emits `and` or `or`, which has no code of its own: it sets what its operands go on to.
     fn emit_join(&mut self, link: Link, join: Join, steps: &mut Steps<A>) -> Result<(), AllocError>
         ensures { OnOk result (self.new ≡ emit_join link join self.old) }
     {
@@ -301,7 +308,8 @@ impl<A: Allocator + Clone> Walk<A> {
         Ok(())
     }
 
-    /// If an `or` was the last node, its right operand is on its own: the left one waits for it.
+    /// If an `or` was the last node, its right operand isn't looked for together with the left one,
+    /// which waits then. Else nothing changes.
     fn begin_right(&mut self) -> Result<(), AllocError>
         ensures { OnOk result (self.new ≡ begin_right self.old.pending self.old) }
     {
@@ -381,14 +389,14 @@ impl<A: Allocator + Clone> Walk<A> {
         self.to = Targets { yes, no };
     }
 
-    /// Emits a node of arithmetic.
+    /// Emits a node of arithmetic, whose value is in A then.
     fn emit_number_node(&mut self, link: Link, node: &Node) -> Result<(), AllocError>
         requires { is_number_node node.now ≡ true }
         ensures { OnOk result (self.new ≡ emit_node link self.old node.now) }
     {
         match node {
-            Node::Literal(n) | Node::Named(n) => self.emit_loaded(link, Source::Immediate, *n),
-            Node::Len => self.emit_loaded(link, Source::Length, 0),
+            Node::Literal(n) | Node::Named(n) => self.emit_leaf(link, Source::Immediate, *n),
+            Node::Len => self.emit_leaf(link, Source::Length, 0),
             Node::Load(protocol, size) => {
                 emit_accessor(&mut self.code, link, *protocol, width_of(*size))?;
                 self.numbers.push(Waiting::Index(*protocol))
@@ -403,17 +411,19 @@ impl<A: Allocator + Clone> Walk<A> {
         }
     }
 
-    /// Emits the load of a number, or of the length of the packet.
-    fn emit_loaded(&mut self, link: Link, source: Source, number: u32) -> Result<(), AllocError>
-        ensures { OnOk result (self.new ≡ emit_loaded link source number self.old) }
+    /// Emits the load of a number, or of the length of the packet, into A.
+    fn emit_leaf(&mut self, link: Link, source: Source, number: u32) -> Result<(), AllocError>
+        ensures { OnOk result (self.new ≡ emit_leaf link source number self.old) }
     {
         self.code
             .emit_plain(Operation::Load(Register::Accumulator, source), number)?;
         self.finish_number(link)
     }
 
-    /// Emits what is after two operands: the right one is next, and the left one waits, which goes
-    /// into the word `slot`. An error is a word that no number names.
+    /// Emits what stands between two operands and the code that takes them, which finds the left
+    /// one in A and the right one in X. The right one is next, and the left one waits, which goes
+    /// into the word `slot`. An error is a failed allocation, or a word that no number of 32 bits
+    /// names.
     fn begin_operands(&mut self, slot: u32) -> Result<(), AllocError>
         ensures { OnOk result (self.new ≡ begin_operands slot self.old.code self.old) }
     {

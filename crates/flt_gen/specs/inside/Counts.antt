@@ -3,6 +3,7 @@ use Rattle.std.specs.Prelude.{ℕ, ◌+◌, max, length}
 use Rattle.flt_ast.specs.Counts.{number_words, number_size}
 use Rattle.flt_emit.specs.Formula.{Formula, Single, Compare, Both, Either, Except, Among}
 
+-- how many words of memory the code of a formula needs
 abbrev pub words : Formula → ℕ
 words (Single t) = 0
 words (Compare c l r) = max (number_words l) (1 + number_words r)
@@ -11,6 +12,7 @@ words (Either a b) = max (words a) (words b)
 words (Except a) = words a
 words (Among f vs) = 0
 
+-- how many nodes the arithmetic of a formula has
 abbrev pub nodes : Formula → ℕ
 nodes (Single t) = 0
 nodes (Compare c l r) = number_size l + number_size r
@@ -19,6 +21,7 @@ nodes (Either a b) = nodes a + nodes b
 nodes (Except a) = nodes a
 nodes (Among f vs) = 0
 
+-- how many tests the code of a formula has, apart from arithmetic
 abbrev pub tests : Formula → ℕ
 tests (Single t) = 1
 tests (Compare c l r) = 1

@@ -56,6 +56,7 @@ protocols_of (load protocol size i) rest = with_accessor protocol (protocols_of 
 protocols_of (negated a) rest = protocols_of a rest
 protocols_of (applied operator l r) rest = protocols_of l (protocols_of r rest)
 
+-- a comparison of two numbers, after the tests of its accessors' protocols
 abbrev pub relation_formula : Link → Comparison → NumberTree → NumberTree → Formula
 relation_formula link c l r =
     checked_formula link (protocols_of l (protocols_of r [])) (Compare c l r)
@@ -72,7 +73,7 @@ abbrev pub is_idle : Elementary → Bool
 is_idle (Outcome b) = false
 is_idle (Field t) = is_empty t.mask && t.value == 0
 
--- the test that is yes wherever the word is captured
+-- the test that is yes wherever the word is captured, and else rejects
 abbrev pub capture_test : Elementary → Elementary
 capture_test (Outcome b) = Outcome b
 capture_test (Field t) = Field (record t { mask = None; comparison = AtLeast; value = 0 })
@@ -81,37 +82,38 @@ capture_test (Field t) = Field (record t { mask = None; comparison = AtLeast; va
 abbrev pub last_test : Elementary → Elementary
 last_test t = if is_idle t then capture_test t else t
 
--- of tests of words, each after the one before: where a word isn't captured, no later one is. So
--- an idle test in front of another one is left out
+-- the tests of words that decide, of those that stand one after the other. Where a word isn't
+-- captured, no later one is: so an idle test in front of another one is left out
 abbrev pub needed_tests : List Elementary → List Elementary
 needed_tests [] = []
 needed_tests (t ∷ []) = last_test t ∷ []
 needed_tests (t ∷ u ∷ ts) =
     if is_idle t then needed_tests (u ∷ ts) else t ∷ needed_tests (u ∷ ts)
 
--- the same of the words of both sides, as a direction asks for them
+-- the tests that decide of the words of both sides, as a direction asks for them
 abbrev pub needed_sides : Direction → List Elementary → List Elementary → Formula
 needed_sides direction source destination =
     sides direction (needed_tests source) (needed_tests destination)
 
--- `host` and `net` of IPv6
+-- `host` and `net` of IPv6, without the tests that decide nothing
 abbrev pub ip6_needed : Link → Direction → Option ℕ → ℕ → Formula
 ip6_needed link direction prefix address =
     after (kind_test link kind.Ip6)
     (needed_sides direction (ip6_tests prefix address (network_offset link + 8))
     (ip6_tests prefix address (network_offset link + 24)))
 
--- `net` with a network of IPv4 or IPv6
+-- `net` with a network of IPv4 or IPv6, without the tests that decide nothing
 abbrev pub net_needed : Link → Option Protocol → Direction → Value → Formula
 net_needed link protocol direction (value.Ip6 address prefix) =
     ip6_needed link direction prefix address
 net_needed link protocol direction v = net_value_formula link protocol direction v
 
+-- a value with these qualifiers, without the tests that decide nothing
 abbrev pub value_needed : Link → ValueType → Option Protocol → Direction → Value → Formula
 value_needed link Net protocol direction v = net_needed link protocol direction v
 value_needed link value_type protocol direction v =
     value_formula link value_type protocol direction v
 
--- a value with its qualifiers
+-- a value with all its qualifiers, without the tests that decide nothing
 abbrev pub qualified_needed : Link → CompleteQualifiers → Value → Formula
 qualified_needed link q v = value_needed link q.value_type q.protocol q.direction v

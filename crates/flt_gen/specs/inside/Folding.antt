@@ -8,32 +8,38 @@ use Rattle.flt_emit.specs.Elementary.{with}
 use Rattle.flt_emit.specs.Numbers.{result_of}
 use Rattle.flt_emit.specs.inside.Code.{constant}
 
--- the number that is made of one or two, if there are such
+-- the negative of a number, if there is one
 abbrev pub negated_constant : Option ℕ → Option ℕ
 negated_constant a = with a (λ x. Some ((2 ^ 32 - x) % 2 ^ 32))
 
+-- what an operator makes of two numbers, if both are there; none also for a division by 0
 abbrev pub applied_constant : Operator → Option ℕ → Option ℕ → Option ℕ
 applied_constant operator a b = with b (λ y. with a (λ x. result_of operator x y))
 
 -- ---- trees
 
+-- this constant as a tree, or else the other tree
 abbrev pub number_or : Option ℕ → NumberTree → NumberTree
 number_or (Some k) a = literal k
 number_or None a = a
 
+-- a negation, or the number that it gives where its operand is one
 abbrev pub negated_number : NumberTree → NumberTree
 negated_number a = number_or (negated_constant (constant a)) (negated a)
 
+-- an operator between two numbers, or the number that it gives where both are constants
 abbrev pub applied_number : Operator → NumberTree → NumberTree → NumberTree
 applied_number operator a b =
     number_or (applied_constant operator (constant a) (constant b)) (applied operator a b)
 
+-- arithmetic in which each part of numbers alone is one number
 abbrev pub folded_number : NumberTree → NumberTree
 folded_number (load protocol size a) = load protocol size (folded_number a)
 folded_number (negated a) = negated_number (folded_number a)
 folded_number (applied operator a b) = applied_number operator (folded_number a) (folded_number b)
 folded_number a = a
 
+-- a truth in whose arithmetic each part of numbers alone is one number
 abbrev pub folded_truth : TruthTree → TruthTree
 folded_truth (compared c a b) = compared c (folded_number a) (folded_number b)
 folded_truth (denied a) = denied (folded_truth a)
@@ -47,20 +53,23 @@ folded_expression (truth a) = truth (folded_truth a)
 
 -- ---- the same of nodes, of which the latest comes first
 
--- the number that a node is
+-- the number that a node is, or none for other nodes
 abbrev pub node_constant : Node → Option ℕ
 node_constant (node.Literal k) = Some k
 node_constant (node.Named k) = Some k
 node_constant _ = None
 
+-- the number that the latest node is, if it is one
 abbrev pub latest_constant : List Node → Option ℕ
 latest_constant [] = None
 latest_constant (n ∷ ns) = node_constant n
 
+-- the nodes before the latest one
 abbrev pub earlier : List Node → List Node
 earlier [] = []
 earlier (n ∷ ns) = ns
 
+-- this constant as a node after the nodes `before`, or else the other nodes
 abbrev pub node_or : Option ℕ → List Node → List Node → List Node
 node_or (Some k) before nodes = node.Literal k ∷ before
 node_or None before nodes = nodes
@@ -75,7 +84,7 @@ with_operator operator ns =
     node_or (applied_constant operator (latest_constant (earlier ns)) (latest_constant ns))
     (earlier (earlier ns)) (node.Apply operator ∷ ns)
 
--- one more node
+-- one more node, after its operands; arithmetic of numbers alone becomes one number
 abbrev pub with_folded : List Node → Node → List Node
 with_folded ns node.Negate = with_negation ns
 with_folded ns (node.Apply operator) = with_operator operator ns

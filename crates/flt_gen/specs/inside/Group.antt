@@ -40,11 +40,12 @@ no_group = record {
   numbers = [];
 }
 
--- a number among others that ascend
+-- a number is put among others that ascend
 abbrev pub insert_ascending : ℕ → List ℕ → List ℕ
 insert_ascending a [] = a ∷ []
 insert_ascending a (b ∷ bs) = if nat_lt b a then b ∷ insert_ascending a bs else a ∷ b ∷ bs
 
+-- a group with one more member in front, which has these qualifiers and this number
 abbrev pub with_member : CompleteQualifiers → ℕ → Group → Group
 with_member q a group = record {
   value_type = q.value_type;
@@ -68,7 +69,7 @@ same_protocol (Some Tcp) (Some Tcp) = true
 same_protocol (Some Udp) (Some Udp) = true
 same_protocol _ _ = false
 
--- those that ask for both sides at once are never the same
+-- both have the same direction; `src and dst` counts as never the same
 abbrev pub same_direction : Direction → Direction → Bool
 same_direction (direction.One Source) (direction.One Source) = true
 same_direction (direction.One Destination) (direction.One Destination) = true
@@ -93,6 +94,7 @@ member_number Host (value.Dotted dotted mask) = Some dotted.address
 member_number Port (value.Number n mask) = Some n
 member_number _ _ = None
 
+-- a group with one more member, if it has a number and goes with the others
 abbrev pub group_and : CompleteQualifiers → Group → Option ℕ → Option Group
 group_and q group None = None
 group_and q group (Some a) =
@@ -102,13 +104,14 @@ group_and q group (Some a) =
 abbrev pub larger_group : CompleteQualifiers → Value → Group → Option Group
 larger_group q v group = group_and q group (member_number q.value_type v)
 
--- one member, and several
+-- the host or port with this number
 abbrev pub one_formula : Link → ValueType → Option Protocol → Direction → ℕ → Formula
 one_formula link Host protocol direction n = net_formula link protocol (net_test direction None n)
 one_formula link Port protocol direction n =
     port_formula link (port_test protocol direction (One n)) []
 one_formula link _ protocol direction n = Single (Outcome false)
 
+-- one of the hosts or ports with these numbers
 abbrev pub several_formula : Link → ValueType → Option Protocol → Direction → ℕ → List ℕ → Formula
 several_formula link Host protocol direction first numbers =
     hosts_formula link protocol (hosts.Several direction first) numbers
@@ -116,16 +119,18 @@ several_formula link Port protocol direction first numbers =
     port_formula link (port_test protocol direction (Several first)) numbers
 several_formula link _ protocol direction first numbers = Single (Outcome false)
 
+-- one of the members, by whether there are several
 abbrev pub formula_by : Link → Group → List ℕ → Formula
 formula_by link group (n ∷ []) =
     one_formula link group.value_type group.protocol group.direction group.first
 formula_by link group _ =
     several_formula link group.value_type group.protocol group.direction group.first group.numbers
 
--- one of the members
+-- a packet has one of the hosts or ports of the group
 abbrev pub group_formula : Link → Group → Formula
 group_formula link group = formula_by link group group.numbers
 
+-- either of two formulas, or the first alone where there are no members
 abbrev pub or_any : Formula → Formula → List ℕ → Formula
 or_any f g [] = f
 or_any f g (a ∷ others) = Either f g
@@ -134,10 +139,12 @@ or_any f g (a ∷ others) = Either f g
 abbrev pub or_group : Link → Formula → Group → Formula
 or_group link f group = or_any f (group_formula link group) group.numbers
 
+-- the group with a truth as one more member, if it can be one
 abbrev pub truth_member : TruthTree → Group → Option Group
 truth_member (qualified q v) group = larger_group q v group
 truth_member _ group = None
 
+-- the formula by a group, if there is one, or else another
 abbrev pub choice : Option Group → (Group → Formula) → Formula → Formula
 choice None f g = g
 choice (Some group) f g = f group

@@ -12,9 +12,11 @@ pub record Steps : Type 0 where
   pub numbers : List ℕ
   pub steps : List Step
 
+-- no step yet, and these numbers are looked for
 abbrev pub no_steps : List ℕ → Steps
 no_steps numbers = record { numbers = numbers; steps = [] }
 
+-- one more step
 abbrev pub with_step : Step → Steps → Steps
 with_step step s = record s { steps = step ∷ s.steps }
 
@@ -30,6 +32,7 @@ part_of numbers (AmongAll f) = Leaf (Among f numbers)
 part_of numbers (AmongOthers f first) = Leaf (Among f (remaining first numbers))
 part_of numbers (Joined join) = Joint join
 
+-- what steps are where these numbers are looked for, the latest first
 abbrev pub parts_of : List ℕ → List Step → List Part
 parts_of numbers [] = []
 parts_of numbers (s ∷ ss) = part_of numbers s ∷ parts_of numbers ss
@@ -49,6 +52,7 @@ with_parts (Both a b) ps = Joint And ∷ with_parts b (with_parts a ps)
 with_parts (Either a b) ps = Joint Or ∷ with_parts b (with_parts a ps)
 with_parts f ps = Leaf f ∷ ps
 
+-- what steps mean after those of one more formula
 abbrev pub with_formula : Formula → Meaning → Meaning
 with_formula f m = record m { parts = with_parts f m.parts }
 

@@ -46,6 +46,7 @@ pub record Walk : Type 0 where
   pub group : Group
   pub pending : Pending
 
+-- the places where a test goes on: if it holds, and if it doesn't
 abbrev pub targets : ℕ → ℕ → Targets
 targets hit miss = record { yes = hit; no = miss }
 
@@ -60,11 +61,12 @@ abbrev pub next_targets : List LeftTruth → ℕ → Targets
 next_targets [] entry = targets entry entry
 next_targets (t ∷ ts) entry = left_targets t.join t.to entry
 
+-- the left operands that still wait after the latest one
 abbrev pub others : List LeftTruth → List LeftTruth
 others [] = []
 others (t ∷ ts) = ts
 
--- a truth's code is emitted
+-- a truth's code is emitted: the left operand that waits is next
 abbrev pub finish_truth : Block → Walk → Walk
 finish_truth e w = record w {
   code = e.code;
@@ -127,13 +129,14 @@ begin_right next.Or w = record w {
   pending = next.Nothing;
 }
 
+-- the code of the group is emitted, if it has members, as the right operand of an or
 abbrev pub flush_members : Link → Walk → List ℕ → Walk
 flush_members link w [] = record w { group = no_group }
 flush_members link w (a ∷ others) =
     let e = emit_formula link (group_formula link w.group) w.to.yes w.to.no w.code in
     record w { code = e.code; to = targets w.to.yes e.entry; group = no_group }
 
--- the code of the group that waits is emitted
+-- the code of the group that waits is emitted, if it has members, and the group is empty then
 abbrev pub flush_group : Link → Walk → Walk
 flush_group link w = flush_members link (begin_right w.pending w) w.group.numbers
 
@@ -148,7 +151,7 @@ abbrev pub emit_value : Link → CompleteQualifiers → Value → Walk → Optio
 emit_value link q v w None = finish_formula link (qualified_needed link q v) (flush_group link w)
 emit_value link q v w (Some group) = finish_group link w group w.pending
 
--- an operator between two truths
+-- `and` or `or`: it sets what its operands go on to
 abbrev pub emit_join : Link → Join → Walk → Walk
 emit_join link Or w = record (begin_right w.pending w) { pending = next.Or }
 emit_join link And w =
@@ -164,18 +167,18 @@ emit_truth_node link w (node.Compare comparison) =
 emit_truth_node link w node.Not = record w { to = targets w.to.no w.to.yes }
 emit_truth_node link w _ = finish_truth (block w.code w.to.no) w
 
--- a number, or the length of the packet
-abbrev pub emit_loaded : Link → Source → ℕ → Walk → Walk
-emit_loaded link source n w =
+-- a number, or the length of the packet, goes into A
+abbrev pub emit_leaf : Link → Source → ℕ → Walk → Walk
+emit_leaf link source n w =
     finish_number link w.numbers (with_insns (plain (Load Accumulator source) n ∷ w.code) w)
 
--- one more node
+-- one more node, the one before those that were emitted
 abbrev pub emit_node : Link → Walk → Node → Walk
 emit_node link w (node.Join join) = emit_join link join w
 emit_node link w (node.Qualified q v) = emit_value link q v w (larger_group q v w.group)
-emit_node link w (node.Literal n) = emit_loaded link Immediate n w
-emit_node link w (node.Named n) = emit_loaded link Immediate n w
-emit_node link w node.Len = emit_loaded link Length 0 w
+emit_node link w (node.Literal n) = emit_leaf link Immediate n w
+emit_node link w (node.Named n) = emit_leaf link Immediate n w
+emit_node link w node.Len = emit_leaf link Length 0 w
 emit_node link w (node.Load protocol size) = record w {
   code = emit_accessor link protocol (width_of size) w.code;
   numbers = Index protocol ∷ w.numbers;
@@ -195,27 +198,28 @@ emit_node link w (node.Compare comparison) =
     emit_truth_node link (flush_group link w) (node.Compare comparison)
 emit_node link w node.Not = emit_truth_node link (flush_group link w) node.Not
 
--- an operator or a comparison, and its right operand, a constant that its instruction may have: the
--- left operand is next
-abbrev pub emit_applied : Operator → ℕ → Walk → Option Walk
-emit_applied operator k w =
+-- an operator with a constant as its right operand, and the left one is next; none where its
+-- instruction may not have this constant
+abbrev pub emit_operator_with : Operator → ℕ → Walk → Option Walk
+emit_operator_with operator k w =
     if takes_constant operator k
     then Some (with_insns (plain (computation operator Constant) k ∷ w.code) w)
     else None
 
 -- a comparison with a constant as its right operand
-abbrev pub emit_compared : Comparison → ℕ → Walk → Option Walk
-emit_compared comparison k w =
+abbrev pub emit_comparison_with : Comparison → ℕ → Walk → Option Walk
+emit_comparison_with comparison k w =
     Some (with_insns (emit_comparison comparison Constant k w.to.yes w.to.no w.code) w)
 
--- such a node and the one before it, or none where they aren't emitted at once
+-- an operator or a comparison and its right operand, a constant, at once; none where the nodes are
+-- others, or the instruction may not have this constant
 abbrev pub emit_both_nodes : Link → Walk → Node → Node → Option Walk
-emit_both_nodes link w (node.Apply operator) (node.Literal k) = emit_applied operator k w
-emit_both_nodes link w (node.Apply operator) (node.Named k) = emit_applied operator k w
+emit_both_nodes link w (node.Apply operator) (node.Literal k) = emit_operator_with operator k w
+emit_both_nodes link w (node.Apply operator) (node.Named k) = emit_operator_with operator k w
 emit_both_nodes link w (node.Compare comparison) (node.Literal k) =
-    emit_compared comparison k (flush_group link w)
+    emit_comparison_with comparison k (flush_group link w)
 emit_both_nodes link w (node.Compare comparison) (node.Named k) =
-    emit_compared comparison k (flush_group link w)
+    emit_comparison_with comparison k (flush_group link w)
 emit_both_nodes link w _ _ = None
 
 -- a node of arithmetic
@@ -252,6 +256,7 @@ start_walk = record {
   pending = next.Nothing;
 }
 
+-- this walk, if there is one, or else the other
 abbrev pub or_walk : Option Walk → Walk → Walk
 or_walk (Some v) w = v
 or_walk None w = w
