@@ -1,5 +1,8 @@
 //! The pass `Bits`: one instruction, or two, for several that do the same. The rules are those of
 //! `flt_short`, which has them for code; here they find what other passes left side by side.
+//! Instructions are written as assemblers write them: `ld #n` puts n into A, `ld [j]` loads from
+//! byte j, `ldxb 4*([j]&0xf)` puts the length of the IPv4 header at byte j into X, `tax` copies A
+//! to X, `jset k` tests whether A and k have a bit in common.
 
 use crate::graph::Node;
 use crate::live::{Live, live_at, lives_of_graph};
@@ -7,7 +10,7 @@ use crate::order::order_nodes;
 use flt_bpf::operation::{AluOperation, Operand, Operation, Register, Source, Test, Width};
 use std::alloc::{AllocError, Allocator};
 
-/// The node after one that isn't a test.
+/// The node where a run goes on after one that isn't a test, if there is one.
 fn next_node(nodes: &[Node], node: Node) -> Option<Node> {
     nodes.get(node.yes).copied()
 }
@@ -54,7 +57,7 @@ fn copies_to_index(node: Node) -> bool {
     matches!(node.operation, Operation::CopyToIndex)
 }
 
-/// How wide a load at X and k is, if a node is one.
+/// How many bytes a load at X + k takes. `None`: the node is no such load.
 fn indirect_width(node: Node) -> Option<Width> {
     match node.operation {
         Operation::LoadIndirect(width) => Some(width),
@@ -62,7 +65,8 @@ fn indirect_width(node: Node) -> Option<Width> {
     }
 }
 
-/// `jset k` for `and k; jeq 0`, where A isn't read after it.
+/// `jset k`, with the targets swapped, for `and k; jeq 0`, of which `mask` is the first. `None`:
+/// the nodes aren't these, or A is read after them.
 fn bit_test(nodes: &[Node], lives: &[Live], mask: Node) -> Option<Node> {
     let test = next_node(nodes, mask)?;
     let is_read = live_at(lives, test.yes).accumulator || live_at(lives, test.no).accumulator;
@@ -77,7 +81,8 @@ fn bit_test(nodes: &[Node], lives: &[Live], mask: Node) -> Option<Node> {
     })
 }
 
-/// `ld [n + k]` for `ld #n; tax; ld [x + k]`, where X isn't read after it.
+/// `ld [n + k]` for `ld #n; tax; ld [x + k]`, of which `number` is the first. `None`: the nodes
+/// aren't these, or X is read after them. The sum is modulo 2^32, as the machine's.
 fn fixed_load(nodes: &[Node], lives: &[Live], number: Node) -> Option<Node> {
     let copy = next_node(nodes, number)?;
     let load = next_node(nodes, copy)?;
@@ -91,8 +96,9 @@ fn fixed_load(nodes: &[Node], lives: &[Live], number: Node) -> Option<Node> {
     })
 }
 
-/// `ldxb 4*([j]&0xf); ld [x + n + k]` for `ld #n; ldxb 4*([j]&0xf); add x; tax; ld [x + k]`, where
-/// X isn't read after it.
+/// `ldxb 4*([j]&0xf); ld [x + n + k]` for `ld #n; ldxb 4*([j]&0xf); add x; tax; ld [x + k]`, of
+/// which `number` is the first. `None`: the nodes aren't these, or X is read after them. The sum is
+/// modulo 2^32, as the machine's.
 fn header_load(nodes: &[Node], lives: &[Live], number: Node) -> Option<(Node, Node)> {
     let length = next_node(nodes, number)?;
     let sum = next_node(nodes, length)?;
@@ -113,8 +119,8 @@ fn header_load(nodes: &[Node], lives: &[Live], number: Node) -> Option<(Node, No
     Some((length, Node { k, ..load }))
 }
 
-/// The node that does what `node` and those after it do, if there is one. Where it takes two, the
-/// second is added at the end of the graph.
+/// The node that does what `node` and those after it do. `None`: no rule has one. Where it takes
+/// two nodes, the second one is added at the end of the list.
 fn joined_node<A: Allocator>(
     nodes: &mut Vec<Node, A>,
     lives: &[Live],
@@ -141,7 +147,8 @@ fn joined_node<A: Allocator>(
     }))
 }
 
-/// The graph with one node, or two, for several. Its edges lead to later nodes.
+/// The graph with one node, or two, for several that do the same. All edges of both graphs lead to
+/// later nodes.
 pub(crate) fn join_instructions<A: Allocator + Clone>(
     alloc: A,
     mut nodes: Vec<Node, A>,

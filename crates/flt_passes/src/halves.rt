@@ -1,18 +1,19 @@
-//! Ranges of numbers that are searched by halves: tests "at least" that end in tests "equal".
+//! A search by halves for the range in which A is: tests "at least", which end in tests "equal".
 
 use crate::graph::Node;
 use crate::ranges::{Range, count_single_numbers};
 use flt_bpf::operation::{Operand, Operation, Test};
 use std::alloc::{AllocError, Allocator};
 
-/// What a difference of one between the weights of two halves costs. Only its ratio to `WIDE_COST`
-/// counts.
+/// What a difference of one between the weights of two halves costs (`split_cost`). Only its ratio
+/// to `WIDE_COST` counts.
 const DIFFERENCE_COST: usize = 10;
 
-/// What it costs that a half begins with a range of several numbers.
+/// What it costs that the upper half begins with a range of several numbers: less than a difference
+/// of one, so that it decides only between places whose halves are as even.
 const WIDE_COST: usize = 6;
 
-/// The node of a test of A with the constant k.
+/// The node of a test of A with k, which leads to the node `yes` if it holds, else to `no`.
 pub(crate) fn test_node(test: Test, k: u32, yes: usize, no: usize) -> Node {
     Node {
         operation: Operation::JumpIf(test, Operand::Constant),
@@ -22,7 +23,7 @@ pub(crate) fn test_node(test: Test, k: u32, yes: usize, no: usize) -> Node {
     }
 }
 
-/// The one test that leads to all of the ranges, if one is enough.
+/// One test that leads to the nodes of all ranges. `None`: one isn't enough.
 fn one_test(ranges: &[Range]) -> Option<Node> {
     match ranges {
         [first, last] if first.is_one_number() => {
@@ -39,7 +40,8 @@ fn one_test(ranges: &[Range]) -> Option<Node> {
     }
 }
 
-/// About how many tests a search of `count` ranges takes, of which `numbers` are one number alone.
+/// The weight of a half of `count` ranges, of which `numbers` have one number alone: about how many
+/// tests its search has, one for each such number; where there are none, one between two ranges.
 fn search_weight(numbers: usize, count: usize) -> usize {
     if numbers > 0 {
         numbers
@@ -48,8 +50,8 @@ fn search_weight(numbers: usize, count: usize) -> usize {
     }
 }
 
-/// How bad it is to part ranges in front of `range`, with these weights on both sides: ten times by
-/// how much they differ, and a little more where the range isn't one number alone.
+/// How bad it is to part ranges in front of `range`, with these weights of the halves below and
+/// above: the more, the more they differ; and a little more where the range has several numbers.
 fn split_cost(below: usize, above: usize, range: &Range) -> usize {
     let wide = if range.is_one_number() { 0 } else { WIDE_COST };
     below
@@ -58,9 +60,12 @@ fn split_cost(below: usize, above: usize, range: &Range) -> usize {
         .saturating_add(wide)
 }
 
-/// The index of the range in front of which the ranges fall into halves best.
-fn split_place(ranges: &[Range]) -> usize {
+/// The index of the range in front of which the ranges are parted best: where `split_cost` is
+/// least, the first of several such. It is 1 at least.
+fn best_split(ranges: &[Range]) -> usize {
     let all = count_single_numbers(ranges);
+    // How many of the ranges in front of `at` have one number alone; the best index so far, and its
+    // cost.
     let (mut below, mut best, mut least) = (0usize, 1, usize::MAX);
     for (at, range) in ranges.iter().enumerate() {
         if at > 0 {
@@ -79,15 +84,16 @@ fn split_place(ranges: &[Range]) -> usize {
     best
 }
 
-/// Puts a node last. Returns its index.
+/// Adds a node at the end of the list. Returns its index.
 fn push_node<A: Allocator>(nodes: &mut Vec<Node, A>, node: Node) -> Result<usize, AllocError> {
     let at = nodes.len();
     nodes.push(node)?;
     Ok(at)
 }
 
-/// Puts the nodes of a search of the ranges last. There is one range at least. Returns the index of
-/// the node where the search begins; of one range alone it is the node where that leads.
+/// Adds the nodes of a search of the ranges at the end of the list. There is one range at least.
+/// Returns the index of the node where the search begins; of one range alone it is the node where
+/// that leads, and none is added.
 pub(crate) fn put_search<A: Allocator>(
     nodes: &mut Vec<Node, A>,
     ranges: &[Range],
@@ -95,12 +101,12 @@ pub(crate) fn put_search<A: Allocator>(
     if let Some(node) = one_test(ranges) {
         return push_node(nodes, node);
     }
-    // Neither 0 below is ever returned: there is a range, and `split_place` is between two.
+    // No 0 below is ever returned: there is a range, and `best_split` is between two.
     let (below, above) = match ranges {
         [] => return Ok(0),
         [only] => return Ok(only.exit),
         _ => {
-            let at = split_place(ranges);
+            let at = best_split(ranges);
             if at == 0 || at >= ranges.len() {
                 return Ok(0);
             }

@@ -1,14 +1,15 @@
-//! Where tests of one register lead, as ranges of its numbers.
+//! Where tests of A lead, as ranges of the numbers of 32 bits that A may be.
 
 use crate::graph::Node;
 use flt_bpf::operation::Test;
 use std::alloc::{AllocError, Allocator};
 
-/// The numbers from one to another one, which all lead to one node.
+/// The numbers from `low` to `high`, both included, which all lead to one node.
 #[derive(Clone, Copy)]
 pub(crate) struct Range {
     pub low: u32,
     pub high: u32,
+    /// The index of the node where these numbers lead.
     pub exit: usize,
 }
 
@@ -19,7 +20,7 @@ impl Range {
     }
 }
 
-/// The index of the node where a test of a number with the constant k leads.
+/// The index of the node to which a node with this test leads where A is a number.
 pub(crate) fn side_of_test(node: Node, test: Test, number: u32) -> usize {
     let holds = match test {
         Test::Equal => number == node.k,
@@ -30,8 +31,9 @@ pub(crate) fn side_of_test(node: Node, test: Test, number: u32) -> usize {
     if holds { node.yes } else { node.no }
 }
 
-/// Puts the numbers after the last range, up to `high`, at the end of the ranges: they lead to
-/// `exit`.
+/// Adds the numbers after the last range, up to `high`, at the end of the ranges: they lead to the
+/// node `exit`. Where the last range leads there too, it is made longer. The ranges begin at 0 and
+/// have no gaps.
 pub(crate) fn extend_ranges<A: Allocator>(
     ranges: &mut Vec<Range, A>,
     high: u32,
@@ -51,7 +53,7 @@ pub(crate) fn extend_ranges<A: Allocator>(
     Ok(())
 }
 
-/// How many of the ranges are one number alone.
+/// How many of the ranges have one number alone.
 pub(crate) fn count_single_numbers(ranges: &[Range]) -> usize {
     ranges.iter().filter(|range| range.is_one_number()).count()
 }
