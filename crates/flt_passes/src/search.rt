@@ -1,4 +1,7 @@
-//! The pass `Search`: tests of A with numbers, one after the other, become a search by halves.
+//! The pass `Search`: tests of A with numbers, one after the other, become a search by halves. Such
+//! tests are a *region*: a first test, its *head*, and those that runs reach from it with nothing
+//! between, each by one edge alone. What leads out of it, for each number that A may be, is found
+//! as ranges of numbers; then other tests that lead out the same are put in its place.
 
 use crate::edges::{edge_counts, has_one_edge};
 use crate::graph::{NOWHERE, Node};
@@ -8,8 +11,9 @@ use crate::ranges::{Range, count_single_numbers, extend_ranges, side_of_test};
 use flt_bpf::operation::Test;
 use std::alloc::{AllocError, Allocator};
 
-/// The fewest tests that are worth a search.
-const LEAST: usize = 4;
+/// The fewest tests of a region that are worth a search; also the fewest numbers that are ranges
+/// alone.
+const LEAST_TESTS: usize = 4;
 
 /// The fewest numbers that are worth a search where they lead to more than two nodes.
 const LEAST_APART: usize = 8;
@@ -21,26 +25,28 @@ struct Searching<A: Allocator> {
     nodes: Vec<Node, A>,
     /// How many edges lead to each node.
     edge_counts: Vec<usize, A>,
-    /// The first test of those that each test is searched with.
+    /// For each node the index of the head of its region, or `NOWHERE` if it is in none.
     heads: Vec<usize, A>,
 }
 
-/// A number, and where it leads.
+/// A number, and the index of the node where it leads.
 #[derive(Clone, Copy)]
 struct Exit {
     number: u32,
-    exit: usize,
+    node: usize,
 }
 
-/// Tests for one number each, one after the other.
+/// Tests for one number each, one after the other, each where the one before doesn't hold.
 #[derive(Drop)]
 struct Chain<A: Allocator> {
+    /// The number of each test, and where the test leads if it holds.
     exits: Vec<Exit, A>,
-    /// Where all other numbers lead.
+    /// The index of the node where all other numbers lead.
     rest: usize,
 }
 
-/// What a test asks, if it may be part of a search: not a test of bits.
+/// The test of a node, if it may be part of a region. `None`: the node is no test, or one of bits
+/// or with X, for which there are no ranges.
 fn searchable_test(node: Node) -> Option<Test> {
     match node.test() {
         Some(test @ (Test::Equal | Test::Greater | Test::AtLeast)) => Some(test),
@@ -54,12 +60,13 @@ impl<A: Allocator + Clone> Searching<A> {
         self.nodes.get(at).copied()
     }
 
-    /// Whether a node is in the region of a first test.
+    /// Whether the node `at` is in the region of `head`.
     fn is_in_region(&self, head: usize, at: usize) -> bool {
         entry_at(&self.heads, at) == head
     }
 
-    /// Takes a node into the region of a first test, if it is a test.
+    /// Takes the node `at` into the region of `head`, if it is such a test, and adds it to `work`,
+    /// the tests whose sides are still to be looked at.
     fn enter_test(
         &mut self,
         head: usize,
@@ -76,7 +83,7 @@ impl<A: Allocator + Clone> Searching<A> {
         Ok(())
     }
 
-    /// The region of a first test: the tests that a run reaches from it with nothing between.
+    /// Finds the region of `head`: the indices of its nodes, that of `head` first.
     fn region_from(&mut self, head: usize) -> Result<Vec<usize, A>, AllocError> {
         let mut region = Vec::new(self.alloc.clone()?);
         let mut work = Vec::new(self.alloc.clone()?);
@@ -98,7 +105,7 @@ impl<A: Allocator + Clone> Searching<A> {
         Ok(region)
     }
 
-    /// The node where a number leads, out of the region of a first test.
+    /// The index of the node where a number leads, out of the region of `head`.
     fn exit_of(&self, head: usize, number: u32) -> usize {
         let mut at = head;
         for _ in 0..self.nodes.len() {
@@ -116,35 +123,38 @@ impl<A: Allocator + Clone> Searching<A> {
         at
     }
 
-    /// The numbers at which a range may begin: each number that is tested, and the one after it.
-    /// They ascend.
-    fn cuts(&self, region: &[usize]) -> Result<Vec<u32, A>, AllocError> {
-        let mut cuts = Vec::new(self.alloc.clone()?);
+    /// The numbers at which a range may begin: each number that a test of the region asks for, and
+    /// the one after it. They ascend; some are there twice.
+    fn range_starts(&self, region: &[usize]) -> Result<Vec<u32, A>, AllocError> {
+        let mut starts = Vec::new(self.alloc.clone()?);
         for at in region {
             if let Some(node) = self.node(*at) {
-                cuts.push(node.k)?;
-                cuts.push(node.k.saturating_add(1))?;
+                starts.push(node.k)?;
+                starts.push(node.k.saturating_add(1))?;
             }
         }
-        cuts.sort_unstable();
-        Ok(cuts)
+        starts.sort_unstable();
+        Ok(starts)
     }
 
-    /// All numbers as ranges, by where they lead out of a region.
+    /// All numbers as ranges, by where they lead out of the region of `head`. Between two starts of
+    /// ranges all numbers lead where the first one does.
     fn ranges_of_region(&self, head: usize, region: &[usize]) -> Result<Vec<Range, A>, AllocError> {
         let mut ranges = Vec::new(self.alloc.clone()?);
+        // The first number that is in no range yet.
         let mut low = 0;
-        for cut in &self.cuts(region)? {
-            if *cut > low {
-                extend_ranges(&mut ranges, *cut - 1, self.exit_of(head, low))?;
-                low = *cut;
+        for start in &self.range_starts(region)? {
+            if *start > low {
+                extend_ranges(&mut ranges, *start - 1, self.exit_of(head, low))?;
+                low = *start;
             }
         }
         extend_ranges(&mut ranges, u32::MAX, self.exit_of(head, low))?;
         Ok(ranges)
     }
 
-    /// The chain of tests for one number each with which a region begins.
+    /// The chain of tests for one number each with which the region of `head` begins; it may have
+    /// no test.
     fn chain_from(&self, head: usize) -> Result<Chain<A>, AllocError> {
         let mut exits = Vec::new(self.alloc.clone()?);
         let mut at = head;
@@ -157,19 +167,20 @@ impl<A: Allocator + Clone> Searching<A> {
             }
             exits.push(Exit {
                 number: node.k,
-                exit: node.yes,
+                node: node.yes,
             })?;
             at = node.no;
         }
         Ok(Chain { exits, rest: at })
     }
 
-    /// All numbers as ranges, by where a chain of tests for one number each leads.
+    /// All numbers as ranges, by where a chain leads: as `ranges_of_region`, but quicker.
     fn ranges_of_chain(&self, chain: &Chain<A>) -> Result<Vec<Range, A>, AllocError> {
         let rest = chain.rest;
         let mut exits = Vec::from_slice(self.alloc.clone()?, &chain.exits)?;
         exits.sort_by_key(|exit| exit.number)?;
         let mut ranges = Vec::new(self.alloc.clone()?);
+        // The first number that is in no range yet, unless all are in one.
         let mut low = 0;
         let mut is_full = false;
         for exit in &exits {
@@ -177,7 +188,7 @@ impl<A: Allocator + Clone> Searching<A> {
                 if exit.number > low {
                     extend_ranges(&mut ranges, exit.number - 1, rest)?;
                 }
-                extend_ranges(&mut ranges, exit.number, exit.exit)?;
+                extend_ranges(&mut ranges, exit.number, exit.node)?;
                 is_full = exit.number == u32::MAX;
                 low = exit.number.saturating_add(1);
             }
@@ -189,7 +200,8 @@ impl<A: Allocator + Clone> Searching<A> {
     }
 }
 
-/// The one node where the ranges of several numbers lead, if it is one.
+/// The index of the node where all ranges lead that have several numbers. `None`: they lead to more
+/// than one, or there is no such range.
 fn common_exit_of_wide_ranges(ranges: &[Range]) -> Option<usize> {
     let mut wide = ranges.iter().filter(|range| !range.is_one_number());
     let rest = wide.next()?.exit;
@@ -213,7 +225,7 @@ fn lead_apart(ranges: &[Range]) -> bool {
         .any(|range| range.exit != one && range.exit != other)
 }
 
-/// Whether a number is a range alone: it leads elsewhere than those beside it.
+/// Whether a number is a range alone: it leads elsewhere than the numbers beside it.
 fn is_alone(ranges: &[Range], number: u32) -> bool {
     ranges
         .iter()
@@ -221,31 +233,34 @@ fn is_alone(ranges: &[Range], number: u32) -> bool {
 }
 
 impl<A: Allocator + Clone> Searching<A> {
-    /// Those numbers of a chain that lead elsewhere than the ones beside them, each once.
-    fn first_exits(&self, chain: &Chain<A>, ranges: &[Range]) -> Result<Vec<Exit, A>, AllocError> {
-        let mut firsts: Vec<Exit, A> = Vec::new(self.alloc.clone()?);
+    /// The exits of a chain that are still needed: of each number the first, if the number leads
+    /// elsewhere than the ones beside it. They keep their order.
+    fn needed_exits(&self, chain: &Chain<A>, ranges: &[Range]) -> Result<Vec<Exit, A>, AllocError> {
+        let mut needed: Vec<Exit, A> = Vec::new(self.alloc.clone()?);
         for exit in &chain.exits {
-            let is_new = firsts.iter().all(|first| first.number != exit.number);
+            let is_new = needed.iter().all(|other| other.number != exit.number);
             if is_new && is_alone(ranges, exit.number) {
-                firsts.push(*exit)?;
+                needed.push(*exit)?;
             }
         }
-        Ok(firsts)
+        Ok(needed)
     }
 
-    /// Puts a chain of tests for one number each last. Returns where it begins.
-    fn put_chain(&mut self, firsts: &[Exit], rest: usize) -> Result<usize, AllocError> {
+    /// Adds a chain of tests with these exits at the end of the nodes; all other numbers lead to
+    /// the node `rest`. Returns the index of the node where it begins: `rest`, if it has no test.
+    fn put_chain(&mut self, exits: &[Exit], rest: usize) -> Result<usize, AllocError> {
         let mut next = rest;
-        for first in firsts.iter().rev() {
-            let node = test_node(Test::Equal, first.number, first.exit, next);
+        for exit in exits.iter().rev() {
+            let node = test_node(Test::Equal, exit.number, exit.node, next);
             next = self.nodes.len();
             self.nodes.push(node)?;
         }
         Ok(next)
     }
 
-    /// Puts what leads to the ranges last: a chain for few numbers, else a search. Returns where it
-    /// begins. `None`: the tests stay, since they lead to more than two nodes and are few.
+    /// Adds tests that lead where the ranges do at the end of the nodes: a chain for few numbers,
+    /// else a search. Returns the index of the node where they begin. `None`: none are added, since
+    /// the ranges lead to more than two nodes and few of them are one number alone.
     fn put_tests(
         &mut self,
         chain: &Chain<A>,
@@ -253,11 +268,11 @@ impl<A: Allocator + Clone> Searching<A> {
     ) -> Result<Option<usize>, AllocError> {
         let numbers = count_single_numbers(ranges);
         if let Some(rest) = common_exit_of_wide_ranges(ranges)
-            && numbers < LEAST
+            && numbers < LEAST_TESTS
         {
-            let firsts = self.first_exits(chain, ranges)?;
-            if firsts.len() == numbers {
-                return self.put_chain(&firsts, rest).map(Some);
+            let exits = self.needed_exits(chain, ranges)?;
+            if exits.len() == numbers {
+                return self.put_chain(&exits, rest).map(Some);
             }
         }
         if lead_apart(ranges) && numbers < LEAST_APART {
@@ -266,7 +281,9 @@ impl<A: Allocator + Clone> Searching<A> {
         put_search(&mut self.nodes, ranges).map(Some)
     }
 
-    /// Puts a search in place of a region, where it has fewer tests, or is much quicker.
+    /// Puts other tests in place of a region: a search or a shorter chain, where it has fewer
+    /// tests, or is much quicker. Its first node takes the place of `head`; the region's other
+    /// tests are reached by no run then.
     fn replace_region(&mut self, head: usize, region: &[usize]) -> Result<(), AllocError> {
         let chain = self.chain_from(head)?;
         let ranges = if chain.exits.len() == region.len() {
@@ -275,8 +292,9 @@ impl<A: Allocator + Clone> Searching<A> {
             self.ranges_of_region(head, region)?
         };
         let count = self.nodes.len();
-        // A search for many numbers may have twice as many tests: of these a run meets few.
-        let most = if count_single_numbers(&ranges) < LEAST {
+        // By how much the region's tests are multiplied: what is made has fewer than that. A search
+        // for many numbers may have nearly twice as many tests: of these a run meets few.
+        let most = if count_single_numbers(&ranges) < LEAST_TESTS {
             1
         } else {
             2
@@ -294,7 +312,8 @@ impl<A: Allocator + Clone> Searching<A> {
         Ok(())
     }
 
-    /// Puts a search in place of the region that begins at a node, if it has enough tests.
+    /// Puts a search in place of the region of `head`, if that is such a test, in no region yet,
+    /// and the region has enough tests.
     fn search_from(&mut self, head: usize) -> Result<(), AllocError> {
         let is_test = self
             .node(head)
@@ -303,15 +322,15 @@ impl<A: Allocator + Clone> Searching<A> {
             return Ok(());
         }
         let region = self.region_from(head)?;
-        if region.len() < LEAST {
+        if region.len() < LEAST_TESTS {
             return Ok(());
         }
         self.replace_region(head, &region)
     }
 }
 
-/// The graph with searches by halves in place of tests of one register. Its edges lead to later
-/// nodes.
+/// The graph with searches by halves in place of tests of A with numbers. All edges of both graphs
+/// lead to later nodes.
 pub(crate) fn search_tests<A: Allocator + Clone>(
     alloc: A,
     nodes: Vec<Node, A>,
@@ -320,7 +339,7 @@ pub(crate) fn search_tests<A: Allocator + Clone>(
         .iter()
         .filter(|node| searchable_test(**node).is_some())
         .count()
-        < LEAST
+        < LEAST_TESTS
     {
         return Ok(nodes);
     }
