@@ -18,8 +18,8 @@ pub enum FrameKind {
 pub enum Offset {
     /// A given number of bytes after the start of the packet.
     Fixed(u32),
-    /// After the header that begins at the first offset: the second number and the header's length
-    /// are added up, which the low half of its first byte gives in words of 4 bytes.
+    /// At the second number plus the length of the header that begins at the first. The low half of
+    /// that header's first byte gives its length, in words of 4 bytes.
     AfterHeader(u32, u32),
 }
 

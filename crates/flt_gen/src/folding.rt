@@ -5,7 +5,7 @@ ghost use Rattle.flt_gen.specs.inside.Folding.{node_constant, applied_constant, 
 ghost use Rattle.flt_gen.specs.inside.Folding.{with_operator, with_folded};
 
 use crate::number::alu_operation;
-use crate::waiting::Stack;
+use crate::stack::Stack;
 use flt_ast::Node;
 use flt_bpf::compute;
 use flt_words::Operator;

@@ -16,6 +16,7 @@ mod number;
 mod port;
 mod program;
 mod protocol;
+mod stack;
 mod steps;
 mod value;
 mod waiting;

@@ -12,7 +12,7 @@
 ghost use Rattle.std.specs.Prelude.{◌≡◌, [], OnOk, MatchOption};
 ghost use Rattle.flt_emit.specs.Formula.{Single, Among, all_of, sides, any_sides, remaining};
 
-use crate::waiting::Stack;
+use crate::stack::Stack;
 use flt_ast::Direction;
 use flt_bpf::operation::Width;
 use flt_emit::{Elementary, MaskedField, Offset, Sides, compares_at, whole_field};

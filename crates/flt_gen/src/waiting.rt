@@ -1,12 +1,12 @@
-//! What waits during the walk over an expression's nodes.
+//! What waits during the walk over an expression's nodes, from the last one to the first.
 
-ghost use Rattle.std.specs.Prelude.{◌≡◌, List, [], ◌∷◌, reverse, OnOk, MatchOption};
+ghost use Rattle.std.specs.Prelude.{◌≡◌, OnOk};
 ghost use Rattle.flt_gen.specs.inside.Emitted.{equals, without_protocol, with_accessor};
 
+use crate::stack::Stack;
 use flt_emit::Targets;
 use flt_words::{Join, Protocol};
 use std::alloc::{AllocError, Allocator};
-use std::marker::Model;
 
 /// The left operand of `and` or `or`, which comes after the right one, and the targets of the
 /// whole.
@@ -33,69 +33,6 @@ pub enum Pending {
     /// It was an `or`, whose right operand is next. Where that is a host or port, it waits for the
     /// left one, and both are looked for together.
     Or,
-}
-
-/// What waits. Contracts see it latest first: `pop` takes the latest.
-#[derive(Drop)]
-pub struct Stack<T, A: Allocator> {
-    entries: Vec<T, A>,
-}
-
-impl<T, A: Allocator> Model for Stack<T, A> {
-    ghost use Rattle.std.specs.Prelude.{List, reverse};
-
-    ghost Value = { List T };
-
-    ghost view = { λ s. reverse s.entries.items };
-}
-
-impl<T: Drop, A: Allocator> Stack<T, A> {
-    /// A stack without entries.
-    pub fn new(alloc: A) -> Self
-        ensures { result ≡ [] }
-    {
-        Stack {
-            entries: Vec::new(alloc),
-        }
-    }
-
-    /// Adds an entry, which is the latest then.
-    pub fn push(&mut self, entry: T) -> Result<(), AllocError>
-        ensures { OnOk result (self.new ≡ entry ∷ self.old) }
-    {
-        self.entries.push(entry)?;
-        Ok(())
-    }
-
-    /// Takes the latest entry out; `None` where there is none.
-    pub fn pop(&mut self) -> Option<T>
-        ensures { MatchOption result ((self.old ≡ []) × (self.new ≡ []))
-            (λ entry. self.old ≡ entry ∷ self.new) }
-    {
-        self.entries.pop()
-    }
-
-    /// The entries, lent, the earliest first.
-    pub fn entries(&self) -> &[T]
-        ensures { reverse result.now ≡ self.now }
-    {
-        &self.entries
-    }
-
-    /// Takes all entries out.
-    pub fn clear(&mut self)
-        ensures { self.new ≡ [] }
-    {
-        self.entries.clear();
-    }
-
-    /// The entries, the earliest first.
-    pub fn into_vec(self) -> Vec<T, A>
-        ensures { reverse result.items ≡ self }
-    {
-        let Stack { entries } = self;
-        entries
-    }
 }
 
 /// Whether two protocols are the same.
@@ -134,8 +71,9 @@ fn leave_out<A: Allocator>(
     protocols.push(latest)
 }
 
-/// Puts the protocol of an accessor in front of those of later words, among which it is left out:
-/// what its tests ask is then known there.
+/// Puts the protocol of an accessor first. Those that are there are of the accessors on its right:
+/// if one of them has the same protocol, that entry goes, since its tests stand once, where the
+/// leftmost accessor is.
 pub fn add_accessor<A: Allocator>(
     protocols: &mut Stack<Protocol, A>,
     protocol: Protocol,

@@ -28,8 +28,9 @@ use crate::group::Group;
 use crate::number::{
     computation, emit_accessor, emit_accessor_tests, emit_operands, takes_constant, width_of,
 };
+use crate::stack::Stack;
 use crate::steps::{Step, Steps};
-use crate::waiting::{LeftTruth, Pending, Stack, Waiting, add_accessor};
+use crate::waiting::{LeftTruth, Pending, Waiting, add_accessor};
 use cap_octet::Link;
 use flt_ast::{CompleteQualifiers, Node, Value};
 use flt_bpf::Wide;

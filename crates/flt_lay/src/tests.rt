@@ -22,7 +22,7 @@ fn plain(code: u16, k: u32) -> Wide {
 }
 
 /// A test for a packet of this length.
-fn is_long(k: u32, yes: u32, no: u32) -> Wide {
+fn has_length(k: u32, yes: u32, no: u32) -> Wide {
     let code = IF_EQUAL;
     Wide { code, yes, no, k }
 }
@@ -77,7 +77,7 @@ fn one_test(rt: HostRuntime) -> Result<(), Fail> {
         row_of(256, 256, 1, 1),
     ];
     for row in &rows {
-        let code = with_returns(rt.alloc(), &[is_long(1, row.yes, row.no)])?;
+        let code = with_returns(rt.alloc(), &[has_length(1, row.yes, row.no)])?;
         let jumps = row.jumps_if_yes.saturating_add(row.jumps_if_no);
         assert!(rt; code.len() == RETURNS.saturating_add(2).saturating_add(jumps));
         let (yes, no) = (run_any(&code, &[], 1), run_any(&code, &[], 2));
@@ -90,7 +90,7 @@ fn one_test(rt: HostRuntime) -> Result<(), Fail> {
 /// The jumps of a test make the targets of one in front of it farther.
 #[test]
 fn two_tests(rt: HostRuntime) -> Result<(), Fail> {
-    let tests = [is_long(1, 255, 0), is_long(2, 256, 270)];
+    let tests = [has_length(1, 255, 0), has_length(2, 256, 270)];
     let code = with_returns(rt.alloc(), &tests)?;
     assert!(rt; code.len() == RETURNS + 3 + 3);
     assert!(rt; run_any(&code, &[], 1) == Some((254, 4)));
