@@ -137,7 +137,7 @@ fn emit_protocol_tests<A: Allocator>(
     }
 }
 
-/// Emits the tests of accessors' protocols, of which that of the last word comes first here.
+/// Emits the tests of accessors' protocols, of which that of the rightmost accessor comes first.
 /// Returns the place where they begin; of no protocol that is `to.yes`.
 pub fn emit_accessor_tests<A: Allocator>(
     code: &mut Code<A>,

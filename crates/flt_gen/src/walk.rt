@@ -57,7 +57,7 @@ pub struct Walk<A: Allocator> {
     truths: Stack<LeftTruth, A>,
     /// What waits for the number that is next.
     numbers: Stack<Waiting, A>,
-    /// The protocols of the relation's accessors, each once, that of the last word first.
+    /// The protocols of the relation's accessors, each once, that of the rightmost one first.
     accessors: Stack<Protocol, A>,
     /// Hosts or ports that are tested in front of the code, and whose code isn't there yet.
     group: Group<A>,
