@@ -13,7 +13,7 @@ pairs [] = []
 pairs (a ∷ []) = 32 ∷ hex_two a
 pairs (a ∷ b ∷ more) = 32 ∷ (hex_two a ++ (hex_two b ++ pairs more))
 
--- the row after k others: a tab, the place of its first byte, and its bytes
+-- the row of these bytes after k others: a tab, the place of its first byte, and its bytes
 unfoldable pub row : List ℕ → ℕ → List ℕ
 row bytes k =
     9 ∷ (codes "0x"

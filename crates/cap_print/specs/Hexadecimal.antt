@@ -23,7 +23,7 @@ hex_eight n = hex_four (n / 0x1_0000) ++ hex_four (n % 0x1_0000)
 unfoldable pub hex_sixteen : ℕ → List ℕ
 hex_sixteen n = hex_eight (n / 0x1_0000_0000) ++ hex_eight (n % 0x1_0000_0000)
 
--- digits without those in front that are zeros, of which at most a given number go
+-- digits without the zeros in front, of which at most a given number are left out
 abbrev pub without_zeros : ℕ → List ℕ → List ℕ
 without_zeros zero digits = digits
 without_zeros (suc most) [] = []
@@ -33,6 +33,6 @@ without_zeros (suc most) (d ∷ digits) = if d == 48 then without_zeros most dig
 unfoldable pub hex_group : ℕ → List ℕ
 hex_group n = without_zeros 3 (hex_four n)
 
--- a number below 2^64, with at least four digits
+-- a number below 2^64 without leading zeros, but with at least four digits
 unfoldable pub hex_place : ℕ → List ℕ
 hex_place n = without_zeros 12 (hex_sixteen n)

@@ -10,30 +10,31 @@ use Rattle.cap_print.specs.Addresses.{network_u16, mac_text}
 use Rattle.cap_print.specs.Hexadecimal.{hex_four}
 use Rattle.cap_print.specs.Network.{network_part}
 
--- an EtherType
+-- an EtherType, as `, type 0x0800, `
 unfoldable pub ethertype_text : ℕ → List ℕ
 ethertype_text type = codes ", type 0x" ++ (hex_four type ++ codes ", ")
 
--- what names the link: of Ethernet the source and the destination
+-- what a line says of a link before its EtherType: of Ethernet the addresses of source and
+-- destination, of another link its name
 unfoldable pub link_text : Link → List ℕ → List ℕ
 link_text Ether p = mac_text p 6 ++ (codes " > " ++ mac_text p 0)
 link_text link p = link_name link
 
--- of a link header, by the place of its type
+-- what a line says of the header of a link, by the place of its EtherType, if it has one
 unfoldable pub link_header : Link → Option ℕ → List ℕ → List ℕ
 link_header link None p = link_name link ++ codes ", "
 link_header link (Some at) p =
     if nat_lt (length p) (network_offset link) then link_name link ++ codes " [short], "
     else link_text link p ++ ethertype_text (network_u16 p at)
 
--- of the link header of a link type, if that is known
+-- what a line says of the link header of a link type, known or not
 unfoldable pub link_part : ℕ → List ℕ → List ℕ
 link_part n p =
     option_map_or (λ link. link_header link (type_offset link) p) (link_of n)
     (codes "link " ++ (decimal n ++ codes ", "))
 
--- the date, what is said of the link header where it is asked for, what is said of the network
--- header, and the original length of the whole packet
+-- the line of a packet: the date, what is said of the link header where that is asked for, what is
+-- said of the network header, and the original length of the whole packet
 unfoldable pub line : Bool → Captured → List ℕ
 line with_link p =
     date_text p.time

@@ -19,7 +19,7 @@ abbrev pub layout_of : Ip → IpLayout
 layout_of V4 = record { protocol = 9; addresses = 12; address_length = 4 }
 layout_of V6 = record { protocol = 6; addresses = 8; address_length = 16 }
 
--- where its addresses end
+-- where the addresses of a header of IP end
 abbrev pub addresses_end : Ip → ℕ → ℕ
 addresses_end ip l = l + (layout_of ip).addresses + 2 * (layout_of ip).address_length
 
@@ -33,12 +33,12 @@ abbrev pub icmp : Ip → ℕ
 icmp V4 = IPPROTO_ICMP
 icmp V6 = IPPROTO_ICMPV6
 
--- and what a line calls it
+-- what a line calls the version's own ICMP
 abbrev pub icmp_name : Ip → List ℕ
 icmp_name V4 = codes "ICMP"
 icmp_name V6 = codes "ICMP6"
 
--- the name of a protocol
+-- the name of a protocol, or its number where it has none
 unfoldable pub protocol_text : Ip → ℕ → List ℕ
 protocol_text ip n =
     if n == IPPROTO_TCP then codes "TCP"
@@ -85,7 +85,7 @@ ports_at n at p =
     if has_ports n
     && nat_le (at + 4) (length p) then Some (network_u16 p at, network_u16 p (at + 2)) else None
 
--- of the header of IP
+-- what a line says of a header of IP
 unfoldable pub ip_part : Ip → ℕ → List ℕ → List ℕ
 ip_part ip l p =
     if nat_lt (length p) (addresses_end ip l) then ip_name ip ++ codes " [short]"
@@ -94,7 +94,7 @@ ip_part ip l p =
     (ports_at (slice_index p (l + (layout_of ip).protocol)) (header_end ip l p) p)
     ++ protocol_text ip (slice_index p (l + (layout_of ip).protocol))
 
--- of the ARP or RARP header, after its name
+-- what a line says of an ARP or RARP header after its name
 unfoldable pub arp_part : ℕ → List ℕ → List ℕ
 arp_part l p =
     if nat_lt (length p) (l + 28) then codes " [short]"
@@ -102,7 +102,7 @@ arp_part l p =
     ++ (decimal (network_u16 p (l + 6))
     ++ (codes " " ++ (ipv4_text p (l + 14) ++ (codes " > " ++ ipv4_text p (l + 24)))))
 
--- of this header
+-- what a line says of a packet with this network header
 unfoldable pub header_part : NetworkHeader → ℕ → List ℕ → List ℕ
 header_part (Known Ipv4) l p = ip_part V4 l p
 header_part (Known Ipv6) l p = ip_part V6 l p
@@ -113,6 +113,6 @@ header_part (OtherVersion version) l p = codes "version " ++ decimal version
 header_part (OtherLink link) l p = codes "link " ++ decimal link
 header_part Short l p = codes "[short]"
 
--- of the header that a packet has by its link type
+-- what a line says of the network header that a packet of this link type has
 unfoldable pub network_part : ℕ → List ℕ → List ℕ
 network_part link p = header_part (network_header link p) (link_header_length link) p

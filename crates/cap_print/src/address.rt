@@ -16,8 +16,8 @@ pub fn network_u16(bytes: &[u8], at: usize) -> u16
     u16_at(Order::Big, bytes, at)
 }
 
-/// Appends the IPv4 address in the four bytes from place `at`, as `10.0.0.5`. 43 bytes of room:
-/// each number is given ten digits, as `push_decimal` asks for.
+/// Appends the IPv4 address in the four bytes from place `at`, as `10.0.0.5`. It asks for 43 bytes
+/// of room, three points and four times the ten digits that `push_decimal` asks for.
 #[inline(always)]
 #[tactic(auto, unfolding(crate::specs::Addresses::ipv4_text))]
 pub fn push_ipv4(text: &mut Text, bytes: &[u8], at: usize)
@@ -48,7 +48,8 @@ fn push_two_groups(text: &mut Text, bytes: &[u8], at: usize)
     push_hex_group(text, network_u16(bytes, at + 2));
 }
 
-/// Appends four groups of an IPv6 address, in the eight bytes from place `at`.
+/// Appends four groups of an IPv6 address, in the eight bytes from place `at`, as
+/// `2001:db8:0:1`.
 #[tactic(auto, unfolding(crate::specs::Addresses::four_groups))]
 fn push_four_groups(text: &mut Text, bytes: &[u8], at: usize)
     requires room { length text.old + 19 ≤ 256 }
@@ -75,8 +76,8 @@ pub fn push_ipv6(text: &mut Text, bytes: &[u8], at: usize)
     push_four_groups(text, bytes, at + 8);
 }
 
-/// Appends a port after an address, as `.80`, if there is one; the room is for a point and ten
-/// digits.
+/// Appends a port after an address, as `.80`; nothing where there is none. The room is for a point
+/// and ten digits.
 pub fn push_port(text: &mut Text, port: Option<u16>)
     requires { length text.old + 11 ≤ 256 }
     ensures value { text.new ≡ text.old ++ port_text port }
@@ -103,7 +104,7 @@ fn push_three_bytes(text: &mut Text, bytes: &[u8], at: usize)
     push_hex_two(text, bytes[at + 2]);
 }
 
-/// Appends the Ethernet address in the six bytes from place `at`.
+/// Appends the Ethernet address in the six bytes from place `at`, as `02:00:5e:00:00:01`.
 #[tactic(auto, unfolding(crate::specs::Addresses::mac_text))]
 pub fn push_mac(text: &mut Text, bytes: &[u8], at: usize)
     requires room { length text.old + 17 ≤ 256 }

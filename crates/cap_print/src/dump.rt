@@ -6,7 +6,7 @@ use crate::hexadecimal::{push_hex_place, push_hex_two};
 use crate::text::Text;
 use cap_octet::link_header_length;
 
-/// How many bytes a row has.
+/// How many bytes of a packet a row has, but the last one, which may have fewer.
 const ROW_BYTES: usize = 16;
 
 /// The captured bytes after the link header; none where they end inside it.
@@ -25,7 +25,7 @@ pub fn row_count(count: usize) -> usize
 }
 
 /// Appends a blank and four digits for each two bytes, and a blank and two digits for a last single
-/// byte.
+/// byte: at most three bytes of text for each.
 fn push_pairs(text: &mut Text, bytes: &[u8])
     requires { length text.old + 3 * length bytes.now ≤ 256 }
     ensures value { text.new ≡ text.old ++ pairs bytes.now }
@@ -44,8 +44,8 @@ fn push_pairs(text: &mut Text, bytes: &[u8])
     }
 }
 
-/// Replaces the bytes of the buffer by the row after `index` others: a tab, the place of its first
-/// byte as `0x0010:`, its bytes, and a line feed.
+/// Replaces the bytes of the buffer by a row of these bytes, the one after `index` others: a tab,
+/// the place of its first byte as `0x0010:`, its bytes, and a line feed.
 #[tactic(auto, unfolding(crate::specs::Dump::row))]
 pub fn write_row(text: &mut Text, bytes: &[u8], index: usize)
     requires { 16 * index < length bytes.now }

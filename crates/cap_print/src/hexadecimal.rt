@@ -17,7 +17,7 @@ fn hex_digit(digit: u16) -> u8
     DIGITS[digit as usize]
 }
 
-/// The four digits of a number of 16 bits.
+/// The four digits of a number of 16 bits, in ASCII.
 #[inline]
 #[tactic(auto, unfolding(crate::specs::Hexadecimal::hex_four))]
 fn hex_four(number: u16) -> [u8; 4]
@@ -31,7 +31,7 @@ fn hex_four(number: u16) -> [u8; 4]
     ]
 }
 
-/// The eight digits of a number of 32 bits.
+/// The eight digits of a number of 32 bits, in ASCII.
 #[tactic(auto, unfolding(crate::specs::Hexadecimal::hex_eight, crate::specs::Hexadecimal::hex_four))]
 fn hex_eight(number: u32) -> [u8; 8]
     ensures { result ≡ hex_eight number }
@@ -41,7 +41,7 @@ fn hex_eight(number: u32) -> [u8; 8]
     [a, b, c, d, e, f, g, h]
 }
 
-/// The sixteen digits of a number of 64 bits.
+/// The sixteen digits of a number of 64 bits, in ASCII.
 fn hex_sixteen(number: u64) -> [u8; 16]
     ensures { result ≡ hex_sixteen number }
 {
@@ -52,7 +52,7 @@ fn hex_sixteen(number: u64) -> [u8; 16]
     [a, b, c, d, e, f, g, h, i, j, k, l, m, n, o, p]
 }
 
-/// How many digits `0`, at most `most`, these digits in ASCII begin with.
+/// How many digits `0` these digits in ASCII begin with, counted up to `most`.
 fn leading_zeros(digits: &[u8], most: usize) -> usize
     requires { most ≤ length digits.now }
     ensures value { drop result digits.now ≡ without_zeros most digits.now }
@@ -102,7 +102,8 @@ pub fn push_hex_group(text: &mut Text, number: u16)
     }
 }
 
-/// Appends a place among bytes: its digits without leading zeros, but four at least.
+/// Appends a place among a packet's bytes, as that of a row: its digits without leading zeros, but
+/// four at least.
 #[tactic(auto, unfolding(crate::specs::Hexadecimal::hex_place))]
 pub fn push_hex_place(text: &mut Text, place: u64)
     requires { length text.old + 16 ≤ 256 }

@@ -7,6 +7,7 @@ use std::marker::Model;
 #[derive(Drop)]
 pub struct LastSecond {
     second: u64,
+    /// The second's date up to its point, `YYYY-MM-DD hh:mm:ss.`
     date: [u8; 20],
 }
 
@@ -25,7 +26,8 @@ impl LastSecond {
     ghost use Rattle.std.specs.Prelude.{◌≡◌, ◌^◌, ◌<◌};
     ghost use Rattle.cap_octet.specs.Date.{second_text};
 
-    /// A second since 1970-01-01 00:00:00 UTC, and its date. 2^34 is `second_bytes`' limit.
+    /// This second, counted from 1970-01-01 00:00:00 UTC, with its date. 2^34 is `second_bytes`'
+    /// limit.
     pub fn new(second: u64) -> Self
         requires { second < 2 ^ 34 }
         ensures { result ≡ second }
@@ -36,8 +38,8 @@ impl LastSecond {
         }
     }
 
-    /// The date of a second since 1970-01-01 00:00:00 UTC up to its point, `YYYY-MM-DD hh:mm:ss.`;
-    /// the second is kept.
+    /// The date of a second, counted from 1970-01-01 00:00:00 UTC, up to its point, `YYYY-MM-DD
+    /// hh:mm:ss.`. It is made only where the second isn't the one that is kept, which it then is.
     #[inline]
     pub fn date_of(&mut self, second: u64) -> [u8; 20]
         requires { second < 2 ^ 34 }

@@ -1,4 +1,7 @@
 //! The line of a packet, as docs/LINES.md has it, and what it says of the link header.
+//!
+//! A clause that asks for room in the text, or bounds what is appended, has the most bytes that may
+//! be appended, and some to spare: an address has 17, the name of a link 8, a number ten digits.
 ghost use Rattle.std.specs.Prelude.{◌≡◌, ◌+◌, ◌≤◌, ◌<◌, ◌++◌, IfSome, length};
 ghost use Rattle.cap_octet.specs.Link.{network_offset};
 ghost use Rattle.cap_octet.specs.Packet.{captured};
@@ -22,8 +25,9 @@ fn push_ethertype(text: &mut Text, kind: u16)
     text.push_all(b", ");
 }
 
-/// Appends what names the link before its EtherType: of Ethernet the source, in the header's bytes
-/// 6 to 11, and the destination, in its bytes 0 to 5; of another link its name.
+/// Appends what a line says of a link before its EtherType: of Ethernet the source's address, in
+/// the header's bytes 6 to 11, and the destination's, in its bytes 0 to 5; of another link its
+/// name. The header is captured.
 #[tactic(auto, unfolding(crate::specs::Line::link_text))]
 fn push_link_text(text: &mut Text, link: Link, bytes: &[u8])
     requires room { length text.old + 37 ≤ 256 }
@@ -41,8 +45,9 @@ fn push_link_text(text: &mut Text, link: Link, bytes: &[u8])
     }
 }
 
-/// Appends what is said of the header of a link that is known, whose EtherType is at a place, if it
-/// has one: its name alone where it has none, `[short]` where the header isn't all captured.
+/// Appends what a line says of the header of a link that is known, with its EtherType at
+/// `type_offset`: the link's name alone where it has no EtherType, and `[short]` after the name
+/// where the header isn't all captured.
 #[tactic(auto, unfolding(crate::specs::Line::link_header))]
 fn push_link_header(text: &mut Text, link: Link, type_offset: Option<usize>, bytes: &[u8])
     requires room { length text.old + 60 ≤ 256 }
@@ -66,7 +71,8 @@ fn push_link_header(text: &mut Text, link: Link, type_offset: Option<usize>, byt
     }
 }
 
-/// Appends what is said of the link header of a link type, known or not.
+/// Appends what a line says of the link header of a link type; `link` and the number of one that
+/// isn't known.
 #[tactic(auto, unfolding(crate::specs::Line::link_part))]
 fn push_link_part(text: &mut Text, link: u16, bytes: &[u8])
     requires { length text.old + 60 ≤ 256 }
@@ -84,7 +90,7 @@ fn push_link_part(text: &mut Text, link: u16, bytes: &[u8])
 }
 
 /// Replaces the bytes of the buffer by the line of a packet, which ends with a line feed and has at
-/// most 250 bytes. `with_link` adds the link header.
+/// most 250 bytes. `with_link` adds what is said of the link header.
 #[tactic(auto, unfolding(crate::specs::Line::line))]
 pub fn write_line(text: &mut Text, with_link: bool, packet: &Packet<'_>)
     ensures value { text.new ≡ line with_link (captured packet.now) }

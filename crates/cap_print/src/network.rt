@@ -1,7 +1,8 @@
 //! What a line says of a packet's network header.
 //!
 //! A clause that asks for room in the text, or bounds what is appended, counts ten digits for each
-//! number, and may have some bytes to spare.
+//! number, and may have some bytes to spare. `start` is the place of the network header among the
+//! packet's bytes; places in the header are added to it.
 ghost use Rattle.std.specs.Prelude.{◌≡◌, ◌+◌, ◌*◌, ◌≤◌, ◌<◌, ◌++◌, decimal, length};
 ghost use Rattle.cap_octet.specs.Link.{longest_header};
 ghost use Rattle.cap_print.specs.Network.{address_text, arp_part, address_with_port, has_ports};
@@ -51,16 +52,16 @@ fn layout_of(ip: Ip) -> IpLayout
     }
 }
 
-/// Where the two addresses of the header at place `l` end, and the header too if it has no options.
-fn addresses_end(ip: Ip, l: usize) -> usize
-    requires { l ≤ longest_header }
-    ensures { result ≡ addresses_end ip l }
+/// Where the two addresses of the header of IP end, and the header too if it has no options.
+fn addresses_end(ip: Ip, start: usize) -> usize
+    requires { start ≤ longest_header }
+    ensures { result ≡ addresses_end ip start }
 {
-    let header = layout_of(ip);
-    l + header.addresses + 2 * header.address_length
+    let layout = layout_of(ip);
+    start + layout.addresses + 2 * layout.address_length
 }
 
-/// Appends what a line calls this version of IP.
+/// Appends what a line calls this version of IP: `IP` or `IP6`.
 fn push_ip_name(text: &mut Text, ip: Ip)
     requires { length text.old + 3 ≤ 256 }
     ensures value { text.new ≡ text.old ++ ip_name ip }
@@ -102,7 +103,7 @@ fn push_protocol(text: &mut Text, ip: Ip, protocol: u8)
     }
 }
 
-/// Appends the address of this version of IP at place `at`.
+/// Appends the address at place `at`, of 4 or 16 bytes by the version of IP.
 #[inline(always)]
 fn push_address(text: &mut Text, ip: Ip, bytes: &[u8], at: usize)
     requires room { length text.old + 43 ≤ 256 }
@@ -128,18 +129,25 @@ fn push_address_with_port(text: &mut Text, ip: Ip, bytes: &[u8], at: usize, port
     push_port(text, port);
 }
 
-/// Appends `IP A > B: ` or `IP6 A > B: ` of the header at place `l`, each address with its port if
-/// there are ports.
+/// Appends `IP A > B: ` or `IP6 A > B: `, the addresses of source and destination of a header of
+/// IP, each with its port if there are ports.
 #[inline(always)]
 #[tactic(auto, unfolding(crate::specs::Network::ip_endpoints))]
-fn push_endpoints(text: &mut Text, ip: Ip, bytes: &[u8], l: usize, ports: Option<(u16, u16)>)
+fn push_endpoints(
+    text: &mut Text,
+    ip: Ip,
+    bytes: &[u8],
+    start: usize,
+    ports: Option<(u16, u16)>,
+)
     requires room { length text.old + 117 ≤ 256 }
-    requires there { (l ≤ longest_header) × (addresses_end ip l ≤ length bytes.now) }
-    ensures value { text.new ≡ text.old ++ ip_endpoints ip l bytes.now ports }
+    requires there { (start ≤ longest_header) × (addresses_end ip start ≤ length bytes.now) }
+    ensures value { text.new ≡ text.old ++ ip_endpoints ip start bytes.now ports }
     ensures bound { length text.new ≤ length text.old + 117 }
 {
-    let header = layout_of(ip);
-    let source = l + header.addresses;
+    let layout = layout_of(ip);
+    let source = start + layout.addresses;
+    // The ports of the source and of the destination.
     let (from, to) = match ports {
         Some((from, to)) => (Some(from), Some(to)),
         None => (None, None),
@@ -148,35 +156,35 @@ fn push_endpoints(text: &mut Text, ip: Ip, bytes: &[u8], l: usize, ports: Option
     text.push(b' ');
     push_address_with_port(text, ip, bytes, source, from);
     text.push_all(b" > ");
-    push_address_with_port(text, ip, bytes, source + header.address_length, to);
+    push_address_with_port(text, ip, bytes, source + layout.address_length, to);
     text.push_all(b": ");
 }
 
 /// Whether an IPv4 packet is a later fragment, whose offset isn't 0, and so has no ports. Those of
 /// IPv6 are told by a header of their own, which isn't read.
-fn is_later_fragment(ip: Ip, bytes: &[u8], l: usize) -> bool
-    requires place { l ≤ longest_header }
-    requires there { addresses_end ip l ≤ length bytes.now }
-    ensures { result ≡ is_later_fragment ip l bytes.now }
+fn is_later_fragment(ip: Ip, bytes: &[u8], start: usize) -> bool
+    requires place { start ≤ longest_header }
+    requires there { addresses_end ip start ≤ length bytes.now }
+    ensures { result ≡ is_later_fragment ip start bytes.now }
 {
     match ip {
         // The lower 13 of the 16 bits from byte 6 on are the fragment's offset.
-        Ip::V4 => network_u16(bytes, l + 6) % 8192 != 0,
+        Ip::V4 => network_u16(bytes, start + 6) % 8192 != 0,
         Ip::V6 => false,
     }
 }
 
-/// Where the header at place `l` ends: one of IPv4 has four bytes for each unit of the lower half
-/// of its first byte.
-fn header_end(ip: Ip, bytes: &[u8], l: usize) -> usize
-    requires place { l ≤ longest_header }
-    requires there { addresses_end ip l ≤ length bytes.now }
-    ensures value { result ≡ header_end ip l bytes.now }
+/// Where the header of IP ends: one of IPv4 states its length, in units of four bytes, in the lower
+/// half of its first byte; one of IPv6 ends after its addresses.
+fn header_end(ip: Ip, bytes: &[u8], start: usize) -> usize
+    requires place { start ≤ longest_header }
+    requires there { addresses_end ip start ≤ length bytes.now }
+    ensures value { result ≡ header_end ip start bytes.now }
     ensures bound { result ≤ longest_header + 60 }
 {
     match ip {
-        Ip::V4 => 4 * (bytes[l] as usize % 16) + l,
-        Ip::V6 => addresses_end(ip, l),
+        Ip::V4 => 4 * (bytes[start] as usize % 16) + start,
+        Ip::V6 => addresses_end(ip, start),
     }
 }
 
@@ -187,8 +195,8 @@ fn has_ports(protocol: u8) -> bool
     protocol == IPPROTO_TCP || protocol == IPPROTO_UDP
 }
 
-/// The source's and the destination's port, in the four bytes from a place, if the protocol has
-/// ports and they are captured.
+/// The source's and the destination's port, in the four bytes from place `at`; `None` where the
+/// protocol has no ports or they aren't captured.
 fn ports_at(protocol: u8, bytes: &[u8], at: usize) -> Option<(u16, u16)>
     requires { at ≤ longest_header + 60 }
     ensures { result ≡ ports_at protocol at bytes.now }
@@ -200,72 +208,72 @@ fn ports_at(protocol: u8, bytes: &[u8], at: usize) -> Option<(u16, u16)>
     }
 }
 
-/// Appends what is said of the header of IP at place `l`: `IP A > B: ` with the protocol, with
-/// `fragment` of a later one, or `IP [short]` where the addresses aren't captured.
+/// Appends what a line says of a header of IP: `IP A > B: ` with the protocol, or with `fragment`
+/// of a later one; `IP [short]` where the addresses aren't captured.
 // Inlined with what it calls, so that the version is a constant in each copy.
 #[inline(always)]
 #[tactic(auto, unfolding(crate::specs::Network::ip_part))]
-fn push_ip_part(text: &mut Text, ip: Ip, bytes: &[u8], l: usize)
+fn push_ip_part(text: &mut Text, ip: Ip, bytes: &[u8], start: usize)
     requires room { length text.old + 133 ≤ 256 }
-    requires place { l ≤ longest_header }
-    ensures value { text.new ≡ text.old ++ ip_part ip l bytes.now }
+    requires place { start ≤ longest_header }
+    ensures value { text.new ≡ text.old ++ ip_part ip start bytes.now }
     ensures bound { length text.new ≤ length text.old + 133 }
 {
-    if bytes.len() < addresses_end(ip, l) {
+    if bytes.len() < addresses_end(ip, start) {
         push_ip_name(text, ip);
         text.push_all(b" [short]");
         return;
     }
-    if is_later_fragment(ip, bytes, l) {
-        push_endpoints(text, ip, bytes, l, None);
+    if is_later_fragment(ip, bytes, start) {
+        push_endpoints(text, ip, bytes, start, None);
         text.push_all(b"fragment");
         return;
     }
-    let protocol = bytes[l + layout_of(ip).protocol];
-    let ports = ports_at(protocol, bytes, header_end(ip, bytes, l));
-    push_endpoints(text, ip, bytes, l, ports);
+    let protocol = bytes[start + layout_of(ip).protocol];
+    let ports = ports_at(protocol, bytes, header_end(ip, bytes, start));
+    push_endpoints(text, ip, bytes, start, ports);
     push_protocol(text, ip, protocol);
 }
 
-/// Appends what is said of the ARP or RARP header at place `l`, after its name: its operation, and
-/// the IPv4 addresses of sender and target, at the places that RFC 826 gives with Ethernet; or
-/// `[short]` where its 28 bytes aren't all captured.
+/// Appends what a line says of an ARP or RARP header after its name: its operation (bytes 6 and 7),
+/// and the IPv4 addresses of sender and target (from bytes 14 and 24 on), as RFC 826 has them with
+/// Ethernet; or `[short]` where its 28 bytes aren't all captured.
 #[tactic(auto, unfolding(crate::specs::Network::arp_part))]
-fn push_arp_part(text: &mut Text, bytes: &[u8], l: usize)
+fn push_arp_part(text: &mut Text, bytes: &[u8], start: usize)
     requires room { length text.old + 120 ≤ 256 }
-    requires place { l ≤ longest_header }
-    ensures value { text.new ≡ text.old ++ arp_part l bytes.now }
+    requires place { start ≤ longest_header }
+    ensures value { text.new ≡ text.old ++ arp_part start bytes.now }
     ensures bound { length text.new ≤ length text.old + 120 }
 {
-    if bytes.len() < l + 28 {
+    if bytes.len() < start + 28 {
         text.push_all(b" [short]");
         return;
     }
-    push_name_and_number(text, b" op ", network_u16(bytes, l + 6) as u32);
+    push_name_and_number(text, b" op ", network_u16(bytes, start + 6) as u32);
     text.push_all(b" ");
-    push_ipv4(text, bytes, l + 14);
+    push_ipv4(text, bytes, start + 14);
     text.push_all(b" > ");
-    push_ipv4(text, bytes, l + 24);
+    push_ipv4(text, bytes, start + 24);
 }
 
-/// Appends what is said of a packet with this network header, which begins at place `l`.
+/// Appends what a line says of a packet with this network header.
 #[tactic(auto, unfolding(crate::specs::Network::header_part))]
-fn push_header_part(text: &mut Text, header: NetworkHeader, bytes: &[u8], l: usize)
+fn push_header_part(text: &mut Text, header: NetworkHeader, bytes: &[u8], start: usize)
     requires room { length text.old + 133 ≤ 256 }
-    requires place { l ≤ longest_header }
-    ensures value { text.new ≡ text.old ++ header_part header l bytes.now }
+    requires place { start ≤ longest_header }
+    ensures value { text.new ≡ text.old ++ header_part header start bytes.now }
     ensures bound { length text.new ≤ length text.old + 133 }
 {
     match header {
-        NetworkHeader::Known(NetworkKind::Ipv4) => push_ip_part(text, Ip::V4, bytes, l),
-        NetworkHeader::Known(NetworkKind::Ipv6) => push_ip_part(text, Ip::V6, bytes, l),
+        NetworkHeader::Known(NetworkKind::Ipv4) => push_ip_part(text, Ip::V4, bytes, start),
+        NetworkHeader::Known(NetworkKind::Ipv6) => push_ip_part(text, Ip::V6, bytes, start),
         NetworkHeader::Known(NetworkKind::Arp) => {
             text.push_all(b"ARP");
-            push_arp_part(text, bytes, l);
+            push_arp_part(text, bytes, start);
         }
         NetworkHeader::Known(NetworkKind::Rarp) => {
             text.push_all(b"RARP");
-            push_arp_part(text, bytes, l);
+            push_arp_part(text, bytes, start);
         }
         NetworkHeader::OtherType(ethertype) => {
             text.push_all(b"type 0x");
@@ -279,7 +287,7 @@ fn push_header_part(text: &mut Text, header: NetworkHeader, bytes: &[u8], l: usi
     }
 }
 
-/// Appends what is said of the captured bytes after the link header.
+/// Appends what a line says of the captured bytes after the link header.
 // With this inside, a job's step grows too large to be inlined itself.
 #[inline(never)]
 #[tactic(auto, unfolding(crate::specs::Network::network_part))]

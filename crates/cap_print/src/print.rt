@@ -20,8 +20,8 @@ pub struct Options {
 }
 
 /// Writes the line of a packet, and the rows of its bytes where they are asked for, by one
-/// `write_all` each. `text` is the buffer for them. An error is a failure of the device in this
-/// call, after a prefix of what is printed that isn't the whole.
+/// `write_all` each. `text` is the buffer in which line and rows are made. An error is a failure of
+/// the device in this call, after a prefix of what is printed that isn't the whole.
 pub fn print_packet<O: Output>(
     text: &mut Text,
     options: Options,

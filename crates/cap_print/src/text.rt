@@ -7,11 +7,14 @@ use std::marker::Model;
 /// How many bytes the buffer holds: a line has at most 250, a row fewer.
 const ROOM: usize = 256;
 
-/// At most 256 bytes, in place. Contracts see it as its bytes.
+/// A buffer of at most 256 bytes, in place. Contracts see it as its bytes; whoever appends knows
+/// that there is room.
 #[derive(Drop)]
 pub struct Text {
     bytes: [u8; ROOM],
+    /// How many of them there are; the others are of no use.
     len: usize,
+    /// The second that was printed last, with its date, for `push_date`.
     last: LastSecond,
 }
 
@@ -75,7 +78,7 @@ impl Text {
         self.len = end;
     }
 
-    /// Appends a number below 100 in decimal.
+    /// Appends a number below 100 in decimal, without leading zeros.
     #[inline]
     fn push_below_100(&mut self, number: u32)
         requires room { length self.old + 2 ≤ 256 }
@@ -90,7 +93,8 @@ impl Text {
         }
     }
 
-    /// Appends a number in decimal.
+    /// Appends a number in decimal, without leading zeros: at most ten digits.
+    // Below a million two digits at a time are looked up.
     pub(crate) fn push_decimal(&mut self, number: u32)
         requires { length self.old + 10 ≤ 256 }
         ensures value { self.new ≡ self.old ++ decimal number }
@@ -110,7 +114,8 @@ impl Text {
         }
     }
 
-    /// Appends any number in decimal. It is out of line since most numbers are below a million.
+    /// Appends any number in decimal, as `push_decimal` does, but digit by digit. It is out of line
+    /// since most numbers are below a million.
     #[inline(never)]
     fn push_any_decimal(&mut self, number: u32)
         requires { length self.old + 10 ≤ 256 }
