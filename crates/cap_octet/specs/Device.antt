@@ -13,8 +13,8 @@ abbrev pub failures_of : {X E : Type 0} → Result X E → ℕ
 failures_of (Ok value) = 0
 failures_of (Err fault) = 1
 
--- A device that is sure to give a number of bytes in all before it fails had given as many, and may
--- fail; one that never fails (None) may not.
+-- What holds where a device failed: it had given as many bytes in all as it was sure to. Of one that
+-- never fails (None) it can't hold.
 abbrev pub HasGiven : Option ℕ → ℕ → Type 0
 HasGiven None given = ⊥
 HasGiven (Some sure) given = sure ≤ given
