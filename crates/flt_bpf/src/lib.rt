@@ -14,6 +14,7 @@ mod machine;
 pub mod operation;
 pub mod program;
 mod reading;
+mod registers;
 pub mod wide;
 mod writing;
 
@@ -22,5 +23,6 @@ pub use insn::Insn;
 pub use machine::compute;
 pub use program::{Program, check, check_insns, run, run_any, run_insns};
 pub use reading::read_listing;
+pub use registers::{reads_accumulator, reads_index, sets_accumulator, sets_index};
 pub use wide::Wide;
 pub use writing::write_listing;

@@ -21,7 +21,6 @@ pub use follows::{is_there, same_accumulator, same_index, source};
 pub use note::{Both, Fact, Load, Note, Notes, Piece, Registers, Span, Term};
 pub use terms::{
     after, after_both, after_loads, after_new, after_old, is_jump, is_known, is_load, is_sure,
-    made_term, masked, reads_accumulator, reads_index, same_term, sets_accumulator, sets_index,
-    test_of,
+    made_term, masked, same_term, test_of,
 };
 pub use validator::replaces;

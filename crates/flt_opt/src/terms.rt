@@ -1,5 +1,5 @@
-//! What an operation does: which registers it reads and sets, whether it leads on, and what they
-//! hold then, as terms over the packet. `k` is the number in the instruction.
+//! What an operation does: whether it leads on, and what the registers hold then, as terms over the
+//! packet. `k` is the number in the instruction.
 //!
 //! The clauses cite definitions of the same names: the proofs show of these that a register holds
 //! what its term says after the machine's own step.
@@ -8,13 +8,13 @@ ghost use Rattle.std.specs.Prelude.{◌≡◌, IsTrue};
 ghost use Rattle.flt_opt.specs.inside.Terms.{after_indirect_load, combined_mask, masked};
 ghost use Rattle.flt_opt.specs.inside.Terms.{term_of_sum, after_arithmetic};
 ghost use Rattle.flt_opt.specs.inside.Terms.{accumulator_after, index_after, after, after_both};
-ghost use Rattle.flt_opt.specs.inside.Terms.{after_old, after_new, made_term, reads_accumulator};
-ghost use Rattle.flt_opt.specs.inside.Terms.{reads_index, sets_accumulator};
-ghost use Rattle.flt_opt.specs.inside.Terms.{sets_index, is_known, is_sure, is_jump, leads_on};
+ghost use Rattle.flt_opt.specs.inside.Terms.{after_old, after_new, made_term};
+ghost use Rattle.flt_opt.specs.inside.Terms.{is_known, is_sure, is_jump, leads_on};
 ghost use Rattle.flt_opt.specs.inside.Terms.{returns, test_of, after_loads, is_load};
 
 use crate::note::{Both, Load, Registers, Term};
 use flt_bpf::operation::{AluOperation, Operand, Operation, Register, Source, Test, Width};
+use flt_bpf::{sets_accumulator, sets_index};
 
 /// Whether something is known of a register that holds this term.
 pub fn is_known(term: Term) -> bool
@@ -168,60 +168,6 @@ pub fn is_jump(operation: Operation) -> bool
     ensures { result ≡ is_jump operation }
 {
     matches!(operation, Operation::Jump)
-}
-
-/// Whether what an operation does depends on A.
-pub fn reads_accumulator(operation: Operation) -> bool
-    ensures { result ≡ reads_accumulator operation }
-{
-    matches!(
-        operation,
-        Operation::Store(Register::Accumulator)
-            | Operation::Compute(_, _)
-            | Operation::Negate
-            | Operation::JumpIf(_, _)
-            | Operation::ReturnAccumulator
-            | Operation::CopyToIndex
-    )
-}
-
-/// Whether what an operation does depends on X.
-pub fn reads_index(operation: Operation) -> bool
-    ensures { result ≡ reads_index operation }
-{
-    matches!(
-        operation,
-        Operation::LoadIndirect(_)
-            | Operation::Store(Register::Index)
-            | Operation::Compute(_, Operand::IndexRegister)
-            | Operation::JumpIf(_, Operand::IndexRegister)
-            | Operation::CopyToAccumulator
-    )
-}
-
-/// Whether an operation puts something into A.
-pub fn sets_accumulator(operation: Operation) -> bool
-    ensures { result ≡ sets_accumulator operation }
-{
-    matches!(
-        operation,
-        Operation::LoadAbsolute(_)
-            | Operation::LoadIndirect(_)
-            | Operation::Load(Register::Accumulator, _)
-            | Operation::Compute(_, _)
-            | Operation::Negate
-            | Operation::CopyToAccumulator
-    )
-}
-
-/// Whether an operation puts something into X.
-pub fn sets_index(operation: Operation) -> bool
-    ensures { result ≡ sets_index operation }
-{
-    matches!(
-        operation,
-        Operation::Load(Register::Index, _) | Operation::LoadHeaderLength | Operation::CopyToIndex
-    )
 }
 
 /// What is known of both runs after each did an operation with the same operands: the register that

@@ -28,12 +28,12 @@ use crate::facts::{Knowledge, Learnt, decided, facts_in, outcome, outcomes_at_st
 use crate::follows::{both_fit, facts_follow, same_accumulator, same_index};
 use crate::note::{Both, Fact, Note, Notes, Registers, Term};
 use crate::terms::{
-    after_both, after_loads, after_new, after_old, is_known, is_load, leads_on, made_term,
-    reads_accumulator, reads_index, returns, same_term,
+    after_both, after_loads, after_new, after_old, is_known, is_load, leads_on, made_term, returns,
+    same_term,
 };
 use crate::walk::{MOST_STEPS, Stage, Start, goes_on, is_rejection, rejects, walk};
-use flt_bpf::Wide;
 use flt_bpf::operation::{AluOperation, Operand, Operation, Test, decode};
+use flt_bpf::{Wide, reads_accumulator, reads_index};
 
 /// From how many tests, one after the other, a walk goes both ways at most: as deep as a search by
 /// halves among 4,096 = 2^12 numbers.

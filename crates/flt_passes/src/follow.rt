@@ -6,9 +6,10 @@ use crate::graph::{Flow, Node};
 use crate::known::{Known, loads_from_packet};
 use crate::live::{Live, live_at};
 use flt_bpf::operation::Operation;
+use flt_bpf::{sets_accumulator, sets_index};
 use flt_opt::{
     Both, Knowledge, Learnt, Piece, Registers, Term, after, decided, is_known, is_sure, is_there,
-    made_term, outcome, sets_accumulator, sets_index,
+    made_term, outcome,
 };
 use std::alloc::{AllocError, Allocator};
 

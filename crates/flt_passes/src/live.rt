@@ -3,9 +3,9 @@
 //! is of no use any more.
 
 use crate::graph::{Node, place_after};
-use flt_bpf::Wide;
 use flt_bpf::operation::{Operation, Source, Width, decode};
-use flt_opt::{Term, reads_accumulator, reads_index, sets_accumulator, sets_index, source};
+use flt_bpf::{Wide, reads_accumulator, reads_index, sets_accumulator, sets_index};
+use flt_opt::{Term, source};
 use std::alloc::{AllocError, Allocator};
 
 /// What runs read from a place on.

@@ -2,11 +2,10 @@
 //! `flt_opt::validator`: here they find the notes that it then checks.
 
 use crate::known::loads_from_packet;
-use flt_bpf::Wide;
 use flt_bpf::operation::{AluOperation, Operand, Operation, Test, decode};
+use flt_bpf::{Wide, reads_accumulator, reads_index};
 use flt_opt::{
-    Both, Fact, is_known, is_load, is_sure, is_there, made_term, reads_accumulator, reads_index,
-    same_accumulator, same_index,
+    Both, Fact, is_known, is_load, is_sure, is_there, made_term, same_accumulator, same_index,
 };
 
 /// What the new run does where it reaches an instruction.

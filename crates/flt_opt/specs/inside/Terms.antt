@@ -4,7 +4,7 @@ use Rattle.std.specs.Prelude.{◌≡◌, ℕ, ◌+◌, ◌%◌, ◌^◌, Bool, t
 use Rattle.std.specs.Option.{option_map}
 use Rattle.flt_bpf.specs.declared.machine.State.{State}
 use Rattle.flt_bpf.specs.declared.operation.Operation.{Operation}
-use Rattle.flt_bpf.specs.declared.operation.Operation.TheVariants.{LoadAbsolute, LoadIndirect, Load as LoadRegister, LoadHeaderLength, Store, Compute, Negate, Jump, JumpIf, ReturnConstant, ReturnAccumulator, CopyToIndex, CopyToAccumulator}
+use Rattle.flt_bpf.specs.declared.operation.Operation.TheVariants.{LoadAbsolute, LoadIndirect, Load as LoadRegister, LoadHeaderLength, Compute, Negate, Jump, JumpIf, ReturnConstant, ReturnAccumulator, CopyToIndex, CopyToAccumulator}
 use Rattle.flt_bpf.specs.declared.operation.Register.TheVariants.{Accumulator, Index}
 use Rattle.flt_bpf.specs.declared.operation.Source.TheVariants.{Immediate, Memory, Length as OriginalLength}
 use Rattle.flt_bpf.specs.declared.operation.Width.{Width}
@@ -15,6 +15,7 @@ use Rattle.flt_bpf.specs.declared.operation.Operand.{Operand}
 use Rattle.flt_bpf.specs.declared.operation.Operand.TheVariants.{Constant, IndexRegister}
 use Rattle.flt_bpf.specs.declared.operation.Test.{Test}
 use Rattle.flt_bpf.specs.Machine.{field, header_length}
+use Rattle.flt_bpf.specs.inside.Registers.{reads_accumulator, reads_index, sets_accumulator, sets_index}
 use Rattle.flt_opt.specs.declared.note.Load.{Load}
 use Rattle.flt_opt.specs.declared.note.Term.{Term}
 use Rattle.flt_opt.specs.declared.note.Term.TheVariants.{Anything, Number, Length, Field, HeaderLength}
@@ -138,46 +139,10 @@ index_after _ k r = r.index
 abbrev pub after : Operation → ℕ → Registers → Registers
 after op k r = record { accumulator = accumulator_after op k r; index = index_after op k r }
 
--- what an operation does depends on A
-abbrev pub reads_accumulator : Operation → Bool
-reads_accumulator (Store Accumulator) = true
-reads_accumulator (Compute operator operand) = true
-reads_accumulator Negate = true
-reads_accumulator (JumpIf test operand) = true
-reads_accumulator ReturnAccumulator = true
-reads_accumulator CopyToIndex = true
-reads_accumulator _ = false
-
--- what an operation does depends on X
-abbrev pub reads_index : Operation → Bool
-reads_index (LoadIndirect width) = true
-reads_index (Store Index) = true
-reads_index (Compute operator IndexRegister) = true
-reads_index (JumpIf test IndexRegister) = true
-reads_index CopyToAccumulator = true
-reads_index _ = false
-
 -- two runs have the same in A and X where an operation reads them
 pub record Reads (op : Operation) (s t : State) : Type 0 where
   pub accumulator : reads_accumulator op ≡ true → s.accumulator ≡ t.accumulator
   pub index : reads_index op ≡ true → s.index ≡ t.index
-
--- an operation puts something into A
-abbrev pub sets_accumulator : Operation → Bool
-sets_accumulator (LoadAbsolute width) = true
-sets_accumulator (LoadIndirect width) = true
-sets_accumulator (LoadRegister Accumulator source) = true
-sets_accumulator (Compute operator operand) = true
-sets_accumulator Negate = true
-sets_accumulator CopyToAccumulator = true
-sets_accumulator _ = false
-
--- an operation puts something into X
-abbrev pub sets_index : Operation → Bool
-sets_index (LoadRegister Index source) = true
-sets_index LoadHeaderLength = true
-sets_index CopyToIndex = true
-sets_index _ = false
 
 -- what is known of both runs after both did an operation with the same operands: the register that
 -- it sets is the same in both
