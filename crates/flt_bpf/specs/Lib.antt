@@ -8,6 +8,7 @@ pub mod Listing
 pub mod Machine
 pub mod Message
 pub mod Refusal
+pub mod Registers
 pub mod RunByRules
 pub mod Valid
 pub mod inside

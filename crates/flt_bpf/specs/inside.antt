@@ -4,4 +4,3 @@ pub mod Flow
 pub mod Position
 pub mod Reach
 pub mod Reading
-pub mod Registers

@@ -1,8 +1,8 @@
 //! Which registers an operation reads, and which it sets.
 
 ghost use Rattle.std.specs.Prelude.{◌≡◌};
-ghost use Rattle.flt_bpf.specs.inside.Registers.{reads_accumulator, reads_index};
-ghost use Rattle.flt_bpf.specs.inside.Registers.{sets_accumulator, sets_index};
+ghost use Rattle.flt_bpf.specs.Registers.{reads_accumulator, reads_index};
+ghost use Rattle.flt_bpf.specs.Registers.{sets_accumulator, sets_index};
 
 use crate::operation::{Operand, Operation, Register};
 

@@ -23,7 +23,7 @@ use Rattle.flt_opt.specs.declared.note.Term.{Term}
 use Rattle.flt_opt.specs.declared.note.Term.TheVariants.{Anything, Number, Length, Field, HeaderLength}
 use Rattle.flt_opt.specs.declared.note.Registers.{Registers}
 use Rattle.flt_opt.specs.declared.note.Both.{Both}
-use Rattle.flt_bpf.specs.inside.Registers.{reads_index, sets_accumulator, sets_index}
+use Rattle.flt_bpf.specs.Registers.{reads_index, sets_accumulator, sets_index}
 use Rattle.flt_opt.specs.inside.Terms.{value, is_known, is_load, header_at, past, bare, under, There, Holds, Hold, Agree, after_indirect_load, combined_mask, masked, term_of_sum, after_arithmetic, accumulator_after, index_after, after, after_both, after_old, after_new, made_term, is_sure, Reads, leads_on}
 
 pub both_true : (a b : Bool) → (a && b) ≡ true → (a ≡ true) × (b ≡ true)

@@ -15,7 +15,7 @@ use Rattle.flt_bpf.specs.declared.operation.Operand.{Operand}
 use Rattle.flt_bpf.specs.declared.operation.Operand.TheVariants.{Constant, IndexRegister}
 use Rattle.flt_bpf.specs.declared.operation.Test.{Test}
 use Rattle.flt_bpf.specs.Machine.{field, header_length}
-use Rattle.flt_bpf.specs.inside.Registers.{reads_accumulator, reads_index, sets_accumulator, sets_index}
+use Rattle.flt_bpf.specs.Registers.{reads_accumulator, reads_index, sets_accumulator, sets_index}
 use Rattle.flt_opt.specs.declared.note.Load.{Load}
 use Rattle.flt_opt.specs.declared.note.Term.{Term}
 use Rattle.flt_opt.specs.declared.note.Term.TheVariants.{Anything, Number, Length, Field, HeaderLength}
