@@ -21,7 +21,7 @@ use Rattle.flt_short.specs.declared.facts.Fact.{Fact}
 use Rattle.flt_short.specs.declared.facts.Held.{Held}
 use Rattle.flt_short.specs.declared.facts.Held.TheVariants as held
 use Rattle.flt_short.specs.declared.facts.Known.{Known}
-use Rattle.flt_short.specs.inside.Facts.{nothing_claimed, nothing_known, same_mask, same_field, is_nothing, allows, entails_some, entails, one_of_two, joined_claim, joined_some, joined_fact, joined_held, same_header, joined_by, joined, says, first_said, decided, the_two, one_of, with_fact, captures, any_captures, holds_field, is_captured, claim_after, known_by, known_by_test}
+use Rattle.flt_short.specs.inside.Facts.{nothing_claimed, nothing_known, same_optional, same_field, claims_nothing, allows, entails_some, entails, one_of_two, joined_claim, joined_with_any, joined_fact, joined_held, common_header, joined_by, joined, outcome_by_claim, first_said, decided, the_two, two_numbers_of, with_fact, captures, any_captures, holds_field, is_captured, claim_after, known_by, known_by_test}
 use Rattle.flt_short.proofs.Basics.{by_test, both_true, either_true}
 
 -- what a field is
@@ -46,7 +46,7 @@ loaded_at _ p x k = None
 
 -- claims
 abbrev pub is_said : Claim → Option ℕ → Bool
-is_said c None = is_nothing c
+is_said c None = claims_nothing c
 is_said c (Some n) = allows c n
 
 pub numbers : (a b : ℕ) → (a == b) ≡ true → a ≡ b
@@ -55,7 +55,7 @@ numbers a b e = grind (arith, nat_tests)
 pub same_number : (v b : ℕ) → v ≡ b → (v == b) ≡ true
 same_number v b e = grind (arith, nat_tests)
 
-pub same_masks : (a b : Option ℕ) → same_mask a b ≡ true → a ≡ b
+pub same_masks : (a b : Option ℕ) → same_optional a b ≡ true → a ≡ b
 same_masks None None e = refl
 same_masks (Some a) (Some b) e = ap Some (numbers a b e)
 same_masks None (Some b) e = cc
@@ -63,13 +63,13 @@ same_masks (Some a) None e = cc
 
 pub same_value : (p : List ℕ) (f g : Field) → same_field f g ≡ true → value_of p f ≡ value_of p g
 same_value p f g e =
-    let q = both_true (f.code == g.code && f.k == g.k) (same_mask f.mask g.mask) e in
+    let q = both_true (f.code == g.code && f.k == g.k) (same_optional f.mask g.mask) e in
     let r = both_true (f.code == g.code) (f.k == g.k) q.0 in
     ap (λ c. value_at p c f.k f.mask) (numbers f.code g.code r.0)
     ∙ ap (λ k. value_at p g.code k f.mask) (numbers f.k g.k r.1)
     ∙ ap (value_at p g.code g.k) (same_masks f.mask g.mask q.1)
 
-nothing_allows : (c : Claim) (n : ℕ) → is_nothing c ≡ true → allows c n ≡ true
+nothing_allows : (c : Claim) (n : ℕ) → claims_nothing c ≡ true → allows c n ≡ true
 nothing_allows Nothing n e = refl
 nothing_allows _ n e = cc
 
@@ -77,7 +77,7 @@ pub nothing_said : (o : Option ℕ) → is_said Nothing o ≡ true
 nothing_said None = refl
 nothing_said (Some n) = refl
 
-silent : (c : Claim) (o : Option ℕ) → is_nothing c ≡ true → is_said c o ≡ true
+silent : (c : Claim) (o : Option ℕ) → claims_nothing c ≡ true → is_said c o ≡ true
 silent c None e = e
 silent c (Some n) e = nothing_allows c n e
 
@@ -98,15 +98,15 @@ some_entails (IsOneOf a b) d n e h =
       | inr i ↦ subst (λ m. allows d m ≡ true) (sym (numbers n b i)) q.1
     ]
 
-some_of_nothing : (c d : Claim) → entails_some c d ≡ true → is_nothing c ≡ true → is_nothing d ≡ true
+some_of_nothing : (c d : Claim) → entails_some c d ≡ true → claims_nothing c ≡ true → claims_nothing d ≡ true
 some_of_nothing Nothing d e h = cc
 some_of_nothing (Is a) d e h = cc
 some_of_nothing (IsNot a) d e h = cc
 some_of_nothing (IsOneOf a b) d e h = cc
 
 entailed : (c d : Claim) (o : Option ℕ) → entails c d ≡ true → is_said c o ≡ true → is_said d o ≡ true
-entailed c d None e h = elim (either_true (is_nothing d) (entails_some c d) e) [ inl i ↦ i | inr i ↦ some_of_nothing c d i h ]
-entailed c d (Some n) e h = elim (either_true (is_nothing d) (entails_some c d) e) [ inl i ↦ nothing_allows d n i | inr i ↦ some_entails c d n i h ]
+entailed c d None e h = elim (either_true (claims_nothing d) (entails_some c d) e) [ inl i ↦ i | inr i ↦ some_of_nothing c d i h ]
+entailed c d (Some n) e h = elim (either_true (claims_nothing d) (entails_some c d) e) [ inl i ↦ nothing_allows d n i | inr i ↦ some_entails c d n i h ]
 
 first_true : (a b : Bool) → a ≡ true → (a || b) ≡ true
 first_true a b e = ap (λ z. z || b) e
@@ -149,7 +149,7 @@ not_allowed c n v b h =
     (λ none. λ _. none ∙ is_b)
     (by_test (λ (z : Bool). (v == n) ≡ z) (v == n) true false (λ yes. yes) (λ none. none)))
 
-says_right : (c : Claim) (n v : ℕ) (b : Bool) → allows c v ≡ true → says c n ≡ Some b → (v == n) ≡ b
+says_right : (c : Claim) (n v : ℕ) (b : Bool) → allows c v ≡ true → outcome_by_claim c n ≡ Some b → (v == n) ≡ b
 says_right (Is a) n v b h e =
     let is_b : (a == n) ≡ b = cc in
     ap (λ m. m == n) (numbers v a h) ∙ is_b
@@ -165,26 +165,26 @@ module _ (p : List ℕ) where
   AllSay [] = Unit {0}
   AllSay (x ∷ xs) = Says x × AllSay xs
 
-  some_left : (x : Fact) (ys : List Fact) → Says x → Says (joined_some x ys)
+  some_left : (x : Fact) (ys : List Fact) → Says x → Says (joined_with_any x ys)
   some_left x [] h = nothing_said (value_of p nothing_claimed.field)
   some_left x (y ∷ ys) h =
-      by_test Says (same_field x.field y.field && not (is_nothing (joined_claim x.claim y.claim))) _ (joined_some x ys)
+      by_test Says (same_field x.field y.field && not (claims_nothing (joined_claim x.claim y.claim))) _ (joined_with_any x ys)
       (λ _. joined_left x.claim y.claim (value_of p x.field) h)
       (λ _. some_left x ys h)
 
-  some_right : (x : Fact) (ys : List Fact) → AllSay ys → Says (joined_some x ys)
+  some_right : (x : Fact) (ys : List Fact) → AllSay ys → Says (joined_with_any x ys)
   some_right x [] h = nothing_said (value_of p nothing_claimed.field)
   some_right x (y ∷ ys) h =
-      by_test Says (same_field x.field y.field && not (is_nothing (joined_claim x.claim y.claim))) _ (joined_some x ys)
-      (λ t. let same = (both_true (same_field x.field y.field) (not (is_nothing (joined_claim x.claim y.claim))) t).0 in
+      by_test Says (same_field x.field y.field && not (claims_nothing (joined_claim x.claim y.claim))) _ (joined_with_any x ys)
+      (λ t. let same = (both_true (same_field x.field y.field) (not (claims_nothing (joined_claim x.claim y.claim))) t).0 in
       joined_right x.claim y.claim (value_of p x.field) (subst (λ o. is_said y.claim o ≡ true) (sym (same_value p x.field y.field same)) h.0))
       (λ _. some_right x ys h.1)
 
   fact_left : (x : Fact) (ys : List Fact) → Says x → Says (joined_fact x ys)
-  fact_left x ys h = by_test Says (is_nothing x.claim) x (joined_some x ys) (λ _. h) (λ _. some_left x ys h)
+  fact_left x ys h = by_test Says (claims_nothing x.claim) x (joined_with_any x ys) (λ _. h) (λ _. some_left x ys h)
 
   fact_right : (x : Fact) (ys : List Fact) → AllSay ys → Says (joined_fact x ys)
-  fact_right x ys h = by_test Says (is_nothing x.claim) x (joined_some x ys) (λ e. silent x.claim (value_of p x.field) e) (λ _. some_right x ys h)
+  fact_right x ys h = by_test Says (claims_nothing x.claim) x (joined_with_any x ys) (λ e. silent x.claim (value_of p x.field) e) (λ _. some_right x ys h)
 
   facts_left : (xs ys : List Fact) → AllSay xs → AllSay (map (λ x. joined_fact x ys) xs)
   facts_left [] ys h = tt
@@ -215,7 +215,7 @@ module _ (p : List ℕ) where
   decided_right [] f v n b h is = λ e. cc
   decided_right (x ∷ xs) f v n b h is =
       by_test (λ z. z ≡ Some b → (v == n) ≡ b) (same_field x.field f) _ _
-      (λ same. first_right (says x.claim n) (decided xs f n) b ((v == n) ≡ b) (says_right x.claim n v b (of_value x f v same is h.0)) (decided_right xs f v n b h.1 is))
+      (λ same. first_right (outcome_by_claim x.claim n) (decided xs f n) b ((v == n) ≡ b) (says_right x.claim n v b (of_value x f v same is h.0)) (decided_right xs f v n b h.1 is))
       (λ _. decided_right xs f v n b h.1 is)
 
   -- a field is one of two numbers
@@ -235,15 +235,15 @@ module _ (p : List ℕ) where
       subst (λ (t : ℕ × ℕ). IsEither f t.0 t.1) pair (record { number = q.0; is = q.1.0; either = q.1.1 })
   the_two_right _ f later two h g e = g e
 
-  pub one_of_right : (xs : List Fact) (f : Field) (two : ℕ × ℕ) → AllSay xs → one_of xs f ≡ Some two → IsEither f two.0 two.1
+  pub one_of_right : (xs : List Fact) (f : Field) (two : ℕ × ℕ) → AllSay xs → two_numbers_of xs f ≡ Some two → IsEither f two.0 two.1
   one_of_right [] f two h = λ e. cc
   one_of_right (x ∷ xs) f two h =
       by_test (λ z. z ≡ Some two → IsEither f two.0 two.1) (same_field x.field f) _ _
-      (λ same. the_two_right x.claim f (one_of xs f) two (subst (λ o. is_said x.claim o ≡ true) (same_value p x.field f same) h.0) (one_of_right xs f two h.1))
+      (λ same. the_two_right x.claim f (two_numbers_of xs f) two (subst (λ o. is_said x.claim o ≡ true) (same_value p x.field f same) h.0) (one_of_right xs f two h.1))
       (λ _. one_of_right xs f two h.1)
 
   -- what is captured
-  there : (c : Claim) (mask o : Option ℕ) → not (is_nothing c) ≡ true → is_said c (masked mask o) ≡ true → (v : ℕ) × (o ≡ Some v)
+  there : (c : Claim) (mask o : Option ℕ) → not (claims_nothing c) ≡ true → is_said c (masked mask o) ≡ true → (v : ℕ) × (o ≡ Some v)
   there c mask (Some v) n h = (v, refl)
   there Nothing None None n h = cc
   there (Is a) None None n h = cc
@@ -260,7 +260,7 @@ module _ (p : List ℕ) where
 
   there_by : (x : Fact) (code k : ℕ) → Says x → captures x code k ≡ true → IsThere code k
   there_by x code k h e =
-      let q = both_true (x.field.code == code && x.field.k == k) (not (is_nothing x.claim)) e in
+      let q = both_true (x.field.code == code && x.field.k == k) (not (claims_nothing x.claim)) e in
       let r = both_true (x.field.code == code) (x.field.k == k) q.0 in
       let t = there x.claim x.field.mask (loaded (operation_of x.field.code) p x.field.k) q.1 h in
       (t.0, ap (λ m. loaded (operation_of m) p k) (sym (numbers x.field.code code r.0)) ∙ ap (loaded (operation_of x.field.code) p) (sym (numbers x.field.k k r.1)) ∙ t.1)
@@ -302,11 +302,11 @@ module _ (p : List ℕ) where
       (λ _. tt)
   held_right _ _ s x = tt
 
-  index_left : (a b : Option ℕ) (n : ℕ) → IndexHolds a n → IndexHolds (same_header a b) n
-  index_left a b n x = by_test (λ o. IndexHolds o n) (same_mask a b) a None (λ _. x) (λ _. tt)
+  index_left : (a b : Option ℕ) (n : ℕ) → IndexHolds a n → IndexHolds (common_header a b) n
+  index_left a b n x = by_test (λ o. IndexHolds o n) (same_optional a b) a None (λ _. x) (λ _. tt)
 
-  index_right : (a b : Option ℕ) (n : ℕ) → IndexHolds b n → IndexHolds (same_header a b) n
-  index_right a b n x = by_test (λ o. IndexHolds o n) (same_mask a b) a None (λ e. subst (λ o. IndexHolds o n) (sym (same_masks a b e)) x) (λ _. tt)
+  index_right : (a b : Option ℕ) (n : ℕ) → IndexHolds b n → IndexHolds (common_header a b) n
+  index_right a b n x = by_test (λ o. IndexHolds o n) (same_optional a b) a None (λ e. subst (λ o. IndexHolds o n) (sym (same_masks a b e)) x) (λ _. tt)
 
   by_left : (h : Held) (k came : Known) (s : State) → HeldHolds h s → Holds k s → Holds (joined_by h k came) s
   by_left held.Unreached k came s x y = absurd x
@@ -367,7 +367,7 @@ module _ (p : List ℕ) where
 
   tested_field : (k : Known) (f : Field) (n : ℕ) (outcome : Bool) (s : State) → Holds k s → value_of p f ≡ Some s.accumulator → (s.accumulator == n) ≡ outcome → Holds (known_by k f n outcome) s
   tested_field k f n outcome s y is e =
-      fact_holds k f _ s y (subst (λ o. is_said (claim_after outcome n (one_of k.facts f)) o ≡ true) (sym is) (claimed outcome s.accumulator n f (one_of k.facts f) is (λ two. λ g. one_of_right k.facts f two y.facts g) e))
+      fact_holds k f _ s y (subst (λ o. is_said (claim_after outcome n (two_numbers_of k.facts f)) o ≡ true) (sym is) (claimed outcome s.accumulator n f (two_numbers_of k.facts f) is (λ two. λ g. one_of_right k.facts f two y.facts g) e))
 
   tested_by : (t : Test) (o : Operand) (h : Held) (k : Known) (i : Insn) (outcome : Bool) (s : State) → HeldHolds h s → Holds k s → test_holds t s.accumulator (operand_value o i.k s.index) ≡ outcome → Holds (known_by_test (Some (JumpIf t o)) h k i.k outcome) s
   tested_by Equal Constant (held.Field f) k i outcome s x y e = tested_field k f i.k outcome s y x e

@@ -21,7 +21,7 @@ use Rattle.flt_short.specs.declared.alike.Landing.{Landing}
 use Rattle.flt_bpf.specs.Check.{IsValidUnlessLong}
 use Rattle.flt_bpf.specs.Layout.{JUMP, is_branch}
 use Rattle.flt_short.specs.Alike.{Shortens}
-use Rattle.flt_short.specs.inside.Alike.{MASK, EQUAL, reads_accumulator, reads_index, implies, landing_fits_at, landing_fits, goes_on, same_step, one_test, ANY_BIT, direct_code, is_number, direct_load, is_indirect, adds_header, loads_alike, header_load, code_from, stands_at, stands, are_alike, begins}
+use Rattle.flt_short.specs.inside.Alike.{MASK, EQUAL, reads_accumulator, reads_index, implies, landing_fits_at, landing_fits, goes_on, same_step, one_test, ANY_BIT, direct_code, is_code, direct_load, is_indirect, adds_header, loads_alike, header_load, code_from, stands_at, stands, are_alike, begins}
 use Rattle.flt_bpf.specs.Answer.{answer_of, answer_after}
 use Rattle.flt_bpf.proofs.Checking.{parts}
 use Rattle.flt_bpf.proofs.Suffix.{answer_drop, machine_answers, valid_if_short}
@@ -351,7 +351,7 @@ module _ (p : List ℕ) (n : ℕ) where
     indirect : operation_of old ≡ Some (LoadIndirect width)
     absolute : operation_of new ≡ Some (LoadAbsolute width)
 
-  direct_is : (old new : ℕ) (o : Option Operation) → operation_of old ≡ o → is_number (direct_code o) new ≡ true → Direct old new
+  direct_is : (old new : ℕ) (o : Option Operation) → operation_of old ≡ o → is_code (direct_code o) new ≡ true → Direct old new
   direct_is old new (Some (LoadIndirect w)) e f =
       let same : code_of (LoadAbsolute w) ≡ new = grind (arith, nat_tests) in
       record { width = w; indirect = e; absolute = ap operation_of (sym same) ∙ absolute_is w }
@@ -360,10 +360,10 @@ module _ (p : List ℕ) (n : ℕ) where
   direct_good : (c is : List Insn) (ls : List Landing) (l : Landing) (u v : Insn) (all : AllLand c (u ∷ v ∷ is) ls) (low : l.place ≤ length c) (j i : Insn) → direct_load j l i (u ∷ v ∷ is) ls ≡ true → (s : State) (a x : ℕ) → AsGood (j ∷ tail c (l.place - 1)) (i ∷ u ∷ v ∷ is) p n 0 0 (other s a x) s
   unfolding direct_load
   direct_good c is ls l u v all low j i f s a x =
-      let q = both_true ((i.code == 0 && u.code == 7) && (is_number (direct_code (operation_of v.code)) j.code && (i.k + v.k) % 2 ^ 32 == j.k)) (landing_fits ls 2 0 l.place true false) f in
-      let r = both_true (i.code == 0 && u.code == 7) (is_number (direct_code (operation_of v.code)) j.code && (i.k + v.k) % 2 ^ 32 == j.k) q.0 in
+      let q = both_true ((i.code == 0 && u.code == 7) && (is_code (direct_code (operation_of v.code)) j.code && (i.k + v.k) % 2 ^ 32 == j.k)) (landing_fits ls 2 0 l.place true false) f in
+      let r = both_true (i.code == 0 && u.code == 7) (is_code (direct_code (operation_of v.code)) j.code && (i.k + v.k) % 2 ^ 32 == j.k) q.0 in
       let ra = both_true (i.code == 0) (u.code == 7) r.0 in
-      let rb = both_true (is_number (direct_code (operation_of v.code)) j.code) ((i.k + v.k) % 2 ^ 32 == j.k) r.1 in
+      let rb = both_true (is_code (direct_code (operation_of v.code)) j.code) ((i.k + v.k) % 2 ^ 32 == j.k) r.1 in
       let x0 = ra.0 in
       let x1 = ra.1 in
       let x2 = rb.1 in

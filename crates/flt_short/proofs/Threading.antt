@@ -25,8 +25,8 @@ use Rattle.flt_short.specs.declared.facts.Held.TheVariants as held_variant
 use Rattle.flt_short.specs.declared.facts.Known.{Known}
 use Rattle.flt_short.specs.declared.arrivals.Arrivals.{Arrivals}
 use Rattle.flt_short.specs.inside.Arrivals.{at_start, first_at, known_at, arrived, ended}
-use Rattle.flt_short.specs.inside.Facts.{nothing_known, masked_by, masked_held, held_if_some, without_index, known_after, known_by_test}
-use Rattle.flt_short.specs.inside.Threads.{ends, ends_at, came, moved, threaded_by, threaded_if, threaded_insn, with_arrivals_by, with_arrivals_if, with_arrivals, flow, threaded}
+use Rattle.flt_short.specs.inside.Facts.{nothing_known, masked_by, masked_held, held_if_some, held_without_index, known_after, known_by_test}
+use Rattle.flt_short.specs.inside.Threads.{ends, ends_at, came, threaded_offset, threaded_by, threaded_if, threaded_insn, with_arrivals_by, with_arrivals_if, with_arrivals, flow, threaded}
 use Rattle.flt_short.proofs.Basics.{by_test, both_true}
 use Rattle.flt_short.proofs.Arriving.{HoldsAt, start_holds, raised_at, raised_keeps}
 use Rattle.flt_short.proofs.Flow.{by_code, threaded_code}
@@ -96,7 +96,7 @@ module _ (p : List ℕ) (n : ℕ) where
     way_same false v w x y s f g = g refl
 
   -- A where X is another number
-  without : (h : Held) (s : State) (x : ℕ) → HeldHolds p h s → HeldHolds p (without_index h) (record s { index = x })
+  without : (h : Held) (s : State) (x : ℕ) → HeldHolds p h s → HeldHolds p (held_without_index h) (record s { index = x })
   without held_variant.Unreached s x y = y
   without held_variant.Unknown s x y = tt
   without (held_variant.Field f) s x y = y
@@ -123,7 +123,7 @@ module _ (p : List ℕ) (n : ℕ) where
     anyhow op v e = subst (λ g. Holds p g (record s { accumulator = v })) (sym e) (record { a = tt; x = x.x; facts = x.facts })
 
     -- X is
-    elsewhere : (v : ℕ) → Holds p (record { held = without_index k.held; index = None; facts = k.facts }) (record s { index = v })
+    elsewhere : (v : ℕ) → Holds p (record { held = held_without_index k.held; index = None; facts = k.facts }) (record s { index = v })
     elsewhere v = record { a = without k.held s v x.a; x = tt; facts = x.facts }
 
     stays : (m : List ℕ) → Holds p (record { held = k.held; index = k.index; facts = k.facts }) (record s { memory = m })
@@ -147,8 +147,8 @@ module _ (p : List ℕ) (n : ℕ) where
     here (Some (JumpIf t o)) e f =
         let yes = known_by_test (Some (JumpIf t o)) k.held k i.k true in
         let other = known_by_test (Some (JumpIf t o)) k.held k i.k false in
-        let a = moved yes is i.jt in
-        let b = moved other is i.jf in
+        let a = threaded_offset yes is i.jt in
+        let b = threaded_offset other is i.jf in
         way_same d is (test_holds t s.accumulator (operand_value o i.k s.index)) a b i.jt i.jf s
         (λ g. let h = tested p t o k i true s x g in
         let there : from ≤ from + a = omega arith in
@@ -260,16 +260,16 @@ passes : (b : Bool) (f : CheckFault) → unless b f ≡ None → b ≡ true
 passes true f e = refl
 passes false f e = cc
 
-is_moved_inside : (k : Known) (is : List Insn) (to : ℕ) → nat_lt to (length is) ≡ true → nat_lt (moved k is to) (length is) ≡ true
+is_moved_inside : (k : Known) (is : List Insn) (to : ℕ) → nat_lt to (length is) ≡ true → nat_lt (threaded_offset k is to) (length is) ≡ true
 is_moved_inside k is to l =
     let low : to < length is = grind (arith, nat_tests) in
     let inside = moved_inside [] 0 is k to low in
     grind (arith, nat_tests)
 
-both_inside : (k g : Known) (i : Insn) (is : List Insn) (f : CheckFault) → unless (nat_lt i.jt (length is) && nat_lt i.jf (length is)) f ≡ None → unless (nat_lt (moved k is i.jt) (length is) && nat_lt (moved g is i.jf) (length is)) f ≡ None
+both_inside : (k g : Known) (i : Insn) (is : List Insn) (f : CheckFault) → unless (nat_lt i.jt (length is) && nat_lt i.jf (length is)) f ≡ None → unless (nat_lt (threaded_offset k is i.jt) (length is) && nat_lt (threaded_offset g is i.jf) (length is)) f ≡ None
 both_inside k g i is f e =
     let q = both_true (nat_lt i.jt (length is)) (nat_lt i.jf (length is)) (passes _ f e) in
-    ap (λ x. unless (x && nat_lt (moved g is i.jf) (length is)) f) (is_moved_inside k is i.jt q.0) ∙ ap (λ x. unless x f) (is_moved_inside g is i.jf q.1)
+    ap (λ x. unless (x && nat_lt (threaded_offset g is i.jf) (length is)) f) (is_moved_inside k is i.jt q.0) ∙ ap (λ x. unless x f) (is_moved_inside g is i.jf q.1)
 
 moved_fault : (op : Option Operation) (k : Known) (i : Insn) (is : List Insn) → fault_if_known op i (length is) ≡ None → fault_if_known op (threaded_by op k i is) (length is) ≡ None
 moved_fault (Some (JumpIf t o)) k i is e = both_inside _ _ i is _ e

@@ -23,8 +23,8 @@ use Rattle.flt_short.specs.declared.facts.Held.TheVariants as held
 use Rattle.flt_short.specs.declared.facts.Known.{Known}
 use Rattle.flt_short.specs.declared.thread.Spot.{Spot}
 use Rattle.flt_short.specs.declared.thread.Reached.{Reached}
-use Rattle.flt_short.specs.inside.Facts.{same_field, decided, one_of, with_fact, is_captured, masked_field, masked_by}
-use Rattle.flt_short.specs.inside.Threads.{field_at, away, spot_at, past_decided, past_test_of, past_masked, past_mask_of, holds_load, holds_header, step, ignores_accumulator, ignores_accumulator_if_there, is_free_by, is_free_at, is_free, can_stop, step_if_there, walk_on, walk, FUEL, walked, two_of, tests_at, two_at_field, two_at, target_by, target, moved}
+use Rattle.flt_short.specs.inside.Facts.{same_field, decided, two_numbers_of, with_fact, is_captured, masked_field, masked_by}
+use Rattle.flt_short.specs.inside.Threads.{field_at, other_field, spot_at, past_decided, past_test_of, past_masked, past_mask_of, holds_load, holds_header, past_insn, ignores_accumulator, ignores_accumulator_if_there, is_free_by, is_free_at, is_free, can_stop, step_if_there, walk_on, walk, FUEL, walk_from, two_of, tests_at, two_at_field, two_numbers_at, target_by, target, threaded_offset}
 use Rattle.flt_short.proofs.Basics.{by_test, both_true, either_true}
 use Rattle.flt_short.proofs.Knowing.{is_said, loaded, masked, value_at, value_of, loaded_at, numbers, same_value, same_number, HeldHolds, IndexHolds, Holds, IsEither, captured_there, decided_right, one_of_right, fact_holds}
 
@@ -140,7 +140,7 @@ module _ (p : List ℕ) (n : ℕ) where
     field_is held.Unknown None f s a x y e = cc
     field_is (held.AtIndex code k) None f s a x y e = cc
 
-    away_is : (h : Held) (f : Field) (s : State) (a : ℕ) → HeldHolds p h s → value_of p f ≡ Some a → AtSpot s (away h f) a
+    away_is : (h : Held) (f : Field) (s : State) (a : ℕ) → HeldHolds p h s → value_of p f ≡ Some a → AtSpot s (other_field h f) a
     away_is (held.Field g) f s a x y =
         by_test (λ o. AtSpot s o a) (same_field g f) None (Some f)
         (λ e. (let both : Some a ≡ Some s.accumulator = sym y ∙ sym (same_value p g f e) ∙ x in cc))
@@ -181,15 +181,15 @@ module _ (p : List ℕ) (n : ℕ) where
               subst (λ z. value_of p z ≡ Some (bit_and v m)) same (ap (masked (Some m)) plain)
           by (Some old) e' = let one : masked_by (Some old) f m ≡ Some g = ap (λ z. masked_by z f m) (sym e') ∙ e in cc
 
-      step_good : (op : Option Operation) (i : Insn) (spot next : Spot) → slice_get c spot.place ≡ Some i → operation_of i.code ≡ op → step op k i spot ≡ Some next → Walks s from spot → Walks s from next
+      step_good : (op : Option Operation) (i : Insn) (spot next : Spot) → slice_get c spot.place ≡ Some i → operation_of i.code ≡ op → past_insn op k i spot ≡ Some next → Walks s from spot → Walks s from next
       step_good (Some (LoadAbsolute w)) i spot next g o e r =
           by_test (λ z. z ≡ Some next → Walks s from next) (is_captured k i.code i.k) _ None
           (λ t. λ e'.
           let there = captured_there p k i.code i.k s holds t in
           let f : Field = record { code = i.code; k = i.k; mask = None } in
-          let same : spot_at (spot.place + 1) (away k.held f) ≡ next = cc in
+          let same : spot_at (spot.place + 1) (other_field k.held f) ≡ next = cc in
           let loads : field p i.k w ≡ Some there.0 = ap (λ z. loaded z p i.k) (sym o) ∙ there.1 in
-          subst (Walks s from) same (moves spot i (Some (LoadAbsolute w)) r 0 there.0 (spot_at (spot.place + 1) (away k.held f)) g o (by_field (field p i.k w) (with_a s r.a) there.0 loads) (away_is k.held f s there.0 holds.a there.1) (none_further spot.place)))
+          subst (Walks s from) same (moves spot i (Some (LoadAbsolute w)) r 0 there.0 (spot_at (spot.place + 1) (other_field k.held f)) g o (by_field (field p i.k w) (with_a s r.a) there.0 loads) (away_is k.held f s there.0 holds.a there.1) (none_further spot.place)))
           (λ _. λ e'. cc)
           e
       step_good (Some (LoadIndirect w)) i spot next g o e r =
@@ -212,9 +212,9 @@ module _ (p : List ℕ) (n : ℕ) where
           masked_on : (f : Field) (m : Option Field) → field_at k.held spot.other ≡ Some f → masked_field f i.k ≡ m → past_masked m k spot ≡ Some next → Walks s from next
           masked_on f None q u e' = cc
           masked_on f (Some h) q u e' =
-              let same : spot_at (spot.place + 1) (away k.held h) ≡ next = cc in
+              let same : spot_at (spot.place + 1) (other_field k.held h) ≡ next = cc in
               let is = field_is k.held spot.other f s r.a holds.a r.is q in
-              subst (Walks s from) same (moves spot i (Some (Compute arithmetic.And Constant)) r 0 (bit_and r.a i.k) (spot_at (spot.place + 1) (away k.held h)) g o refl (away_is k.held h s (bit_and r.a i.k) holds.a (masks f h i.k r.a u is)) (none_further spot.place))
+              subst (Walks s from) same (moves spot i (Some (Compute arithmetic.And Constant)) r 0 (bit_and r.a i.k) (spot_at (spot.place + 1) (other_field k.held h)) g o refl (away_is k.held h s (bit_and r.a i.k) holds.a (masks f h i.k r.a u is)) (none_further spot.place))
 
           by_mask : (m : Option Field) → field_at k.held spot.other ≡ m → past_mask_of m k i.k spot ≡ Some next → Walks s from next
           by_mask None q e' = cc
@@ -258,7 +258,7 @@ module _ (p : List ℕ) (n : ℕ) where
       walk_next : (go_on : Reached → Reached) (r : Reached) → Walks s from r.spot → IsSame r.best → ((q : Reached) → Walks s from q.spot → IsSame q.best → IsSame (go_on q).best) → IsSame (walk_on go_on c r (step_if_there (slice_get c r.spot.place) k r.spot)).best
       walk_next go_on r w e later = there (slice_get c r.spot.place) refl
         where
-          go : (i : Insn) (o : Option Spot) → slice_get c r.spot.place ≡ Some i → step (operation_of i.code) k i r.spot ≡ o → IsSame (walk_on go_on c r o).best
+          go : (i : Insn) (o : Option Spot) → slice_get c r.spot.place ≡ Some i → past_insn (operation_of i.code) k i r.spot ≡ o → IsSame (walk_on go_on c r o).best
           go i None g q = e
           go i (Some spot) g q =
               let next = step_good (operation_of i.code) i r.spot spot g refl q w in
@@ -266,14 +266,14 @@ module _ (p : List ℕ) (n : ℕ) where
 
           there : (o : Option Insn) → slice_get c r.spot.place ≡ o → IsSame (walk_on go_on c r (step_if_there o k r.spot)).best
           there None g = e
-          there (Some i) g = go i (step (operation_of i.code) k i r.spot) g refl
+          there (Some i) g = go i (past_insn (operation_of i.code) k i r.spot) g refl
 
       walk_same : (fuel : ℕ) (r : Reached) → Walks s from r.spot → IsSame r.best → IsSame (walk fuel k c r).best
       unfolding walk
       walk_same zero r w e = e
       walk_same (suc fuel) r w e = walk_next (walk fuel k c) r w e (λ q v f. walk_same fuel q v f)
 
-      walked_same : IsSame (walked k c from).best
+      walked_same : IsSame (walk_from k c from).best
       walked_same = walk_same FUEL (record { spot = spot_at from None; best = from }) (record { a = s.accumulator; is = refl; same = refl }) refl
 
     -- the walks end inside the code
@@ -292,45 +292,45 @@ module _ (p : List ℕ) (n : ℕ) where
     walk_inside zero k r l = l
     walk_inside (suc fuel) k r l = next_inside (walk fuel k c) r (step_if_there (slice_get c r.spot.place) k r.spot) l (λ q m. walk_inside fuel k q m)
 
-    walked_inside : (k : Known) (from : ℕ) → from < length c → (walked k c from).best < length c
+    walked_inside : (k : Known) (from : ℕ) → from < length c → (walk_from k c from).best < length c
     walked_inside k from l = walk_inside FUEL k (record { spot = spot_at from None; best = from }) l
 
     -- where a field is one of two numbers
     target_inside : (k : Known) (from : ℕ) → from < length c → target k c from < length c
-    target_inside k from l = by (two_at k c (walked k c from).spot)
+    target_inside k from l = by (two_numbers_at k c (walk_from k c from).spot)
       where
-        by : (o : Option (Field × ℕ × ℕ)) → target_by o k c from (walked k c from).best < length c
+        by : (o : Option (Field × ℕ × ℕ)) → target_by o k c from (walk_from k c from).best < length c
         by None = walked_inside k from l
         by (Some two) =
-            by_test (λ m. m < length c) ((walked (with_fact k two.0 (Is two.1)) c from).best == (walked (with_fact k two.0 (Is two.2)) c from).best) _ _
+            by_test (λ m. m < length c) ((walk_from (with_fact k two.0 (Is two.1)) c from).best == (walk_from (with_fact k two.0 (Is two.2)) c from).best) _ _
             (λ _. walked_inside (with_fact k two.0 (Is two.1)) from l)
             (λ _. walked_inside k from l)
 
     two_of_field : (k : Known) (s : State) (f : Option Field) (two : Field × ℕ × ℕ) → Holds p k s → two_at_field k f ≡ Some two → IsEither p two.0 two.1 two.2
     two_of_field k s None two h e = cc
-    two_of_field k s (Some f) two h e = by (one_of k.facts f) refl e
+    two_of_field k s (Some f) two h e = by (two_numbers_of k.facts f) refl e
       where
-        by : (o : Option (ℕ × ℕ)) → one_of k.facts f ≡ o → two_of f o ≡ Some two → IsEither p two.0 two.1 two.2
+        by : (o : Option (ℕ × ℕ)) → two_numbers_of k.facts f ≡ o → two_of f o ≡ Some two → IsEither p two.0 two.1 two.2
         by None q e' = cc
         by (Some pair) q e' =
             let same : (f, pair.0, pair.1) ≡ two = cc in
             subst (λ (t : Field × ℕ × ℕ). IsEither p t.0 t.1 t.2) same (one_of_right p k.facts f pair h.facts q)
 
-    two_is : (k : Known) (s : State) (end : Spot) (two : Field × ℕ × ℕ) → Holds p k s → two_at k c end ≡ Some two → IsEither p two.0 two.1 two.2
+    two_is : (k : Known) (s : State) (end : Spot) (two : Field × ℕ × ℕ) → Holds p k s → two_numbers_at k c end ≡ Some two → IsEither p two.0 two.1 two.2
     two_is k s end two h =
         by_test (λ o. o ≡ Some two → IsEither p two.0 two.1 two.2) (tests_at c end.place) (two_at_field k (field_at k.held end.other)) None
         (λ _. λ e. two_of_field k s (field_at k.held end.other) two h e)
         (λ _. λ e. cc)
 
     target_same : (k : Known) (from : ℕ) (s : State) → Holds p k s → answer_of c p n (target k c from) s ≡ answer_of c p n from s
-    target_same k from s h = by (two_at k c (walked k c from).spot) refl
+    target_same k from s h = by (two_numbers_at k c (walk_from k c from).spot) refl
       where
-        by : (o : Option (Field × ℕ × ℕ)) → two_at k c (walked k c from).spot ≡ o → answer_of c p n (target_by o k c from (walked k c from).best) s ≡ answer_of c p n from s
+        by : (o : Option (Field × ℕ × ℕ)) → two_numbers_at k c (walk_from k c from).spot ≡ o → answer_of c p n (target_by o k c from (walk_from k c from).best) s ≡ answer_of c p n from s
         by None q = walked_same k s h from
         by (Some two) q =
-            let first = walked (with_fact k two.0 (Is two.1)) c from in
-            let second = walked (with_fact k two.0 (Is two.2)) c from in
-            let is = two_is k s (walked k c from).spot two h q in
+            let first = walk_from (with_fact k two.0 (Is two.1)) c from in
+            let second = walk_from (with_fact k two.0 (Is two.2)) c from in
+            let is = two_is k s (walk_from k c from).spot two h q in
             let said = λ (a : ℕ) (e : is.number ≡ a). fact_holds p k two.0 (Is a) s h (subst (λ o. is_said (Is a) o ≡ true) (sym is.is) (same_number is.number a e)) in
             by_test (λ m. answer_of c p n m s ≡ answer_of c p n from s) (first.best == second.best) _ _
             (λ t. elim is.either [
@@ -339,13 +339,13 @@ module _ (p : List ℕ) (n : ℕ) where
             ])
             (λ _. walked_same k s h from)
 
-    pub moved_same : (k : Known) (from : ℕ) (s : State) → Holds p k s → answer_of c p n (moved k c from) s ≡ answer_of c p n from s
+    pub moved_same : (k : Known) (from : ℕ) (s : State) → Holds p k s → answer_of c p n (threaded_offset k c from) s ≡ answer_of c p n from s
     moved_same k from s h =
         by_test (λ m. answer_of c p n m s ≡ answer_of c p n from s) (nat_lt (target k c from) (2 ^ 32)) _ _
         (λ _. target_same k from s h)
         (λ _. refl)
 
-    pub moved_inside : (k : Known) (from : ℕ) → from < length c → moved k c from < length c
+    pub moved_inside : (k : Known) (from : ℕ) → from < length c → threaded_offset k c from < length c
     moved_inside k from l =
         by_test (λ m. m < length c) (nat_lt (target k c from) (2 ^ 32)) _ _
         (λ _. target_inside k from l)

@@ -7,7 +7,8 @@ use Rattle.flt_bpf.specs.Valid.{IsValid}
 use Rattle.flt_bpf.specs.Instructions.{operation_of}
 use Rattle.flt_bpf.specs.Layout.{is_branch, HasNoJump, JumpsAreNeeded}
 
--- a run reaches this answer in at most this many instructions
+-- on a packet `p` of original length n a run of a program reaches this answer in at most `most`
+-- instructions, and in no more than the program has
 pub record Comes (prog : List Insn) (p : List ℕ) (n answer most : ℕ) : Type 0 where
   pub count : ℕ
   pub answered : machine prog p n (length prog) ≡ Answered answer count
@@ -15,7 +16,8 @@ pub record Comes (prog : List Insn) (p : List ℕ) (n answer most : ℕ) : Type 
   pub inside : count ≤ length prog
 
 -- a program in place of an old one: it is no longer, has no more tests, and on each packet it gives
--- the same answer in no more instructions
+-- the same answer in no more instructions; it is valid if the old one is, and has no `ja` that
+-- isn't needed, or none, if that is so of the old one
 pub record Shortens (new old : List Insn) : Type 0 where
   pub shorter : length new ≤ length old
   pub fewer : count_by (λ i. is_branch (operation_of i.code)) new

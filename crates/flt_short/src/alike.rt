@@ -1,6 +1,10 @@
 //! Whether a program does what an old one does: instruction by instruction, with what is read. What
 //! an operation reads and sets `flt_opt` has too, which compares by notes; this crate stands alone.
-//! `after` are the old instructions after `old`, and `following` are their landings.
+//! `old` is an instruction of the old program, `after` are those after it, `following` the landings
+//! of these, and `new` is the instruction of the new program where that of `old` lands.
+//!
+//! Clauses cite definitions of the same names, which look as the code does; what follows from them
+//! is `Shortens`, the contract of `replaces`.
 
 ghost use Rattle.std.specs.Prelude.{◌≡◌, ◌≢◌, ◌↔◌, ◌-◌, ◌==◌, ◌&&◌, nat_lt, length, IsTrue, All};
 ghost use Rattle.flt_bpf.specs.Instructions.{operation_of};
@@ -8,13 +12,13 @@ ghost use Rattle.flt_short.specs.Alike.{Shortens};
 ghost use Rattle.flt_short.specs.inside.Alike.{reads_accumulator, reads_index};
 ghost use Rattle.flt_short.specs.inside.Alike.{sets_accumulator, sets_index, implies, landing_fits};
 ghost use Rattle.flt_short.specs.inside.Alike.{goes_on};
-ghost use Rattle.flt_short.specs.inside.Alike.{same_step, one_test, direct_code, is_number};
+ghost use Rattle.flt_short.specs.inside.Alike.{same_step, one_test, direct_code, is_code};
 ghost use Rattle.flt_short.specs.inside.Alike.{direct_load};
 ghost use Rattle.flt_short.specs.inside.Alike.{is_indirect, adds_header, loads_alike, header_load};
 ghost use Rattle.flt_short.specs.inside.Alike.{stands, are_alike, begins, MASK, EQUAL, ANY_BIT};
 ghost use Rattle.flt_bpf.specs.Layout.{JUMP};
 
-use crate::valid::{are_valid, count_tests};
+use crate::valid::{count_tests, is_valid_unless_long};
 use flt_bpf::Wide;
 use flt_bpf::operation::{AluOperation, Operand, Operation, Register, Source, Test, decode};
 
@@ -23,13 +27,13 @@ use flt_bpf::operation::{AluOperation, Operand, Operation, Register, Source, Tes
 pub struct Landing {
     /// The number of instructions of the new program from there to its end, or 0 for nowhere.
     pub place: usize,
-    /// A is read from there on before it is set, so both programs have the same in A there.
+    /// A is read from there on before it is set, so both programs have to have the same in A there.
     pub accumulator: bool,
-    /// X is.
+    /// X is read from there on before it is set, so both have to have the same in X there.
     pub index: bool,
 }
 
-/// Whether an operation reads A.
+/// Whether what an operation does depends on A.
 pub fn reads_accumulator(operation: Operation) -> bool
     ensures { result ≡ reads_accumulator operation }
 {
@@ -44,7 +48,7 @@ pub fn reads_accumulator(operation: Operation) -> bool
     )
 }
 
-/// Whether an operation reads X.
+/// Whether what an operation does depends on X.
 pub fn reads_index(operation: Operation) -> bool
     ensures { result ≡ reads_index operation }
 {
@@ -84,13 +88,13 @@ pub fn sets_index(operation: Operation) -> bool
 }
 
 /// Whether `other` holds if `one` does.
-fn implied(one: bool, other: bool) -> bool
+fn implies(one: bool, other: bool) -> bool
     ensures { result ≡ implies one other }
 {
     if one { other } else { true }
 }
 
-/// How far a way leads in both programs, each after an instruction.
+/// How far a way leads in both programs, from an instruction of each.
 #[derive(Clone, Copy)]
 struct Way {
     /// How many instructions it skips in the old program: an index of the landings after that one.
@@ -101,29 +105,31 @@ struct Way {
     pub place: usize,
 }
 
-/// Whether the way in the new program leads to a place.
-fn leads_to(way: Way, place: usize) -> bool
+/// Whether the way in the new program leads to a place, which is one: 0 is nowhere.
+fn leads_to_place(way: Way, place: usize) -> bool
     ensures { result ≡ ((nat_lt 0 place && nat_lt place way.place)
         && way.place - place - 1 == way.new) }
 {
     (0 < place && place < way.place) && way.place - place - 1 == way.new
 }
 
-/// Whether both ways lead to one landing, and what is read there is the same in both programs.
-/// `accumulator` and `index` are whether A and X are.
-fn fits(following: &[Landing], way: Way, accumulator: bool, index: bool) -> bool
+/// Whether a way leads to where the old program's instruction lands in the new one, and what is
+/// read from there on is the same in both programs. `accumulator` and `index` are whether A and X
+/// are the same.
+fn landing_fits(following: &[Landing], way: Way, accumulator: bool, index: bool) -> bool
     ensures { result ≡ landing_fits following.now way.old way.new way.place accumulator index }
 {
     match following.get(way.old) {
         None => false,
         Some(landing) => {
-            leads_to(way, landing.place)
-                && (implied(landing.accumulator, accumulator) && implied(landing.index, index))
+            leads_to_place(way, landing.place)
+                && (implies(landing.accumulator, accumulator) && implies(landing.index, index))
         }
     }
 }
 
-/// Whether both programs go on alike after an instruction that both have.
+/// Whether both programs go on alike after an instruction that both have, here with this operation:
+/// all its ways lead to landings that fit.
 fn goes_on(
     operation: Operation,
     new: Wide,
@@ -151,10 +157,11 @@ fn goes_on(
                 new: new.no as usize,
                 place,
             };
-            fits(following, yes, accumulator, index) && fits(following, no, accumulator, index)
+            landing_fits(following, yes, accumulator, index)
+                && landing_fits(following, no, accumulator, index)
         }
         Operation::ReturnConstant | Operation::ReturnAccumulator => true,
-        _ => fits(
+        _ => landing_fits(
             following,
             Way {
                 old: 0,
@@ -167,24 +174,25 @@ fn goes_on(
     }
 }
 
-/// Whether the instruction of the new program is that of the old one, and both go on alike.
+/// Whether the instruction of the new program is that of the old one, what it reads is the same in
+/// both, and both go on alike.
 #[tactic(auto, unfolding(crate::specs::inside::Alike::same_step))]
-fn same_step(new: Wide, landing: Landing, old: Wide, following: &[Landing]) -> bool
+fn is_same_step(new: Wide, landing: Landing, old: Wide, following: &[Landing]) -> bool
     ensures { result ≡ same_step (operation_of old.code) new landing old following.now }
 {
     match decode(old.code) {
         None => false,
         Some(operation) => {
             (old.code == new.code && old.k == new.k)
-                && (implied(reads_accumulator(operation), landing.accumulator)
-                    && implied(reads_index(operation), landing.index))
+                && (implies(reads_accumulator(operation), landing.accumulator)
+                    && implies(reads_index(operation), landing.index))
                 && goes_on(operation, new, landing, old, following)
         }
     }
 }
 
-/// Whether a test of bits means a mask, and a test of whether what is left is 0.
-fn tests_bits(new: Wide, mask: Wide, test: Wide) -> bool
+/// Whether `new` is a test of bits that asks what a mask and a test of what is left for 0 do.
+fn is_bits_test(new: Wide, mask: Wide, test: Wide) -> bool
     ensures { result ≡ ((mask.code == MASK && test.code == EQUAL)
         && (test.k == 0 && (new.code == ANY_BIT && mask.k == new.k))) }
 {
@@ -195,10 +203,16 @@ fn tests_bits(new: Wide, mask: Wide, test: Wide) -> bool
                 && mask.k == new.k))
 }
 
-/// Whether the new program has one test of bits for a mask and a test of what is left for 0, after
-/// which A isn't read.
+/// Whether the new program has one test of bits (`69 k`) for a mask and a test of what is left for
+/// 0 (`84 k`, `21 0`), after which A isn't read.
 #[tactic(auto, unfolding(crate::specs::inside::Alike::one_test))]
-fn one_test(new: Wide, landing: Landing, old: Wide, after: &[Wide], following: &[Landing]) -> bool
+fn is_one_test(
+    new: Wide,
+    landing: Landing,
+    old: Wide,
+    after: &[Wide],
+    following: &[Landing],
+) -> bool
     ensures { result ≡ one_test new landing old after.now following.now }
 {
     match after {
@@ -215,17 +229,18 @@ fn one_test(new: Wide, landing: Landing, old: Wide, after: &[Wide], following: &
                 new: new.yes as usize,
                 place,
             };
-            tests_bits(new, old, *test)
+            is_bits_test(new, old, *test)
                 && (landing.accumulator
-                    && (fits(following, zero, false, landing.index)
-                        && fits(following, other, false, landing.index)))
+                    && (landing_fits(following, zero, false, landing.index)
+                        && landing_fits(following, other, false, landing.index)))
         }
     }
 }
 
-/// Whether `code` is that of the load at a fixed place that is as wide as this one at X.
-fn is_direct(indirect: u16, code: u16) -> bool
-    ensures { result ≡ is_number (direct_code (operation_of indirect)) code }
+/// Whether `code` is that of the load at a fixed place that takes as many bytes as the load at X
+/// whose code is `indirect`.
+fn is_direct_code(indirect: u16, code: u16) -> bool
+    ensures { result ≡ is_code (direct_code (operation_of indirect)) code }
 {
     match decode(indirect) {
         Some(Operation::LoadIndirect(width)) => Operation::LoadAbsolute(width).code() == code,
@@ -237,7 +252,7 @@ fn is_direct(indirect: u16, code: u16) -> bool
 /// one: a number into A, A into X, a load at X (as `40 i + k` for `0 i`, `7`, `72 k`). X isn't read
 /// after them.
 #[tactic(auto, unfolding(crate::specs::inside::Alike::direct_load))]
-fn direct_load(
+fn is_direct_load(
     new: Wide,
     landing: Landing,
     old: Wide,
@@ -256,14 +271,15 @@ fn direct_load(
                 place: landing.place,
             };
             (old.code == number && to_index.code == copy)
-                && (is_direct(load.code, new.code) && old.k.wrapping_add(load.k) == new.k)
-                && fits(following, way, true, false)
+                && (is_direct_code(load.code, new.code) && old.k.wrapping_add(load.k) == new.k)
+                && landing_fits(following, way, true, false)
         }
         _ => false,
     }
 }
 
-/// Whether a number and the header length are added in A, and the sum goes to X.
+/// Whether four instructions put a number and a header's length into A and X, add them in A, and
+/// copy the sum to X.
 pub fn adds_header(number: Wide, length: Wide, add: Wide, to_index: Wide) -> bool
     ensures { result ≡ adds_header number length add to_index }
 {
@@ -273,7 +289,8 @@ pub fn adds_header(number: Wide, length: Wide, add: Wide, to_index: Wide) -> boo
             && to_index.code == Operation::CopyToIndex.code())
 }
 
-/// Whether both pairs load the same header's length, and then equally many bytes at X.
+/// Whether two pairs of instructions load the length of the same header, and then equally many
+/// bytes at X, each at its own `k`.
 fn loads_alike(old_length: Wide, new_length: Wide, old_load: Wide, new_load: Wide) -> bool
     ensures { result ≡ loads_alike old_length new_length old_load new_load }
 {
@@ -288,10 +305,11 @@ pub fn is_indirect(code: u16) -> bool
     matches!(decode(code), Some(Operation::LoadIndirect(_)))
 }
 
-/// Whether the new program has the header length and a load after it, for a number, the header
-/// length, their sum that goes to X by A, and a load at X, after which X isn't read.
+/// Whether the new program has a header's length and a load at X for five instructions: a number,
+/// the header's length, their sum, which goes to X, and a load at X (as `177 L`, `80 i + k` for
+/// `0 i`, `177 L`, `12`, `7`, `80 k`). X isn't read after them.
 #[tactic(auto, unfolding(crate::specs::inside::Alike::header_load))]
-fn header_load(
+fn is_header_load(
     new: &[Wide],
     landing: Landing,
     old: Wide,
@@ -310,14 +328,14 @@ fn header_load(
             adds_header(old, *header_length, *add, *to_index)
                 && (loads_alike(*header_length, *length, *indirect, *load)
                     && (old.k.wrapping_add(indirect.k) == load.k
-                        && fits(following, way, true, false)))
+                        && landing_fits(following, way, true, false)))
         }
         _ => false,
     }
 }
 
-/// Whether the code does at a landing, if it is one, what an instruction and those after it do, by
-/// one of four rules.
+/// Whether the code does at a landing what an instruction of the old code and those after it do, by
+/// one of four rules. An instruction that lands nowhere needs nothing.
 fn stands(code: &[Wide], landing: Landing, old: Wide, after: &[Wide], following: &[Landing]) -> bool
     ensures { result ≡ stands code.now landing old after.now following.now }
 {
@@ -332,10 +350,10 @@ fn stands(code: &[Wide], landing: Landing, old: Wide, after: &[Wide], following:
         [] => false,
         [new, ..] => {
             let new = *new;
-            (same_step(new, landing, old, following)
-                || one_test(new, landing, old, after, following))
-                || (direct_load(new, landing, old, after, following)
-                    || header_load(from, landing, old, after, following))
+            (is_same_step(new, landing, old, following)
+                || is_one_test(new, landing, old, after, following))
+                || (is_direct_load(new, landing, old, after, following)
+                    || is_header_load(from, landing, old, after, following))
         }
     }
 }
@@ -357,7 +375,7 @@ fn are_alike(code: &[Wide], old: &[Wide], landings: &[Landing]) -> bool
     true
 }
 
-/// Whether the first landing is where the code begins.
+/// Whether the first instruction of the old code lands where the new code, of this length, begins.
 fn begins(landings: &[Landing], len: usize) -> bool
     ensures { result ≡ begins landings.now len }
 {
@@ -367,7 +385,7 @@ fn begins(landings: &[Landing], len: usize) -> bool
     }
 }
 
-/// Whether no instruction is a jump (`ja` has the code 5).
+/// Whether no instruction of the code is a jump (`ja` has the code 5).
 fn has_no_jump(code: &[Wide]) -> bool
     ensures { IsTrue result ↔ All (λ i. i.code ≢ JUMP) code.now }
 {
@@ -388,5 +406,5 @@ pub fn replaces(code: &[Wide], old: &[Wide], landings: &[Landing]) -> bool
     if count_tests(code) > count_tests(old) {
         return false;
     }
-    has_no_jump(code) && are_valid(code)
+    has_no_jump(code) && is_valid_unless_long(code)
 }

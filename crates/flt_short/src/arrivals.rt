@@ -1,5 +1,7 @@
-//! What is known where runs go on, of a few places at a time. Here a place is an index from the
-//! beginning of the code, not a distance to its end as in `shorten.rt`.
+//! What is known where runs go on, of a few places at a time. Here a place is the index of an
+//! instruction from the beginning of the code, not a distance to its end as in `shorten.rt`. The
+//! code is read once, so a place before the one that is read is *passed*, and isn't asked for
+//! again.
 
 ghost use Rattle.std.specs.Prelude.{◌≡◌, ◌≤◌, ◌<◌, ◌-◌, ◌^◌, length};
 ghost use Rattle.flt_short.specs.inside.Arrivals.{first_at, first_free, known_at, arrived};
@@ -7,21 +9,21 @@ ghost use Rattle.flt_short.specs.inside.Arrivals.{at_start, ended};
 
 use crate::facts::{Known, join, nothing_known, unreached};
 
-/// Of how many places at a time is kept what is known there: on the stack, since the pass takes no
-/// memory. Few expressions lead to more.
+/// How many places are kept at a time, with what is known there: on the stack, since the pass takes
+/// no memory. Few expressions lead to more.
 pub const MOST_PLACES: usize = 8;
 
-/// What is known in the runs that go on at a place, of those seen so far.
+/// A place, and what is known in all runs that go on there, of those seen so far.
 #[derive(Clone, Copy)]
 pub struct Arrival {
     pub place: usize,
     pub known: Known,
 }
 
-/// What is known where runs go on.
+/// What is known at the places where runs go on.
 #[derive(Drop)]
 pub struct Arrivals {
-    /// What is known at each of these places. One that is passed gives way to another.
+    /// The places that are kept. One that is passed gives way to another.
     pub kept: [Arrival; MOST_PLACES],
     /// One more than the last place for which a run found no room. Of an earlier place that isn't
     /// kept nothing is known; no run has reached a later one.
@@ -42,7 +44,7 @@ impl Arrival {
         self.known = *known;
     }
 
-    /// Notes one more run that goes on there.
+    /// Notes one more run that goes on at this place, which is kept already.
     fn meet(&mut self, place: usize, known: &Known)
         ensures { self.new ≡ arrival place (joined self.old.known known.now) }
     {
@@ -51,7 +53,7 @@ impl Arrival {
     }
 }
 
-/// The index of the entry for a place, or their count if there is none.
+/// The index of the first entry for a place, or the number of entries if there is none.
 fn first_at(kept: &[Arrival], place: usize) -> usize
     ensures number { result ≡ first_at kept.now place }
     ensures upper_bound { result ≤ length kept.now }
@@ -68,7 +70,8 @@ fn first_at(kept: &[Arrival], place: usize) -> usize
     }
 }
 
-/// The index of the first entry whose place is passed, so that it is free, or their count.
+/// The index of the first entry that is free, since its place is before `from` and so is passed; or
+/// the number of entries if there is none.
 fn first_free(kept: &[Arrival], from: usize) -> usize
     ensures number { result ≡ first_free kept.now from }
     ensures upper_bound { result ≤ length kept.now }
@@ -86,7 +89,7 @@ fn first_free(kept: &[Arrival], from: usize) -> usize
 }
 
 impl Arrivals {
-    /// A run goes on at the first place, and nothing is known.
+    /// What is known before the code is read: a run goes on at place 0, and nothing is known there.
     pub fn at_start() -> Self
         ensures { result ≡ at_start }
     {
@@ -101,7 +104,8 @@ impl Arrivals {
         }
     }
 
-    /// What is known at a place.
+    /// What is known at a place: nothing where a run found no room for it, and that no run comes
+    /// there where none went on there.
     pub fn known_at(&self, place: usize) -> Known
         ensures { result ≡ known_at self.now place }
     {
@@ -115,8 +119,9 @@ impl Arrivals {
         }
     }
 
-    /// A run goes on at a place with this known. All places in front of `from` are passed, so that
-    /// their entries are free. Where none is, nothing is known at the place.
+    /// Notes that a run goes on at a place with this known. All places in front of `from` are
+    /// passed, so that their entries are free. Where no entry is free, nothing is known at the
+    /// place.
     pub fn arrive(&mut self, from: usize, place: usize, known: &Known)
         requires { place < 2 ^ 64 - 1 }
         ensures { self.new ≡ arrived self.old from place known.now }
@@ -137,8 +142,9 @@ impl Arrivals {
         }
     }
 
-    /// The same of a place where the run ends, if it isn't kept: what is known there is of no use.
-    pub fn end(&mut self, from: usize, place: usize)
+    /// Notes that a run reaches a place where it ends. What is known there is of no use, so a
+    /// place that is kept stays as it is, and another one is kept with nothing known.
+    pub fn arrive_at_end(&mut self, from: usize, place: usize)
         requires { place < 2 ^ 64 - 1 }
         ensures { self.new ≡ ended self.old from place }
     {

@@ -1,18 +1,23 @@
-//! What is known of a packet, and of A and X, where a run reaches an instruction.
+//! What is known of a packet, and of A and X, where a run reaches an instruction. Clauses cite
+//! definitions of the same names: the proofs show that what is known by these is so in each run.
+//!
+//! `code` and `k` are those of a load: together they say which bytes of the packet it takes.
 
 ghost use Rattle.std.specs.Prelude.{◌≡◌, ◌≤◌, length, map};
 ghost use Rattle.flt_bpf.specs.Instructions.{operation_of};
-ghost use Rattle.flt_short.specs.inside.Facts.{same_mask, same_field, is_nothing, allows, is_not};
+ghost use Rattle.flt_short.specs.inside.Facts.{same_optional, same_field, claims_nothing};
+ghost use Rattle.flt_short.specs.inside.Facts.{allows, denies};
 ghost use Rattle.flt_short.specs.inside.Facts.{entails};
-ghost use Rattle.flt_short.specs.inside.Facts.{joined_claim, nothing_claimed, joined_some};
+ghost use Rattle.flt_short.specs.inside.Facts.{joined_claim, nothing_claimed, joined_with_any};
 ghost use Rattle.flt_short.specs.inside.Facts.{joined_fact};
 ghost use Rattle.flt_short.specs.inside.Facts.{joined_held};
-ghost use Rattle.flt_short.specs.inside.Facts.{same_header, joined, says, decided, one_of};
+ghost use Rattle.flt_short.specs.inside.Facts.{common_header, joined, outcome_by_claim};
+ghost use Rattle.flt_short.specs.inside.Facts.{decided, two_numbers_of};
 ghost use Rattle.flt_short.specs.inside.Facts.{gives_way};
 ghost use Rattle.flt_short.specs.inside.Facts.{place_for, with_fact, captures, any_captures};
 ghost use Rattle.flt_short.specs.inside.Facts.{holds_field};
 ghost use Rattle.flt_short.specs.inside.Facts.{is_captured, masked_field, masked_held};
-ghost use Rattle.flt_short.specs.inside.Facts.{without_index};
+ghost use Rattle.flt_short.specs.inside.Facts.{held_without_index};
 ghost use Rattle.flt_short.specs.inside.Facts.{held_after, index_after, known_after, claim_after};
 ghost use Rattle.flt_short.specs.inside.Facts.{known_by_test, nothing_known, unreached};
 
@@ -22,8 +27,8 @@ use flt_bpf::operation::{AluOperation, Operand, Operation, Register, Test, decod
 /// How many facts are kept at a place. One more takes the place of another (`place_for`).
 pub const MOST_FACTS: usize = 5;
 
-/// A number of the packet: what the load with this code and this number puts into A, and of that
-/// the bits of a mask, if there is one.
+/// A number of the packet: what the load at a fixed place with this code and this `k` puts into A,
+/// and of that the bits of a mask, if there is one.
 #[derive(Clone, Copy)]
 pub struct Field {
     pub code: u16,
@@ -31,7 +36,8 @@ pub struct Field {
     pub mask: Option<u32>,
 }
 
-/// What is claimed of a number.
+/// What is claimed of a number: nothing, that it is this one, that it isn't, or that it is one of
+/// these two.
 #[derive(Clone, Copy)]
 pub enum Claim {
     Nothing,
@@ -47,7 +53,7 @@ pub struct Fact {
     pub claim: Claim,
 }
 
-/// What A holds.
+/// What A holds in each run that reaches a place.
 #[derive(Clone, Copy)]
 pub enum Held {
     /// No run comes there.
@@ -56,7 +62,7 @@ pub enum Held {
     Unknown,
     /// A field, which is captured.
     Field(Field),
-    /// What the load at X with this code and this number would put there.
+    /// What the load at X with this code and this `k` would put there.
     AtIndex(u16, u32),
 }
 
@@ -64,7 +70,7 @@ pub enum Held {
 #[derive(Clone, Copy)]
 pub struct Known {
     pub held: Held,
-    /// X holds the length of the header that begins there.
+    /// X holds the length of the IPv4 header that begins at this byte, if that is known.
     pub index: Option<u32>,
     pub facts: [Fact; MOST_FACTS],
 }
@@ -86,7 +92,7 @@ fn nothing_claimed() -> Fact
     }
 }
 
-/// Nothing is known.
+/// What is known at a place where runs come of which nothing is known.
 pub fn nothing_known() -> Known
     ensures { result ≡ nothing_known }
 {
@@ -97,7 +103,7 @@ pub fn nothing_known() -> Known
     }
 }
 
-/// No run comes there.
+/// What is known at a place where no run comes.
 pub fn unreached() -> Known
     ensures { result ≡ unreached }
 {
@@ -107,9 +113,9 @@ pub fn unreached() -> Known
     }
 }
 
-/// Whether two numbers that may be missing are the same: masks, or headers.
-fn same_mask(one: Option<u32>, other: Option<u32>) -> bool
-    ensures { result ≡ same_mask one other }
+/// Whether two numbers that may be missing are the same or both missing: masks, or headers.
+fn same_optional(one: Option<u32>, other: Option<u32>) -> bool
+    ensures { result ≡ same_optional one other }
 {
     match (one, other) {
         (None, None) => true,
@@ -118,19 +124,21 @@ fn same_mask(one: Option<u32>, other: Option<u32>) -> bool
     }
 }
 
+/// Whether two fields are the same bits of the same bytes, loaded by the same code.
 pub fn same_field(one: Field, other: Field) -> bool
     ensures { result ≡ same_field one other }
 {
-    (one.code == other.code && one.k == other.k) && same_mask(one.mask, other.mask)
+    (one.code == other.code && one.k == other.k) && same_optional(one.mask, other.mask)
 }
 
-fn is_nothing(claim: Claim) -> bool
-    ensures { result ≡ is_nothing claim }
+/// Whether a claim is none.
+fn claims_nothing(claim: Claim) -> bool
+    ensures { result ≡ claims_nothing claim }
 {
     matches!(claim, Claim::Nothing)
 }
 
-/// Whether a number is as claimed.
+/// Whether a number may be what is claimed.
 fn allows(claim: Claim, number: u32) -> bool
     ensures { result ≡ allows claim number }
 {
@@ -142,9 +150,9 @@ fn allows(claim: Claim, number: u32) -> bool
     }
 }
 
-/// Whether a claim is that it isn't this number.
-fn is_not(claim: Claim, number: u32) -> bool
-    ensures { result ≡ is_not claim number }
+/// Whether a claim is that a number isn't this one.
+fn denies(claim: Claim, number: u32) -> bool
+    ensures { result ≡ denies claim number }
 {
     match claim {
         Claim::IsNot(another) => another == number,
@@ -152,22 +160,23 @@ fn is_not(claim: Claim, number: u32) -> bool
     }
 }
 
-/// Whether the other claim holds of each number of which this one holds.
+/// Whether the claim `other` holds of each number of which `claim` holds.
 fn entails(claim: Claim, other: Claim) -> bool
     ensures { result ≡ entails claim other }
 {
-    if is_nothing(other) {
+    if claims_nothing(other) {
         return true;
     }
     match claim {
         Claim::Nothing => false,
         Claim::Is(number) => allows(other, number),
-        Claim::IsNot(number) => is_not(other, number),
+        Claim::IsNot(number) => denies(other, number),
         Claim::IsOneOf(one, another) => allows(other, one) && allows(other, another),
     }
 }
 
-/// What holds of a number of which one of two claims holds.
+/// What holds of a number of which one of two claims holds, not known which: the weaker of the two,
+/// that it is one of two numbers, or nothing.
 fn joined_claim(claim: Claim, other: Claim) -> Claim
     ensures { result ≡ joined_claim claim other }
 {
@@ -183,19 +192,21 @@ fn joined_claim(claim: Claim, other: Claim) -> Claim
     }
 }
 
-/// What both this fact, which says something, and one of the others claim of its field.
-fn joined_some(fact: &Fact, others: &[Fact]) -> Fact
-    ensures { result ≡ joined_some fact.now others.now }
+/// What holds of a fact's field on two ways, on one of which the fact holds, which claims
+/// something, and on the other one all of `others`: by the first of these that leaves a claim, or
+/// nothing.
+fn joined_with_any(fact: &Fact, others: &[Fact]) -> Fact
+    ensures { result ≡ joined_with_any fact.now others.now }
 {
     match others {
         [] => nothing_claimed(),
         [first, others @ ..] => {
             if !same_field(fact.field, first.field) {
-                return joined_some(fact, others);
+                return joined_with_any(fact, others);
             }
             let claim = joined_claim(fact.claim, first.claim);
-            if is_nothing(claim) {
-                return joined_some(fact, others);
+            if claims_nothing(claim) {
+                return joined_with_any(fact, others);
             }
             Fact {
                 field: fact.field,
@@ -205,20 +216,20 @@ fn joined_some(fact: &Fact, others: &[Fact]) -> Fact
     }
 }
 
-/// What of a fact holds where two ways meet, on one of which it holds, and on the other all of
-/// `others`.
+/// What is left of a fact where two ways meet, on one of which it holds, and on the other one all
+/// of `others`.
 fn joined_fact(fact: Fact, others: &[Fact]) -> Fact
     ensures { result ≡ joined_fact fact others.now }
 {
-    if is_nothing(fact.claim) {
+    if claims_nothing(fact.claim) {
         fact
     } else {
-        joined_some(&fact, others)
+        joined_with_any(&fact, others)
     }
 }
 
-/// Keeps what of some facts holds where two ways meet, on one of which all of them hold, and on the
-/// other all of `others`.
+/// Changes facts to what is left of them where two ways meet, on one of which all of them hold, and
+/// on the other one all of `others`.
 fn join_facts(facts: &mut [Fact], others: &[Fact])
     ensures { facts.new ≡ map (λ fact. joined_fact fact others.now) facts.old }
 {
@@ -230,7 +241,8 @@ fn join_facts(facts: &mut [Fact], others: &[Fact])
     }
 }
 
-/// What A holds where a run comes on two ways.
+/// What A holds at a place to which runs come on two ways: what it holds on both, if that is the
+/// same.
 fn joined_held(one: Held, other: Held) -> Held
     ensures { result ≡ joined_held one other }
 {
@@ -255,15 +267,15 @@ fn joined_held(one: Held, other: Held) -> Held
     }
 }
 
-/// The header whose length X holds on both ways, if it is one.
-fn same_header(one: Option<u32>, other: Option<u32>) -> Option<u32>
-    ensures { result ≡ same_header one other }
+/// The header whose length X holds on both of two ways, if that is one header.
+fn common_header(one: Option<u32>, other: Option<u32>) -> Option<u32>
+    ensures { result ≡ common_header one other }
 {
-    if same_mask(one, other) { one } else { None }
+    if same_optional(one, other) { one } else { None }
 }
 
-/// Keeps of what is known at a place what one more run that comes there knows too: all that it
-/// knows, where no run came before.
+/// Changes what is known at a place to what holds in one more run as well, of which `came` is
+/// known. Where no run came before, it is what is known of that one.
 pub fn join(known: &mut Known, came: &Known)
     ensures { known.new ≡ joined known.old came.now }
 {
@@ -273,12 +285,13 @@ pub fn join(known: &mut Known, came: &Known)
     }
     join_facts(&mut known.facts, &came.facts);
     known.held = joined_held(known.held, came.held);
-    known.index = same_header(known.index, came.index);
+    known.index = common_header(known.index, came.index);
 }
 
-/// The outcome that a claim gives to the test whether the number is this one, if it decides that.
-fn says(claim: Claim, number: u32) -> Option<bool>
-    ensures { result ≡ says claim number }
+/// The outcome of the test whether a number is this one, by a claim of it. `None`: the claim
+/// doesn't decide it.
+fn outcome_by_claim(claim: Claim, number: u32) -> Option<bool>
+    ensures { result ≡ outcome_by_claim claim number }
 {
     match claim {
         Claim::Is(one) => Some(one == number),
@@ -292,7 +305,8 @@ fn says(claim: Claim, number: u32) -> Option<bool>
     }
 }
 
-/// The outcome of the test whether a field is a number, if a fact decides it.
+/// The outcome of the test whether a field is this number, by the first fact that decides it.
+/// `None`: none does.
 pub fn decided(facts: &[Fact], field: &Field, number: u32) -> Option<bool>
     ensures { result ≡ decided facts.now field.now number }
 {
@@ -302,7 +316,7 @@ pub fn decided(facts: &[Fact], field: &Field, number: u32) -> Option<bool>
             if !same_field(first.field, *field) {
                 return decided(others, field, number);
             }
-            match says(first.claim, number) {
+            match outcome_by_claim(first.claim, number) {
                 Some(outcome) => Some(outcome),
                 None => decided(others, field, number),
             }
@@ -310,32 +324,35 @@ pub fn decided(facts: &[Fact], field: &Field, number: u32) -> Option<bool>
     }
 }
 
-/// The two numbers of which a field is one, if a fact says so.
-pub fn one_of(facts: &[Fact], field: &Field) -> Option<(u32, u32)>
-    ensures { result ≡ one_of facts.now field.now }
+/// The two numbers of which a field is one, if a fact claims that.
+pub fn two_numbers_of(facts: &[Fact], field: &Field) -> Option<(u32, u32)>
+    ensures { result ≡ two_numbers_of facts.now field.now }
 {
     match facts {
         [] => None,
         [first, others @ ..] => {
             if !same_field(first.field, *field) {
-                return one_of(others, field);
+                return two_numbers_of(others, field);
             }
             match first.claim {
                 Claim::IsOneOf(one, other) => Some((one, other)),
-                _ => one_of(others, field),
+                _ => two_numbers_of(others, field),
             }
         }
     }
 }
 
-/// Whether an old fact says nothing, or nothing that the new one doesn't.
+/// Whether a new fact may take the place of an old one without loss: that one claims nothing, or
+/// nothing that doesn't follow from the new one.
 fn gives_way(old: Fact, fact: Fact) -> bool
     ensures { result ≡ gives_way old fact }
 {
-    is_nothing(old.claim) || (same_field(old.field, fact.field) && entails(fact.claim, old.claim))
+    claims_nothing(old.claim)
+        || (same_field(old.field, fact.field) && entails(fact.claim, old.claim))
 }
 
-/// The index where one more fact goes: of one that gives way, or else of the last.
+/// The index of the fact whose place one more fact takes: of the first that gives way to it, or
+/// else of the last.
 fn place_for(facts: &[Fact], fact: &Fact) -> usize
     ensures place { result ≡ place_for facts.now fact.now }
     ensures upper_bound { result ≤ length facts.now }
@@ -359,19 +376,20 @@ pub fn add_fact(known: &mut Known, field: Field, claim: Claim)
 {
     let fact = Fact { field, claim };
     let at = place_for(&known.facts, &fact);
-    // It always is: `place_for` returns an index of the facts where there are some.
+    // It always is: `place_for` returns an index of the facts, unless there are none.
     if at < MOST_FACTS {
         known.facts[at] = fact;
     }
 }
 
-/// Whether by a fact the bytes that a load takes are captured.
+/// Whether a fact says that the bytes that a load takes are captured: any claim of its number does.
 fn captures(fact: Fact, code: u16, k: u32) -> bool
     ensures { result ≡ captures fact code k }
 {
-    (fact.field.code == code && fact.field.k == k) && !is_nothing(fact.claim)
+    (fact.field.code == code && fact.field.k == k) && !claims_nothing(fact.claim)
 }
 
+/// Whether one of some facts says that the bytes that a load takes are captured.
 fn any_captures(facts: &[Fact], code: u16, k: u32) -> bool
     ensures { result ≡ any_captures facts.now code k }
 {
@@ -381,6 +399,7 @@ fn any_captures(facts: &[Fact], code: u16, k: u32) -> bool
     }
 }
 
+/// Whether A holds the field of a load, perhaps masked, so that its bytes are captured.
 fn holds_field(held: Held, code: u16, k: u32) -> bool
     ensures { result ≡ holds_field held code k }
 {
@@ -397,7 +416,7 @@ pub fn is_captured(known: &Known, code: u16, k: u32) -> bool
     holds_field(known.held, code, k) || any_captures(&known.facts, code, k)
 }
 
-/// A field under a mask, if it has none yet: two masks aren't kept.
+/// A field with a mask. `None`: it has one already, and two aren't kept.
 pub fn masked_field(field: Field, mask: u32) -> Option<Field>
     ensures { result ≡ masked_field field mask }
 {
@@ -411,7 +430,7 @@ pub fn masked_field(field: Field, mask: u32) -> Option<Field>
     }
 }
 
-/// What A holds after a mask.
+/// What A holds once it is masked, by what it held.
 fn masked_held(held: Held, mask: u32) -> Held
     ensures { result ≡ masked_held held mask }
 {
@@ -424,9 +443,9 @@ fn masked_held(held: Held, mask: u32) -> Held
     }
 }
 
-/// What is known of A once X is another number.
-fn without_index(held: Held) -> Held
-    ensures { result ≡ without_index held }
+/// What is known of A once X is another number: of a load at X that says nothing any more.
+fn held_without_index(held: Held) -> Held
+    ensures { result ≡ held_without_index held }
 {
     match held {
         Held::AtIndex(_, _) => Held::Unknown,
@@ -434,7 +453,8 @@ fn without_index(held: Held) -> Held
     }
 }
 
-/// What A holds after an instruction that isn't a test.
+/// What A holds after an instruction that isn't a test, by what it held. What arithmetic but a mask
+/// leaves isn't known.
 fn held_after(held: Held, insn: Wide) -> Held
     ensures { result ≡ held_after (operation_of insn.code) held insn }
 {
@@ -452,13 +472,14 @@ fn held_after(held: Held, insn: Wide) -> Held
             Operation::LoadHeaderLength
             | Operation::Load(Register::Index, _)
             | Operation::CopyToIndex,
-        ) => without_index(held),
+        ) => held_without_index(held),
         Some(Operation::Store(_) | Operation::Jump) => held,
         _ => Held::Unknown,
     }
 }
 
-/// Which header's length X holds after an instruction that isn't a test.
+/// Which header's length X holds after an instruction that isn't a test, by which it held. `None`:
+/// none that is known.
 fn index_after(index: Option<u32>, insn: Wide) -> Option<u32>
     ensures { result ≡ index_after (operation_of insn.code) index insn }
 {
@@ -469,22 +490,24 @@ fn index_after(index: Option<u32>, insn: Wide) -> Option<u32>
     }
 }
 
-/// Changes what is known to what it is after an instruction that isn't a test.
-pub fn pass(known: &mut Known, insn: Wide)
+/// Changes what is known before an instruction that isn't a test to what is known after it. Facts
+/// are of the packet, so they stay.
+pub fn pass_insn(known: &mut Known, insn: Wide)
     ensures { known.new ≡ known_after (operation_of insn.code) known.old insn }
 {
     known.held = held_after(known.held, insn);
     known.index = index_after(known.index, insn);
 }
 
-/// What the outcome of the test whether a field is a number says of it, by what is known of it.
-fn claim_by(facts: &[Fact], field: &Field, number: u32, outcome: bool) -> Claim
-    ensures { result ≡ claim_after outcome number (one_of facts.now field.now) }
+/// What the outcome of the test whether a field is a number lets claim of it. Of one of two numbers
+/// that it isn't, it is the other one.
+fn claim_by_outcome(facts: &[Fact], field: &Field, number: u32, outcome: bool) -> Claim
+    ensures { result ≡ claim_after outcome number (two_numbers_of facts.now field.now) }
 {
     if outcome {
         return Claim::Is(number);
     }
-    match one_of(facts, field) {
+    match two_numbers_of(facts, field) {
         Some((one, other)) => {
             if number == one {
                 Claim::Is(other)
@@ -498,14 +521,15 @@ fn claim_by(facts: &[Fact], field: &Field, number: u32, outcome: bool) -> Claim
     }
 }
 
-/// Adds what the outcome of a test shows: only one for equality, of a field in A, shows something.
+/// Adds to what is known what the outcome of a test shows. Only a test for equality shows
+/// something, while A holds a field.
 pub fn learn(known: &mut Known, insn: Wide, outcome: bool)
     ensures { known.new
         ≡ known_by_test (operation_of insn.code) known.old.held known.old insn.k outcome }
 {
     if let Some(Operation::JumpIf(Test::Equal, Operand::Constant)) = decode(insn.code) {
         if let Held::Field(field) = known.held {
-            let claim = claim_by(&known.facts, &field, insn.k, outcome);
+            let claim = claim_by_outcome(&known.facts, &field, insn.k, outcome);
             add_fact(known, field, claim);
         }
     }

@@ -1,6 +1,10 @@
 //! The same code with fewer instructions: those that no run reaches are left out, a block that
 //! is there already isn't emitted again, and one instruction replaces several that do the same.
-//! `at` is an index into the old code; `place` counts from the end of the new code, 0 is nowhere.
+//! `at` is an index of the old code; `place` counts from the end of the new code, 0 is nowhere.
+//!
+//! Nothing here is trusted, so no function but the last two has a clause: `replaces` of `alike.rt`
+//! compares the new code with the old one by the landings that are noted here. Where something is
+//! left out by mistake, the new code isn't taken.
 
 ghost use Rattle.std.specs.Prelude.{IfOk};
 ghost use Rattle.std.specs.Option.{IfSome};
@@ -14,17 +18,18 @@ use flt_bpf::Wide;
 use flt_bpf::operation::{AluOperation, Operand, Operation, Register, Source, Test, decode};
 use std::alloc::{AllocError, Allocator};
 
-/// In longer code tests aren't shared, since the optimiser makes less of it then.
-const MOST_MERGED: usize = 256;
+/// The most instructions of code whose tests are shared: in longer code they aren't, since the
+/// optimiser makes less of it then, and shares them itself.
+const MOST_SHARED: usize = 256;
 
-/// The landing of what isn't in the new code.
+/// The landing of an instruction that isn't in the new code.
 const NOWHERE: Landing = Landing {
     place: 0,
     accumulator: false,
     index: false,
 };
 
-/// Where no instruction stands yet.
+/// What the new code's space holds where no instruction is written yet.
 const EMPTY: Wide = Wide {
     code: 0,
     yes: 0,
@@ -32,7 +37,9 @@ const EMPTY: Wide = Wide {
     k: 0,
 };
 
-/// A landing at a place in front of another one, by what the instruction there reads and sets.
+/// A landing at an instruction with this operation, after which the run goes on at the landing
+/// `next`: a register is read from there on if the operation reads it, or if it is read at `next`
+/// and the operation doesn't set it.
 fn landing_before(operation: Operation, place: usize, next: Landing) -> Landing {
     Landing {
         place,
@@ -43,7 +50,7 @@ fn landing_before(operation: Operation, place: usize, next: Landing) -> Landing 
 }
 
 /// What is read after a test that goes on at one of two landings, as a landing without a place.
-fn next_of_test(yes: Landing, no: Landing) -> Landing {
+fn landing_after_test(yes: Landing, no: Landing) -> Landing {
     Landing {
         place: 0,
         accumulator: yes.accumulator || no.accumulator,
@@ -52,16 +59,17 @@ fn next_of_test(yes: Landing, no: Landing) -> Landing {
 }
 
 /// In the old code: the index of the instruction `offset` past the next one.
-fn following(at: usize, offset: usize) -> usize {
+fn index_after(at: usize, offset: usize) -> usize {
     at.saturating_add(offset).saturating_add(1)
 }
 
-/// In the new code: the place of an instruction that stands right in front of a place.
-fn in_front_of(place: usize) -> usize {
+/// In the new code: the place of the instruction right in front of a place.
+fn place_in_front_of(place: usize) -> usize {
     place.saturating_add(1)
 }
 
-/// Whether a run doesn't just go on at the next instruction. (Code with a `ja` isn't shortened.)
+/// Whether an instruction ends a block: a run doesn't just go on at the next one, since this is a
+/// test or a return. (Code with a `ja` isn't shortened.)
 fn ends_block(insn: Wide) -> bool {
     matches!(
         decode(insn.code),
@@ -69,19 +77,19 @@ fn ends_block(insn: Wide) -> bool {
     )
 }
 
-/// A test with these offsets, if they have at most 32 bits.
-fn reaching(insn: Wide, yes: usize, no: usize) -> Option<Wide> {
+/// A test with these offsets instead of its own, if they have at most 32 bits.
+fn with_offsets(insn: Wide, yes: usize, no: usize) -> Option<Wide> {
     match (u32::try_from(yes), u32::try_from(no)) {
         (Ok(yes), Ok(no)) => Some(Wide { yes, no, ..insn }),
         _ => None,
     }
 }
 
-/// An instruction that is put again, `farther` instructions earlier, with the same targets, if its
-/// offsets reach so far.
-fn put_farther(insn: Wide, farther: usize) -> Option<Wide> {
+/// An instruction as it is put again `farther` instructions earlier: a test has greater offsets to
+/// the same targets. `None`: these have more than 32 bits.
+fn with_farther_targets(insn: Wide, farther: usize) -> Option<Wide> {
     match decode(insn.code) {
-        Some(Operation::JumpIf(_, _)) => reaching(
+        Some(Operation::JumpIf(_, _)) => with_offsets(
             insn,
             farther.saturating_add(insn.yes as usize),
             farther.saturating_add(insn.no as usize),
@@ -91,19 +99,20 @@ fn put_farther(insn: Wide, farther: usize) -> Option<Wide> {
 }
 
 /// Whether two instructions are a mask, and a test of what is left for 0.
-fn is_mask(mask: Wide, test: Wide) -> bool {
+fn is_masked_test(mask: Wide, test: Wide) -> bool {
     mask.code == Operation::Compute(AluOperation::And, Operand::Constant).code()
         && test.code == Operation::JumpIf(Test::Equal, Operand::Constant).code()
         && test.k == 0
 }
 
-/// Whether two instructions put a number into A and then into X.
-fn is_copied(number: Wide, copy: Wide) -> bool {
+/// Whether two instructions put a number into A and copy it to X.
+fn puts_number_into_index(number: Wide, copy: Wide) -> bool {
     number.code == Operation::Load(Register::Accumulator, Source::Immediate).code()
         && copy.code == Operation::CopyToIndex.code()
 }
 
-/// The code of a load at a fixed place that is as wide as this one at X.
+/// The code of the load at a fixed place that takes as many bytes as the load at X whose code is
+/// `indirect`. `None`: that is another instruction's code.
 fn direct_code(indirect: u16) -> Option<u16> {
     match decode(indirect) {
         Some(Operation::LoadIndirect(width)) => Some(Operation::LoadAbsolute(width).code()),
@@ -111,19 +120,23 @@ fn direct_code(indirect: u16) -> Option<u16> {
     }
 }
 
-/// Code that grows from its end to its beginning, while the old code is read so. Where something is
-/// too far, an instruction lands nowhere, nor do those that go on there land anywhere.
+/// Code that grows from its end to its beginning, while the old code is read in that order too.
+/// Where something is too far, an instruction lands nowhere, nor do those that go on there land
+/// anywhere; the new code isn't taken then.
 #[derive(Drop)]
 struct Shortening<'a> {
+    /// The old code.
     insns: &'a [Wide],
+    /// Where each instruction of the old code lands in the new one.
     landings: &'a mut [Landing],
     /// The new code, from its last instruction to its first: `backwards[p]` stands right in front
     /// of place p, so that its own place is p + 1. It has room for as many as the old one; a longer
     /// program isn't taken.
     backwards: &'a mut [Wide],
+    /// How many instructions the new code has.
     len: usize,
-    /// A test that is there already isn't put again.
-    merges: bool,
+    /// Whether a test that is there already isn't put again.
+    shares_tests: bool,
 }
 
 impl Shortening<'_> {
@@ -136,10 +149,12 @@ impl Shortening<'_> {
         }
     }
 
+    /// The instruction of the old code at an index, if there is one.
     fn insn_at(&self, at: usize) -> Option<Wide> {
         self.insns.get(at).copied()
     }
 
+    /// Where the instruction of the old code at an index lands; past its end nowhere.
     fn landing_at(&self, at: usize) -> Landing {
         self.landings.get(at).copied().unwrap_or(NOWHERE)
     }
@@ -151,8 +166,9 @@ impl Shortening<'_> {
         }
     }
 
-    /// Marks that a run reaches an instruction: until it has its landing, place 1 says so.
-    fn reach(&mut self, at: usize) {
+    /// Marks that a run reaches an instruction of the old code: until its landing is noted, a
+    /// landing at place 1 says so.
+    fn mark_reached(&mut self, at: usize) {
         self.land(
             at,
             Landing {
@@ -162,18 +178,19 @@ impl Shortening<'_> {
         );
     }
 
-    /// Marks the instructions that a run reaches.
-    fn reach_all(&mut self) {
-        self.reach(0);
+    /// Marks the instructions of the old code that a run reaches. Jumps lead forward, so one look
+    /// at each is enough.
+    fn mark_all_reached(&mut self) {
+        self.mark_reached(0);
         for (at, insn) in self.insns.iter().enumerate() {
             if self.landing_at(at).place > 0 {
                 match decode(insn.code) {
                     Some(Operation::JumpIf(_, _)) => {
-                        self.reach(following(at, insn.yes as usize));
-                        self.reach(following(at, insn.no as usize));
+                        self.mark_reached(index_after(at, insn.yes as usize));
+                        self.mark_reached(index_after(at, insn.no as usize));
                     }
                     Some(Operation::ReturnConstant | Operation::ReturnAccumulator) => {}
-                    _ => self.reach(following(at, 0)),
+                    _ => self.mark_reached(index_after(at, 0)),
                 }
             }
         }
@@ -187,20 +204,21 @@ impl Shortening<'_> {
         }
     }
 
-    /// One test of bits in place of the mask at `at` and the test for 0 after it, if these are
-    /// there and A isn't read after them.
-    fn bits_at(&self, at: usize) -> Option<Wide> {
+    /// One test of bits (`69 k`) in place of the mask at `at` and the test for 0 after it (`84 k`,
+    /// `21 0`), if these are there and A isn't read after them.
+    fn bits_test_at(&self, at: usize) -> Option<Wide> {
         let [mask, test, ..] = self.insns_from(at) else {
             return None;
         };
-        if !is_mask(*mask, *test) {
+        if !is_masked_test(*mask, *test) {
             return None;
         }
-        let zero = self.landing_at(following(at, 1 + test.yes as usize));
-        let other = self.landing_at(following(at, 1 + test.no as usize));
+        let zero = self.landing_at(index_after(at, 1 + test.yes as usize));
+        let other = self.landing_at(index_after(at, 1 + test.no as usize));
         if zero.accumulator || other.accumulator {
             return None;
         }
+        // It holds where a bit is left, so the targets are swapped.
         Some(Wide {
             code: Operation::JumpIf(Test::AnyBit, Operand::Constant).code(),
             yes: test.no,
@@ -209,13 +227,13 @@ impl Shortening<'_> {
         })
     }
 
-    /// One load at a fixed place in place of the number at `at` and of what puts it into X and loads
-    /// at X, if these are there and X isn't read after them.
-    fn load_at(&self, at: usize) -> Option<Wide> {
+    /// One load at a fixed place (`40 i + k`) in place of the number at `at` and of what puts it
+    /// into X and loads at X (`0 i`, `7`, `72 k`), if these are there and X isn't read after them.
+    fn direct_load_at(&self, at: usize) -> Option<Wide> {
         let [number, copy, load, ..] = self.insns_from(at) else {
             return None;
         };
-        if !is_copied(*number, *copy) || self.landing_at(following(at, 2)).index {
+        if !puts_number_into_index(*number, *copy) || self.landing_at(index_after(at, 2)).index {
             return None;
         }
         let code = direct_code(load.code)?;
@@ -223,8 +241,9 @@ impl Shortening<'_> {
         Some(Wide { code, k, ..*load })
     }
 
-    /// A header length in X and a load at X in place of the number at `at` and of what adds it to
-    /// that length and loads there, if these are there and X isn't read after them.
+    /// A header's length in X and a load at X (`177 L`, `80 i + k`) in place of the number at `at`
+    /// and of what adds it to that length and loads there (`0 i`, `177 L`, `12`, `7`, `80 k`), if
+    /// these are there and X isn't read after them.
     fn header_load_at(&self, at: usize) -> Option<(Wide, Wide)> {
         let [number, length, add, copy, load, ..] = self.insns_from(at) else {
             return None;
@@ -232,37 +251,41 @@ impl Shortening<'_> {
         if !adds_header(*number, *length, *add, *copy) || !is_indirect(load.code) {
             return None;
         }
-        if self.landing_at(following(at, 4)).index {
+        if self.landing_at(index_after(at, 4)).index {
             return None;
         }
         let k = number.k.wrapping_add(load.k);
         Some((*length, Wide { k, ..*load }))
     }
 
-    /// Whether an instruction puts a number into A.
-    fn is_number(&self, at: usize) -> bool {
+    /// Whether the instruction of the old code at an index puts a number into A. It is asked first,
+    /// since that is quick.
+    fn is_number_at(&self, at: usize) -> bool {
         let code = Operation::Load(Register::Accumulator, Source::Immediate).code();
         self.insns.get(at).is_some_and(|insn| insn.code == code)
     }
 
-    /// Whether the number `before` instructions in front makes one load of itself and those after
-    /// it, of which this is one: two (`load_at`), or four (`header_load_at`).
+    /// Whether the instruction `before` ones in front puts a number into A, and is joined with
+    /// those after it, of which the one at `at` is one: with two (`direct_load_at`), or with four
+    /// (`header_load_at`).
     fn is_joined_by(&self, at: usize, before: usize) -> bool {
         let number = at.saturating_sub(before);
         at >= before
-            && self.is_number(number)
-            && (before <= 2 && self.load_at(number).is_some()
+            && self.is_number_at(number)
+            && (before <= 2 && self.direct_load_at(number).is_some()
                 || self.header_load_at(number).is_some())
     }
 
-    /// Whether an instruction in front is joined with this one, so that this one isn't emitted and
-    /// lands nowhere. If a run jumps here, the new code isn't taken.
+    /// Whether an instruction of the old code further in front is joined with the one at `at`, so
+    /// that this one isn't emitted and lands nowhere. If a run jumps here, the new code isn't
+    /// taken.
     fn is_joined(&self, at: usize) -> bool {
-        at >= 1 && self.bits_at(at - 1).is_some()
+        at >= 1 && self.bits_test_at(at - 1).is_some()
             || (1..=4).any(|before| self.is_joined_by(at, before))
     }
 
-    /// Whether the test right in front of a place has these targets.
+    /// Whether the instruction right in front of a place of the new code has offsets that lead to
+    /// these places.
     fn has_targets(&self, place: usize, yes: usize, no: usize) -> bool {
         self.backwards.get(place).is_some_and(|other| {
             other.yes as usize == place.saturating_sub(yes)
@@ -270,8 +293,8 @@ impl Shortening<'_> {
         })
     }
 
-    /// Whether the instruction in front of `at` in the old code also stands right in front of a
-    /// place of the new one.
+    /// Whether the instruction right in front of `at` in the old code also stands right in front of
+    /// a place of the new one.
     fn is_front_at(&self, place: usize, at: usize) -> bool {
         match self.insn_at(at.wrapping_sub(1)) {
             None => false,
@@ -279,14 +302,15 @@ impl Shortening<'_> {
         }
     }
 
-    /// The place of such a test with such targets, if there is one. One after the instruction that
-    /// is in front of this one comes first, since that one is shared too.
-    fn same_test(&self, at: usize, insn: Wide, yes: usize, no: usize) -> Option<usize> {
+    /// The place of a test in the new code that is as this one and has these targets, if there is
+    /// one. Of several it is one after the same instruction as this one is after (`is_front_at`),
+    /// if there is such a one, since that instruction can be shared too.
+    fn find_same_test(&self, at: usize, insn: Wide, yes: usize, no: usize) -> Option<usize> {
         let low = yes.max(no);
         let mut found = None;
         for place in (low..self.len).rev() {
             if self.stands_before(place, insn) && self.has_targets(place, yes, no) {
-                let test = in_front_of(place);
+                let test = place_in_front_of(place);
                 if self.is_front_at(test, at) {
                     return Some(test);
                 }
@@ -298,34 +322,41 @@ impl Shortening<'_> {
         found
     }
 
-    /// The place of a test with such targets, which is put there if it can't share one.
+    /// The place of a test with these targets in the new code: one that is there already, or else
+    /// it is put in front. `None`: a target is nowhere, or too far.
     fn place_test(&mut self, at: usize, insn: Wide, yes: usize, no: usize) -> Option<usize> {
         if yes == 0 || no == 0 {
             return None;
         }
-        if self.merges {
-            if let Some(place) = self.same_test(at, insn, yes, no) {
+        if self.shares_tests {
+            if let Some(place) = self.find_same_test(at, insn, yes, no) {
                 return Some(place);
             }
         }
         let top = self.len;
-        let test = reaching(insn, top.saturating_sub(yes), top.saturating_sub(no))?;
+        let test = with_offsets(insn, top.saturating_sub(yes), top.saturating_sub(no))?;
         self.push(test);
-        Some(in_front_of(top))
+        Some(place_in_front_of(top))
     }
 
-    /// Emits a test, whose offsets count from the instruction `last` of the old code.
+    /// Emits a test for the instruction at `at`, and notes its landing. The offsets count from the
+    /// instruction at `last` of the old code, the last one that it is in place of.
     fn emit_test(&mut self, at: usize, insn: Wide, last: usize) {
-        let yes = self.landing_at(following(last, insn.yes as usize));
-        let no = self.landing_at(following(last, insn.no as usize));
+        let yes = self.landing_at(index_after(last, insn.yes as usize));
+        let no = self.landing_at(index_after(last, insn.no as usize));
         let place = self.place_test(at, insn, yes.place, no.place);
         if let (Some(operation), Some(place)) = (decode(insn.code), place) {
-            self.land(at, landing_before(operation, place, next_of_test(yes, no)));
+            self.land(
+                at,
+                landing_before(operation, place, landing_after_test(yes, no)),
+            );
         }
     }
 
-    /// Emits again, in front, the block that an instruction lands in, from there to its end.
-    fn emit_again(&mut self, from: usize) {
+    /// Emits again, in front, the rest of the block in which the instruction at `from` of the old
+    /// code lands: from there to its test or return. So what goes on there can be put right before
+    /// it.
+    fn emit_block_again(&mut self, from: usize) {
         let (landed, top) = (self.landing_at(from).place, self.len);
         let mut low = landed;
         for place in (0..landed).rev() {
@@ -343,7 +374,7 @@ impl Shortening<'_> {
             let Some(insn) = self.backwards.get(place).copied() else {
                 return;
             };
-            let Some(insn) = put_farther(insn, farther) else {
+            let Some(insn) = with_farther_targets(insn, farther) else {
                 return;
             };
             self.push(insn);
@@ -351,7 +382,8 @@ impl Shortening<'_> {
         self.move_block(from, farther);
     }
 
-    /// The instructions of a block of the old code, from one to the last, land farther in front.
+    /// Notes that the instructions of a block of the old code, from the one at `from` to the last,
+    /// land `farther` instructions in front of where they did.
     fn move_block(&mut self, from: usize, farther: usize) {
         for at in from..self.insns.len() {
             let landing = self.landing_at(at);
@@ -365,17 +397,18 @@ impl Shortening<'_> {
         }
     }
 
-    /// Whether such an instruction stands right in front of a place; of a test, one with any
-    /// targets.
+    /// Whether an instruction with this code and this `k` stands right in front of a place of the
+    /// new code; of a test, one with any targets.
     fn stands_before(&self, place: usize, insn: Wide) -> bool {
         self.backwards
             .get(place)
             .is_some_and(|other| other.code == insn.code && other.k == insn.k)
     }
 
-    /// Emits an instruction that is no test, after which the run goes on where `next` of the old
-    /// code lands. If such an instruction is in front of that already, none is put; if another one
-    /// is, the block is put again.
+    /// Emits an instruction that is no test and no return for the one at `at`, and notes its
+    /// landing. After it the run goes on where the instruction at `next` of the old code lands. If
+    /// the same instruction is in front of that already, none is put; if another one is, the block
+    /// is put again.
     fn emit_plain(&mut self, at: usize, insn: Wide, next: usize) {
         let landing = self.landing_at(next);
         let Some(operation) = decode(insn.code) else {
@@ -386,11 +419,11 @@ impl Shortening<'_> {
         }
         if landing.place < self.len {
             if self.stands_before(landing.place, insn) {
-                let place = in_front_of(landing.place);
+                let place = place_in_front_of(landing.place);
                 self.land(at, landing_before(operation, place, landing));
                 return;
             }
-            self.emit_again(next);
+            self.emit_block_again(next);
         }
         self.push(insn);
         let place = self.len;
@@ -405,26 +438,27 @@ impl Shortening<'_> {
                 self.push(insn);
                 self.land(at, landing_before(operation, self.len, NOWHERE));
             }
-            _ => self.emit_plain(at, insn, following(at, 0)),
+            _ => self.emit_plain(at, insn, index_after(at, 0)),
         }
     }
 
     /// Emits an instruction of the old code, joined to those after it where that is shorter.
     fn emit(&mut self, at: usize) {
-        if let Some(test) = self.bits_at(at) {
-            self.emit_test(at, test, following(at, 0));
-        } else if let Some(load) = self.load_at(at) {
-            self.emit_plain(at, load, following(at, 2));
+        if let Some(test) = self.bits_test_at(at) {
+            self.emit_test(at, test, index_after(at, 0));
+        } else if let Some(load) = self.direct_load_at(at) {
+            self.emit_plain(at, load, index_after(at, 2));
         } else if let Some((length, load)) = self.header_load_at(at) {
-            self.emit_plain(at, load, following(at, 4));
+            self.emit_plain(at, load, index_after(at, 4));
             self.emit_plain(at, length, at);
         } else if let Some(insn) = self.insn_at(at) {
             self.emit_alone(at, insn);
         }
     }
 
-    /// Reads one more instruction of the old code.
-    fn read(&mut self, at: usize) {
+    /// Reads one more instruction of the old code, and emits it if a run reaches it, unless one in
+    /// front is joined with it.
+    fn read_insn(&mut self, at: usize) {
         let is_reached = self.landing_at(at).place > 0;
         self.land(at, NOWHERE);
         if is_reached && !self.is_joined(at) {
@@ -434,28 +468,28 @@ impl Shortening<'_> {
 
     /// Reads the whole old code. Returns how many instructions the new one has.
     fn read_all(&mut self) -> usize {
-        self.reach_all();
+        self.mark_all_reached();
         for at in (0..self.insns.len()).rev() {
-            self.read(at);
+            self.read_insn(at);
         }
         self.len
     }
 }
 
-/// Shortens the code into the space given for it, from its last instruction on. Returns how many
-/// instructions the new one has.
+/// Shortens the code `insns` into the space `backwards`, from the last instruction to the first,
+/// and notes the landings. Returns how many instructions the new code has.
 fn shorten(insns: &[Wide], landings: &mut [Landing], backwards: &mut [Wide]) -> usize {
     let mut shortening = Shortening {
         insns,
         landings,
         backwards,
         len: 0,
-        merges: insns.len() <= MOST_MERGED,
+        shares_tests: insns.len() <= MOST_SHARED,
     };
     shortening.read_all()
 }
 
-/// The shorter code, made in the space given for it, if it replaces the old one.
+/// The shorter code, made in the space `backwards`, if it replaces the old code `insns`.
 fn replacement<A: Allocator>(
     insns: &[Wide],
     landings: &mut [Landing],
@@ -470,7 +504,8 @@ fn replacement<A: Allocator>(
 }
 
 /// Code that replaces the old one: it gives the same answers, in no more instructions. Where it
-/// can't be made, as for code with a jump (`ja`), it is the old code.
+/// can't be made, as for code with a jump (`ja`), it is the old code. An error is a failed
+/// allocation, or an allocator that cannot be cloned.
 pub fn shortened<A: Allocator + Clone>(
     alloc: A,
     insns: Vec<Wide, A>,

@@ -1,52 +1,62 @@
 //! Jump threading. From each target of a test a walk goes on as far as what is known there decides;
-//! the test then goes to the last place where a run may go on in place of it.
+//! the test then goes to the last place on this way where a run may go on in place of the target.
+//!
+//! In a walk a place is an index of the code that follows the test. Clauses cite definitions of the
+//! same names; what follows from these is `Threads`, the contract of `threaded`.
 
 ghost use Rattle.std.specs.Prelude.{◌≡◌, ◌<◌, ◌^◌, nat_lt, if◌then◌else◌, length};
 ghost use Rattle.flt_bpf.specs.Instructions.{operation_of};
 ghost use Rattle.flt_short.specs.Threads.{Threads};
-ghost use Rattle.flt_short.specs.inside.Threads.{field_at, away, past_test, past_mask, holds_load};
-ghost use Rattle.flt_short.specs.inside.Threads.{holds_header, step, is_free};
+ghost use Rattle.flt_short.specs.inside.Threads.{field_at, other_field, past_test, past_mask};
+ghost use Rattle.flt_short.specs.inside.Threads.{holds_load, holds_header, past_insn, is_free};
 ghost use Rattle.flt_short.specs.inside.Threads.{ignores_accumulator, ignores_accumulator_at};
 ghost use Rattle.flt_short.specs.declared.facts.Claim.TheVariants.{Is};
 ghost use Rattle.flt_short.specs.inside.Facts.{with_fact};
-ghost use Rattle.flt_short.specs.inside.Threads.{can_stop, walk, walked, tests_at, two_at, target};
-ghost use Rattle.flt_short.specs.inside.Threads.{moved, ends_at, came};
+ghost use Rattle.flt_short.specs.inside.Threads.{can_stop, walk, walk_from, tests_at};
+ghost use Rattle.flt_short.specs.inside.Threads.{two_numbers_at, target, threaded_offset};
+ghost use Rattle.flt_short.specs.inside.Threads.{ends_at, came};
 ghost use Rattle.flt_short.specs.inside.Threads.{threaded_test, threaded_insn};
 ghost use Rattle.flt_short.specs.inside.Threads.{with_ways, with_arrivals, flow, threaded};
 
 use crate::arrivals::Arrivals;
 use crate::facts::{
-    Claim, Field, Held, Known, add_fact, decided, is_captured, learn, masked_field, one_of, pass,
-    same_field,
+    Claim, Field, Held, Known, add_fact, decided, is_captured, learn, masked_field, pass_insn,
+    same_field, two_numbers_of,
 };
 use flt_bpf::Wide;
 use flt_bpf::operation::{AluOperation, Operand, Operation, Register, Test, decode};
 use std::alloc::Allocator;
 
-/// How many instructions a walk passes at most.
+/// How many instructions a walk passes at most, so that it ends soon.
 const FUEL: usize = 128;
 
-/// The most instructions of code of which it is asked first whether a load is there twice. That
-/// takes time by the square of the length, so longer code is threaded without asking.
-const SHORT: usize = 64;
+/// The most instructions of code of which it is first asked whether a load is there twice
+/// (`repeats_a_load`). That takes time by the square of the length, so longer code is threaded
+/// without asking.
+const SHORT_CODE: usize = 64;
 
-/// Where a walk is.
+/// Where a walk is. A run that goes on there in place of where the walk began has in A what A held
+/// at the beginning; a run that goes the whole way may have another field in A.
 #[derive(Clone, Copy)]
 pub struct Spot {
-    /// An index into the code after the test.
+    /// An index of the code after the test.
     pub place: usize,
-    /// The field that A would hold there, if that isn't what A holds where the walk began.
+    /// The field that A would hold after the whole way. `None`: it would be as it was where the
+    /// walk began.
     pub other: Option<Field>,
 }
 
-/// A walk, and the last place where a run may go on in place of the one where the walk began.
+/// How far a walk is.
 #[derive(Clone, Copy)]
 pub struct Reached {
+    /// Where it is.
     pub spot: Spot,
+    /// The last place on its way where a run may go on in place of the one where the walk began.
     pub best: usize,
 }
 
-/// The field that A would hold at a spot, if it would hold one.
+/// The field that A would hold where a walk is, if it would hold one: `other` of the spot, or what
+/// A holds where the walk began, `held`.
 fn field_at(held: Held, other: Option<Field>) -> Option<Field>
     ensures { result ≡ field_at held other }
 {
@@ -57,9 +67,10 @@ fn field_at(held: Held, other: Option<Field>) -> Option<Field>
     }
 }
 
-/// What `other` of a spot is where A would hold this field: `None` if A holds it already.
-fn away(held: Held, field: Field) -> Option<Field>
-    ensures { result ≡ away held field }
+/// What `other` of a spot is where A would hold this field: `None` if that is what A holds where
+/// the walk began, `held`.
+fn other_field(held: Held, field: Field) -> Option<Field>
+    ensures { result ≡ other_field held field }
 {
     match held {
         Held::Field(same) => {
@@ -73,7 +84,7 @@ fn away(held: Held, field: Field) -> Option<Field>
     }
 }
 
-/// Where a walk is past a test, if what is known decides it.
+/// Where a walk is past a test for equality, if what is known decides the test.
 fn past_test(known: &Known, insn: Wide, spot: Spot) -> Option<Spot>
     requires { spot.place < 2 ^ 63 }
     ensures { result ≡ past_test known.now insn spot }
@@ -104,7 +115,7 @@ fn past_mask(known: &Known, mask: u32, spot: Spot) -> Option<Spot>
             None => None,
             Some(field) => Some(Spot {
                 place: spot.place + 1,
-                other: away(known.held, field),
+                other: other_field(known.held, field),
             }),
         },
     }
@@ -130,10 +141,11 @@ fn holds_header(index: Option<u32>, header: u32) -> bool
     }
 }
 
-/// Where a walk is past one instruction, if what is known decides what it does.
-fn step(known: &Known, insn: Wide, spot: Spot) -> Option<Spot>
+/// Where a walk is past one instruction. `None`: what is known doesn't decide what it does, so the
+/// walk ends in front of it.
+fn past_insn(known: &Known, insn: Wide, spot: Spot) -> Option<Spot>
     requires { spot.place < 2 ^ 63 }
-    ensures { result ≡ step (operation_of insn.code) known.now insn spot }
+    ensures { result ≡ past_insn (operation_of insn.code) known.now insn spot }
 {
     let place = spot.place + 1;
     match decode(insn.code) {
@@ -146,7 +158,7 @@ fn step(known: &Known, insn: Wide, spot: Spot) -> Option<Spot>
                 k: insn.k,
                 mask: None,
             };
-            let other = away(known.held, field);
+            let other = other_field(known.held, field);
             Some(Spot { place, other })
         }
         Some(Operation::LoadIndirect(_)) => {
@@ -196,8 +208,8 @@ fn ignores_accumulator_at(code: &[Wide], place: usize) -> bool
     }
 }
 
-/// Whether A isn't read from a place on before something is put into it: at that instruction, or
-/// at the next one after a header's length.
+/// Whether it doesn't matter what A holds at a place: the instruction there, or after a header's
+/// length the next one, puts something into A, or ends the run, without reading A.
 fn is_free(code: &[Wide], place: usize) -> bool
     ensures { result ≡ is_free code.now place }
 {
@@ -210,15 +222,16 @@ fn is_free(code: &[Wide], place: usize) -> bool
     }
 }
 
-/// Whether a run may go on where a walk is, in place of where the walk began.
+/// Whether a run may go on where a walk is, in place of where the walk began: A is as it would be
+/// after the whole way, or it doesn't matter what A holds.
 fn can_stop(code: &[Wide], spot: Spot) -> bool
     ensures { result ≡ can_stop code.now spot }
 {
     spot.place < code.len() && (spot.other.is_none() || is_free(code, spot.place))
 }
 
-/// The place of a walk, if a run may go on there, or the last such place.
-fn best_of(code: &[Wide], spot: Spot, best: usize) -> usize
+/// The place of a spot, if a run may go on there; else `best`, the last such place so far.
+fn place_or_best(code: &[Wide], spot: Spot, best: usize) -> usize
     ensures { result ≡ (if can_stop code.now spot then spot.place else best) }
 {
     if can_stop(code, spot) {
@@ -228,7 +241,7 @@ fn best_of(code: &[Wide], spot: Spot, best: usize) -> usize
     }
 }
 
-/// How far a walk goes on, past at most `fuel` instructions.
+/// Lets a walk go on as far as what is known decides, past at most `fuel` instructions.
 #[tactic(auto, unfolding(crate::specs::inside::Threads::walk))]
 fn walk(fuel: usize, known: &Known, code: &[Wide], reached: &mut Reached)
     ensures { reached.new ≡ walk fuel known.now code.now reached.old }
@@ -237,8 +250,8 @@ fn walk(fuel: usize, known: &Known, code: &[Wide], reached: &mut Reached)
         return;
     }
     if let Some(insn) = code.get(reached.spot.place) {
-        if let Some(spot) = step(known, *insn, reached.spot) {
-            reached.best = best_of(code, spot, reached.best);
+        if let Some(spot) = past_insn(known, *insn, reached.spot) {
+            reached.best = place_or_best(code, spot, reached.best);
             reached.spot = spot;
             walk(fuel - 1, known, code, reached);
         }
@@ -246,8 +259,8 @@ fn walk(fuel: usize, known: &Known, code: &[Wide], reached: &mut Reached)
 }
 
 /// How far a walk from a place goes.
-fn walked(known: &Known, code: &[Wide], from: usize) -> Reached
-    ensures { result ≡ walked known.now code.now from }
+fn walk_from(known: &Known, code: &[Wide], from: usize) -> Reached
+    ensures { result ≡ walk_from known.now code.now from }
 {
     let spot = Spot {
         place: from,
@@ -258,7 +271,7 @@ fn walked(known: &Known, code: &[Wide], from: usize) -> Reached
     reached
 }
 
-/// The instruction at a place tests whether A is a number.
+/// Whether the instruction at a place tests whether A is a number.
 fn tests_at(code: &[Wide], place: usize) -> bool
     ensures { result ≡ tests_at code.now place }
 {
@@ -272,39 +285,40 @@ fn tests_at(code: &[Wide], place: usize) -> bool
 }
 
 /// The field that A would hold where a walk ended at a test of it, and the two numbers of which it
-/// is one. Elsewhere the walk doesn't depend on which it is.
-fn two_at(known: &Known, code: &[Wide], spot: Spot) -> Option<(Field, u32, u32)>
-    ensures { result ≡ two_at known.now code.now spot }
+/// is one. `None`: there is no such test, or no two numbers are known, so that nothing is gained by
+/// a walk for each.
+fn two_numbers_at(known: &Known, code: &[Wide], spot: Spot) -> Option<(Field, u32, u32)>
+    ensures { result ≡ two_numbers_at known.now code.now spot }
 {
     if !tests_at(code, spot.place) {
         return None;
     }
     match field_at(known.held, spot.other) {
         None => None,
-        Some(field) => match one_of(&known.facts, &field) {
+        Some(field) => match two_numbers_of(&known.facts, &field) {
             None => None,
             Some((one, other)) => Some((field, one, other)),
         },
     }
 }
 
-/// Where a run may go on in place of a place, if a field is a number.
+/// The last place where a run may go on in place of the place `from`, if a field is this number.
 fn target_if(known: &Known, field: Field, number: u32, code: &[Wide], from: usize) -> usize
-    ensures { result ≡ (walked (with_fact known.now field (Is number)) code.now from).best }
+    ensures { result ≡ (walk_from (with_fact known.now field (Is number)) code.now from).best }
 {
     let mut known = *known;
     add_fact(&mut known, field, Claim::Is(number));
-    walked(&known, code, from).best
+    walk_from(&known, code, from).best
 }
 
-/// How far on a run may skip from a place. Where the walk ends at a test of a field that is one of
-/// two numbers, it is where both numbers lead, if that is one place. Places are indices into the
-/// code after the test.
+/// The last place where a run may go on in place of the place `from`. Where the walk ends at a test
+/// of a field that is one of two numbers, it is where both numbers lead, if that is one place.
+/// Places are indices of the code after the test.
 fn target(known: &Known, code: &[Wide], from: usize) -> usize
     ensures { result ≡ target known.now code.now from }
 {
-    let end = walked(known, code, from);
-    match two_at(known, code, end.spot) {
+    let end = walk_from(known, code, from);
+    match two_numbers_at(known, code, end.spot) {
         None => end.best,
         Some((field, one, other)) => {
             let first = target_if(known, field, one, code, from);
@@ -314,19 +328,20 @@ fn target(known: &Known, code: &[Wide], from: usize) -> usize
     }
 }
 
-/// How many instructions a test skips once its target is as far on as what is known decides.
-fn moved(known: &Known, following: &[Wide], skipped: u32) -> u32
-    ensures { result ≡ moved known.now following.now skipped }
+/// How many instructions a test skips once its target is as far on as what is known decides, in
+/// place of `skipped`.
+fn threaded_offset(known: &Known, following: &[Wide], skipped: u32) -> u32
+    ensures { result ≡ threaded_offset known.now following.now skipped }
 {
     let place = target(known, following, skipped as usize);
-    // An expression's code is too short for an error.
+    // An expression's code is too short for an error: its places fit 32 bits.
     match u32::try_from(place) {
         Ok(place) => place,
         Err(_) => skipped,
     }
 }
 
-/// The run ends at a place.
+/// Whether a run ends at a place, by returning a number.
 fn ends_at(code: &[Wide], place: usize) -> bool
     ensures { result ≡ ends_at code.now place }
 {
@@ -336,21 +351,23 @@ fn ends_at(code: &[Wide], place: usize) -> bool
     }
 }
 
-/// A run skips some instructions of the code, which begins at `from`, and goes on with this known.
-fn come(arrivals: &mut Arrivals, from: usize, skipped: u32, known: &Known, code: &[Wide])
+/// Notes that a run goes on with this known, after some instructions of the code, which begins at
+/// the place `from` of the whole code.
+fn note_arrival(arrivals: &mut Arrivals, from: usize, skipped: u32, known: &Known, code: &[Wide])
     requires { from < 2 ^ 63 }
     ensures { arrivals.new ≡ came from skipped known.now code.now arrivals.old }
 {
     let place = from + skipped as usize;
     if ends_at(code, skipped as usize) {
-        arrivals.end(from, place);
+        arrivals.arrive_at_end(from, place);
     } else {
         arrivals.arrive(from, place, known);
     }
 }
 
-/// The test with each target as far on as what is known decides. Notes what is known at both, in
-/// the code whose instruction after the test is at `from`.
+/// The test with each target as far on as what is known decides. Notes what is known at both. The
+/// instruction after the test is at the place `from` of the whole code. What is known `here`
+/// changes to what is known where the test fails.
 fn thread_test(
     arrivals: &mut Arrivals,
     from: usize,
@@ -368,17 +385,18 @@ fn thread_test(
     learn(here, insn, false);
     let insn = Wide {
         code: insn.code,
-        yes: moved(&yes, following, insn.yes),
-        no: moved(here, following, insn.no),
+        yes: threaded_offset(&yes, following, insn.yes),
+        no: threaded_offset(here, following, insn.no),
         k: insn.k,
     };
-    come(arrivals, from, insn.yes, &yes, following);
-    come(arrivals, from, insn.no, here, following);
+    note_arrival(arrivals, from, insn.yes, &yes, following);
+    note_arrival(arrivals, from, insn.no, here, following);
     insn
 }
 
 /// The instruction with each target as far on as what is known decides, if a run comes there. Notes
-/// what is known where the run goes on. The next instruction is at `from`.
+/// what is known where the run goes on. The next instruction is at the place `from` of the whole
+/// code. What is known `here` may change, and isn't needed any more.
 fn thread_insn(
     arrivals: &mut Arrivals,
     from: usize,
@@ -402,7 +420,7 @@ fn thread_insn(
         }
         Some(Operation::ReturnConstant | Operation::ReturnAccumulator) => insn,
         _ => {
-            pass(here, insn);
+            pass_insn(here, insn);
             arrivals.arrive(from, from, here);
             insn
         }
@@ -433,7 +451,7 @@ fn threaded_insns<A: Allocator>(mut insns: Vec<Wide, A>) -> Vec<Wide, A>
     insns
 }
 
-/// Whether an instruction is a load from the packet.
+/// Whether an instruction is a load from the packet, into A or of a header's length into X.
 fn is_load(insn: Wide) -> bool {
     matches!(
         decode(insn.code),
@@ -441,7 +459,9 @@ fn is_load(insn: Wide) -> bool {
     )
 }
 
-/// Whether some load is there twice. It calls itself for each instruction: the code is short.
+/// Whether some load is there twice. Otherwise threading decides nothing; a wrong answer would only
+/// take time or leave code as it is, so there is no clause. It calls itself for each instruction:
+/// the code is short.
 fn repeats_a_load(insns: &[Wide]) -> bool {
     match insns {
         [] => false,
@@ -461,7 +481,7 @@ fn repeats_a_load(insns: &[Wide]) -> bool {
 pub fn threaded<A: Allocator>(insns: Vec<Wide, A>) -> Vec<Wide, A>
     ensures { Threads result.items insns.items }
 {
-    if insns.len() <= SHORT && !repeats_a_load(&insns) {
+    if insns.len() <= SHORT_CODE && !repeats_a_load(&insns) {
         return insns;
     }
     threaded_insns(insns)

@@ -1,5 +1,6 @@
 //! Whether code whose tests may skip any number of instructions breaks a rule, and how many tests
-//! it has. The rules are those of `flt_bpf::check`, but for that on the length.
+//! it has. The rules are those of `flt_bpf::check`, but for that on the length. A yes is proved; a
+//! no says nothing.
 
 ghost use Rattle.std.specs.Prelude.{◌≡◌, None, true, IsTrue, count_by};
 ghost use Rattle.flt_bpf.specs.Check.{fault_of, constant_fault, is_return};
@@ -25,7 +26,7 @@ fn allows_constant(operator: AluOperation, k: u32) -> bool
     }
 }
 
-/// Whether an instruction that has `following` after it breaks no rule.
+/// Whether an instruction that has `following` others after it breaks no rule.
 #[tactic(auto, unfolding(flt_bpf::specs::Check::fault_of))]
 fn is_faultless(insn: Wide, following: usize) -> bool
     ensures { IsTrue result → fault_of insn following ≡ None }
@@ -42,7 +43,7 @@ fn is_faultless(insn: Wide, following: usize) -> bool
     }
 }
 
-/// Whether no instruction breaks a rule.
+/// Whether no instruction of the code breaks a rule.
 fn are_faultless(code: &[Wide]) -> bool
     ensures { IsTrue result → IsFaultless code.now }
 {
@@ -57,7 +58,7 @@ fn are_faultless(code: &[Wide]) -> bool
     true
 }
 
-/// Whether a code is that of a return.
+/// Whether an instruction's code is that of one of the two returns.
 fn returns(code: u16) -> bool
     ensures { result ≡ is_return (operation_of code) }
 {
@@ -80,13 +81,13 @@ fn ends_in_return(code: &[Wide]) -> bool
 }
 
 /// Whether code breaks no rule, that on its length aside.
-pub fn are_valid(code: &[Wide]) -> bool
+pub fn is_valid_unless_long(code: &[Wide]) -> bool
     ensures { IsTrue result → IsValidUnlessLong code.now }
 {
     are_faultless(code) && ends_in_return(code)
 }
 
-/// Whether an instruction is a test.
+/// Whether an instruction is a test, which the definition calls a branch.
 fn is_test(insn: &Wide) -> bool
     ensures { result ≡ is_branch (operation_of insn.now.code) }
 {

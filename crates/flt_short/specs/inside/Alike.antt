@@ -1,4 +1,6 @@
--- When two places of two programs do the same.
+-- When two places of two programs do the same: the new one is c, the old one is read from its
+-- instruction i on, which lands at l. `is` are the old instructions after i, `ls` their landings, j
+-- the instruction of the new program where i lands, and `js` those after it.
 use Rattle.std.specs.Prelude.{ℕ, ◌+◌, ◌-◌, ◌%◌, ◌^◌, ◌==◌, nat_lt, nat_le, Bool, true, false, if◌then◌else◌, ◌&&◌, ◌||◌, List, [], ◌∷◌, length, Option, Some, None, slice_get, drop}
 use Rattle.flt_bpf.specs.declared.insn.Insn.{Insn}
 use Rattle.flt_bpf.specs.declared.operation.Operation.{Operation}
@@ -11,7 +13,7 @@ use Rattle.flt_bpf.specs.declared.operation.AluOperation.TheVariants.{Add, And}
 use Rattle.flt_bpf.specs.Instructions.{code_of, operation_of}
 use Rattle.flt_short.specs.declared.alike.Landing.{Landing}
 
--- an operation reads A, or X
+-- what an operation does depends on A
 abbrev pub reads_accumulator : Operation → Bool
 reads_accumulator (Store Accumulator) = true
 reads_accumulator (Compute operator operand) = true
@@ -21,6 +23,7 @@ reads_accumulator ReturnAccumulator = true
 reads_accumulator CopyToIndex = true
 reads_accumulator _ = false
 
+-- what an operation does depends on X
 abbrev pub reads_index : Operation → Bool
 reads_index (LoadIndirect width) = true
 reads_index (Store Index) = true
@@ -29,7 +32,7 @@ reads_index (JumpIf test IndexRegister) = true
 reads_index CopyToAccumulator = true
 reads_index _ = false
 
--- it puts something into A, or into X
+-- an operation puts something into A
 abbrev pub sets_accumulator : Operation → Bool
 sets_accumulator (LoadAbsolute width) = true
 sets_accumulator (LoadIndirect width) = true
@@ -39,6 +42,7 @@ sets_accumulator Negate = true
 sets_accumulator CopyToAccumulator = true
 sets_accumulator _ = false
 
+-- an operation puts something into X
 abbrev pub sets_index : Operation → Bool
 sets_index (Load Index source) = true
 sets_index LoadHeaderLength = true
@@ -50,19 +54,22 @@ abbrev pub implies : Bool → Bool → Bool
 implies true b = b
 implies false b = true
 
--- a landing is this far past the instruction at a place, and what is read there is the same in
--- both programs: A and X are, as the two tests say
+-- the instruction at a place of the new program, skipping `far` others, leads to a landing, if
+-- there is one, and what is read from there on is the same in both programs: a and x are whether A
+-- and X are the same
 abbrev pub landing_fits_at : Option Landing → ℕ → ℕ → Bool → Bool → Bool
 landing_fits_at None far place a x = false
 landing_fits_at (Some l) far place a x =
     ((nat_lt 0 l.place && nat_lt l.place place) && place - l.place - 1 == far)
     && (implies l.accumulator a && implies l.index x)
 
--- the same of the landing with an index among those after an instruction
+-- a way fits: the instruction at a place of the new program, skipping `far` others, leads to the
+-- landing with index k, and what is read from there on is the same in both programs
 abbrev pub landing_fits : List Landing → ℕ → ℕ → ℕ → Bool → Bool → Bool
 landing_fits ls k far place a x = landing_fits_at (slice_get ls k) far place a x
 
--- both programs go on alike after an instruction that both have
+-- both programs go on alike after an instruction that both have, here with this operation: all its
+-- ways fit
 abbrev pub goes_on : Operation → Insn → Landing → Insn → List Landing → Bool
 goes_on Jump j l i ls = false
 goes_on (JumpIf test operand) j l i ls =
@@ -73,7 +80,7 @@ goes_on ReturnAccumulator j l i ls = true
 goes_on op j l i ls =
     landing_fits ls 0 0 l.place (sets_accumulator op || l.accumulator) (sets_index op || l.index)
 
--- the instruction j of the new program is the instruction i of the old one
+-- j is the same instruction as i, what it reads is the same in both programs, and both go on alike
 unfoldable pub same_step : Option Operation → Insn → Landing → Insn → List Landing → Bool
 same_step None j l i ls = false
 same_step (Some op) j l i ls =
@@ -81,18 +88,20 @@ same_step (Some op) j l i ls =
     && ((implies (reads_accumulator op) l.accumulator && implies (reads_index op) l.index)
     && goes_on op j l i ls)
 
--- the code of a mask, that of a test whether A is a number, and that of a test whether A has a bit
--- of k
+-- the code of a mask
 abbrev pub MASK : ℕ
 MASK = code_of (Compute And Constant)
 
+-- the code of a test whether A is k
 abbrev pub EQUAL : ℕ
 EQUAL = code_of (JumpIf test.Equal Constant)
 
+-- the code of a test whether A and k have a bit in common
 abbrev pub ANY_BIT : ℕ
 ANY_BIT = code_of (JumpIf test.AnyBit Constant)
 
--- it is one test for a mask and a test of what is left for 0; A isn't read after it
+-- j is one test of bits for i, which is a mask, and a test of what is left for 0; A isn't read
+-- after them
 unfoldable pub one_test : Insn → Landing → Insn → List Insn → List Landing → Bool
 one_test j l i [] ls = false
 one_test j l i (t ∷ is) ls =
@@ -101,22 +110,24 @@ one_test j l i (t ∷ is) ls =
     && (landing_fits ls (1 + t.jt) j.jf l.place false l.index
     && landing_fits ls (1 + t.jf) j.jt l.place false l.index))
 
--- the code of a load at a fixed place that is as wide as one at X
+-- the code of the load at a fixed place that takes as many bytes as this load at X
 abbrev pub direct_code : Option Operation → Option ℕ
 direct_code (Some (LoadIndirect width)) = Some (code_of (LoadAbsolute width))
 direct_code _ = None
 
-abbrev pub is_number : Option ℕ → ℕ → Bool
-is_number None n = false
-is_number (Some m) n = m == n
+-- a code, if there is one, is this one
+abbrev pub is_code : Option ℕ → ℕ → Bool
+is_code None n = false
+is_code (Some m) n = m == n
 
--- it is one load for a number that goes to X by A, and a load at X; X isn't read after it
+-- j is one load at a fixed place for i, which is a number into A, its copy to X, and a load at X; X
+-- isn't read after them
 unfoldable pub direct_load : Insn → Landing → Insn → List Insn → List Landing → Bool
 direct_load j l i [] ls = false
 direct_load j l i (t ∷ []) ls = false
 direct_load j l i (t ∷ u ∷ is) ls =
     ((i.code == code_of (Load Accumulator Immediate) && t.code == code_of CopyToIndex)
-    && (is_number (direct_code (operation_of u.code)) j.code && (i.k + u.k) % 2 ^ 32 == j.k))
+    && (is_code (direct_code (operation_of u.code)) j.code && (i.k + u.k) % 2 ^ 32 == j.k))
     && landing_fits ls 2 0 l.place true false
 
 -- a load at X
@@ -124,19 +135,20 @@ abbrev pub is_indirect : Option Operation → Bool
 is_indirect (Some (LoadIndirect width)) = true
 is_indirect _ = false
 
--- a number and the header length are added in A, and the sum goes to X
+-- four instructions put a number and a header's length into A and X, add them in A, and copy the
+-- sum to X
 abbrev pub adds_header : Insn → Insn → Insn → Insn → Bool
 adds_header i t u v =
     (i.code == code_of (Load Accumulator Immediate) && t.code == code_of LoadHeaderLength)
     && (u.code == code_of (Compute Add IndexRegister) && v.code == code_of CopyToIndex)
 
--- two loads are the same header's length, and as many bytes past X
+-- two pairs of instructions load the length of the same header, and then equally many bytes at X
 abbrev pub loads_alike : Insn → Insn → Insn → Insn → Bool
 loads_alike t h w j =
     (t.code == h.code && t.k == h.k) && (is_indirect (operation_of w.code) && w.code == j.code)
 
--- they are the header length and a load after it, for a number, the header length, their sum that
--- goes to X, and a load at X; X isn't read after it
+-- the new code has a header's length and a load at X for i, which is a number, the header's length,
+-- their sum, its copy to X, and a load at X; X isn't read after them
 unfoldable pub header_load : List Insn → Landing → Insn → List Insn → List Landing → Bool
 header_load (h ∷ j ∷ js) l i (t ∷ u ∷ v ∷ w ∷ is) ls =
     adds_header i t u v && (loads_alike t h w j
@@ -147,23 +159,26 @@ header_load js l i is ls = false
 abbrev pub code_from : List Insn → ℕ → List Insn
 code_from c place = if nat_le place (length c) then drop (length c - place) c else []
 
+-- the code, from a landing on, does what the instruction i and those after it do, by one of four
+-- rules
 abbrev pub stands_at : List Insn → Landing → Insn → List Insn → List Landing → Bool
 stands_at [] l i is ls = false
 stands_at (j ∷ js) l i is ls =
     (same_step (operation_of i.code) j l i ls || one_test j l i is ls)
     || (direct_load j l i is ls || header_load (j ∷ js) l i is ls)
 
--- the code does at a landing, if it is one, what the instruction i and those after it do
+-- the code does at the landing of i what i and those after it do; nothing is asked if i lands
+-- nowhere
 abbrev pub stands : List Insn → Landing → Insn → List Insn → List Landing → Bool
 stands c l i is ls = l.place == 0 || stands_at (code_from c l.place) l i is ls
 
--- it does at each landing what the old code does there
+-- the code does at each landing what the old code does there
 abbrev pub are_alike : List Insn → List Insn → List Landing → Bool
 are_alike c [] ls = true
 are_alike c (i ∷ is) [] = false
 are_alike c (i ∷ is) (l ∷ ls) = stands c l i is ls && are_alike c is ls
 
--- and the first landing is where it begins
+-- the first instruction of the old code lands where the new code, of this length, begins
 abbrev pub begins : List Landing → ℕ → Bool
 begins [] len = false
 begins (l ∷ ls) len = nat_lt 0 l.place && l.place == len

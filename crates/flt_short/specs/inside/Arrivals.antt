@@ -1,28 +1,33 @@
--- What is known where runs go on.
+-- What is known at the places where runs go on, of a few places at a time. A place is the index of
+-- an instruction; `seen` is what is noted so far.
 use Rattle.std.specs.Prelude.{ℕ, zero, suc, ◌==◌, nat_lt, if◌then◌else◌, List, [], ◌∷◌, length, replicate, slice_set, slice_index_or}
 use Rattle.flt_short.specs.declared.facts.Known.{Known}
 use Rattle.flt_short.specs.declared.arrivals.Arrival.{Arrival}
 use Rattle.flt_short.specs.declared.arrivals.Arrivals.{Arrivals}
 use Rattle.flt_short.specs.inside.Facts.{nothing_known, unreached, joined}
 
+-- the entry of a place, with what is known there
 abbrev pub arrival : ℕ → Known → Arrival
 arrival place k = record { place = place; known = k }
 
--- a run goes on at the first place, and nothing is known: all entries are for it
+-- what is noted before the code is read: a run goes on at place 0, and nothing is known there. All
+-- entries are for it
 abbrev pub at_start : Arrivals
 at_start = record { kept = replicate 8 (arrival 0 nothing_known); unknown_end = 0 }
 
--- the number of the first arrival at a place
+-- the index of the first entry for a place, or their number if there is none
 abbrev pub first_at : List Arrival → ℕ → ℕ
 first_at [] place = 0
 first_at (a ∷ seen) place = if a.place == place then 0 else suc (first_at seen place)
 
--- the number of the first arrival in front of a place
+-- the index of the first entry for a place before this one, which is free, or their number if there
+-- is none
 abbrev pub first_free : List Arrival → ℕ → ℕ
 first_free [] from = 0
 first_free (a ∷ seen) from = if nat_lt a.place from then 0 else suc (first_free seen from)
 
--- what is known at a place that isn't kept
+-- what is known at a place that isn't kept: nothing where a run may have found no room, else that
+-- no run comes there
 abbrev pub known_beside : ℕ → ℕ → Known
 known_beside end place = if nat_lt place end then nothing_known else unreached
 
@@ -33,21 +38,21 @@ known_at seen place =
     then (slice_index_or seen.kept (first_at seen.kept place) (arrival place nothing_known)).known
     else known_beside seen.unknown_end place
 
--- one more arrival at a place that is kept
+-- one more run goes on at a place whose entry has this index
 abbrev pub arrived_again : Arrivals → ℕ → ℕ → Known → Arrivals
 arrived_again seen at place k = record seen {
   kept = slice_set seen.kept at (arrival place
       (joined (slice_index_or seen.kept at (arrival place nothing_known)).known k));
 }
 
--- the first arrival at a place
+-- a run goes on at a place that isn't kept: the entry with this index is free, or none is
 abbrev pub arrived_first : Arrivals → ℕ → ℕ → Known → Arrivals
 arrived_first seen free place k =
     if nat_lt free (length seen.kept)
     then record seen { kept = slice_set seen.kept free (arrival place k) }
     else record seen { unknown_end = suc place }
 
--- a run goes on at a place with this known, where all places in front of another one are passed
+-- a run goes on at a place with this known, where all places before `from` are passed
 abbrev pub arrived : Arrivals → ℕ → ℕ → Known → Arrivals
 arrived seen from place k =
     if nat_lt (first_at seen.kept place) (length seen.kept)
@@ -55,7 +60,7 @@ arrived seen from place k =
     else (if nat_lt place seen.unknown_end then seen
     else arrived_first seen (first_free seen.kept from) place k)
 
--- the same of a place where the run ends, if it isn't kept
+-- a run reaches a place where it ends: a place that isn't kept is, with nothing known
 abbrev pub ended : Arrivals → ℕ → ℕ → Arrivals
 ended seen from place =
     if nat_lt (first_at seen.kept place) (length seen.kept) then seen

@@ -1,4 +1,5 @@
--- What is known of a packet, and of A and X, where a run reaches an instruction.
+-- What is known of a packet, and of A and X, where a run reaches an instruction. `code` and `k` are
+-- those of a load: together they say which bytes of the packet it takes. `i` is an instruction.
 use Rattle.std.specs.Prelude.{ℕ, suc, ◌==◌, not, Bool, true, false, if◌then◌else◌, ◌&&◌, ◌||◌, List, [], ◌∷◌, length, map, replicate, Option, Some, None, slice_set}
 use Rattle.flt_bpf.specs.declared.insn.Insn.{Insn}
 use Rattle.flt_bpf.specs.declared.operation.Operation.{Operation}
@@ -15,10 +16,11 @@ use Rattle.flt_short.specs.declared.facts.Held.{Held}
 use Rattle.flt_short.specs.declared.facts.Held.TheVariants as held
 use Rattle.flt_short.specs.declared.facts.Known.{Known}
 
+-- a fact that claims nothing
 abbrev pub nothing_claimed : Fact
 nothing_claimed = record { field = record { code = 0; k = 0; mask = None }; claim = Nothing }
 
--- nothing is known; or no run comes there
+-- what is known at a place where runs come of which nothing is known
 abbrev pub nothing_known : Known
 nothing_known = record {
   held = held.Unknown;
@@ -26,65 +28,73 @@ nothing_known = record {
   facts = replicate 5 nothing_claimed;
 }
 
+-- what is known at a place where no run comes
 abbrev pub unreached : Known
 unreached = record nothing_known { held = held.Unreached }
 
--- two numbers that may be missing are the same: masks, or headers
-abbrev pub same_mask : Option ℕ → Option ℕ → Bool
-same_mask None None = true
-same_mask (Some a) (Some b) = a == b
-same_mask _ _ = false
+-- two numbers that may be missing are the same or both missing: masks, or headers
+abbrev pub same_optional : Option ℕ → Option ℕ → Bool
+same_optional None None = true
+same_optional (Some a) (Some b) = a == b
+same_optional _ _ = false
 
+-- two fields are the same bits of the same bytes, loaded by the same code
 abbrev pub same_field : Field → Field → Bool
-same_field f g = (f.code == g.code && f.k == g.k) && same_mask f.mask g.mask
+same_field f g = (f.code == g.code && f.k == g.k) && same_optional f.mask g.mask
 
-abbrev pub is_nothing : Claim → Bool
-is_nothing Nothing = true
-is_nothing _ = false
+-- a claim is none
+abbrev pub claims_nothing : Claim → Bool
+claims_nothing Nothing = true
+claims_nothing _ = false
 
--- a number is as claimed
+-- a number may be what is claimed
 abbrev pub allows : Claim → ℕ → Bool
 allows Nothing n = true
 allows (Is a) n = n == a
 allows (IsNot a) n = not (n == a)
 allows (IsOneOf a b) n = n == a || n == b
 
--- a claim is that it isn't this number
-abbrev pub is_not : Claim → ℕ → Bool
-is_not (IsNot a) n = a == n
-is_not _ n = false
+-- a claim is that a number isn't this one
+abbrev pub denies : Claim → ℕ → Bool
+denies (IsNot a) n = a == n
+denies _ n = false
 
+-- a claim c holds only of numbers of which d holds, where d claims something
 abbrev pub entails_some : Claim → Claim → Bool
 entails_some Nothing d = false
 entails_some (Is a) d = allows d a
-entails_some (IsNot a) d = is_not d a
+entails_some (IsNot a) d = denies d a
 entails_some (IsOneOf a b) d = allows d a && allows d b
 
--- what is as one claim says is as the other one says
+-- the claim d holds of each number of which c holds
 abbrev pub entails : Claim → Claim → Bool
-entails c d = is_nothing d || entails_some c d
+entails c d = claims_nothing d || entails_some c d
 
+-- of two claims each of one number: that it is one of the two
 abbrev pub one_of_two : Claim → Claim → Claim
 one_of_two (Is a) (Is b) = IsOneOf a b
 one_of_two _ _ = Nothing
 
--- what holds of a number of which one of two claims holds
+-- what holds of a number of which one of two claims holds, not known which
 abbrev pub joined_claim : Claim → Claim → Claim
 joined_claim c d = if entails c d then d else (if entails d c then c else one_of_two c d)
 
--- what holds where a fact does that says something, and where all the others do
-abbrev pub joined_some : Fact → List Fact → Fact
-joined_some x [] = nothing_claimed
-joined_some x (y ∷ ys) =
-    if same_field x.field y.field && not (is_nothing (joined_claim x.claim y.claim))
+-- what holds of a fact's field on two ways, on one of which the fact holds, which claims something,
+-- and on the other one all of the others: by the first that leaves a claim, or nothing
+abbrev pub joined_with_any : Fact → List Fact → Fact
+joined_with_any x [] = nothing_claimed
+joined_with_any x (y ∷ ys) =
+    if same_field x.field y.field && not (claims_nothing (joined_claim x.claim y.claim))
     then record { field = x.field; claim = joined_claim x.claim y.claim }
-    else joined_some x ys
+    else joined_with_any x ys
 
--- what holds where a fact does, and where all the others do
+-- what is left of a fact where two ways meet, on one of which it holds, and on the other one all of
+-- the others
 abbrev pub joined_fact : Fact → List Fact → Fact
-joined_fact x ys = if is_nothing x.claim then x else joined_some x ys
+joined_fact x ys = if claims_nothing x.claim then x else joined_with_any x ys
 
--- what A holds where a run comes on two ways
+-- what A holds at a place to which runs come on two ways: what it holds on both, if that is the
+-- same
 abbrev pub joined_held : Held → Held → Held
 joined_held held.Unreached other = other
 joined_held h held.Unreached = h
@@ -94,117 +104,126 @@ joined_held (held.AtIndex code k) (held.AtIndex other_code other_k) =
     if code == other_code && k == other_k then held.AtIndex code k else held.Unknown
 joined_held _ _ = held.Unknown
 
--- the header whose length X holds on both ways, if it is one
-abbrev pub same_header : Option ℕ → Option ℕ → Option ℕ
-same_header a b = if same_mask a b then a else None
+-- the header whose length X holds on both of two ways, if that is one header
+abbrev pub common_header : Option ℕ → Option ℕ → Option ℕ
+common_header a b = if same_optional a b then a else None
 
+-- what is known at a place, where A held this, once one more run comes there
 abbrev pub joined_by : Held → Known → Known → Known
 joined_by held.Unreached k came = came
 joined_by h k came = record {
   held = joined_held h came.held;
-  index = same_header k.index came.index;
+  index = common_header k.index came.index;
   facts = map (λ x. joined_fact x came.facts) k.facts;
 }
 
--- what holds where a run comes on two ways
+-- what is known at a place once one more run comes there, of which `came` is known: what both have,
+-- or all of `came` where no run came before
 abbrev pub joined : Known → Known → Known
 joined k came = joined_by k.held k came
 
--- what a claim says of the test whether the number is this one
-abbrev pub says : Claim → ℕ → Option Bool
-says (Is a) n = Some (a == n)
-says c n = if allows c n then None else Some false
+-- the outcome of the test whether a number is this one, if a claim of it decides that
+abbrev pub outcome_by_claim : Claim → ℕ → Option Bool
+outcome_by_claim (Is a) n = Some (a == n)
+outcome_by_claim c n = if allows c n then None else Some false
 
+-- an outcome, or a later one where there is none
 abbrev pub first_said : Option Bool → Option Bool → Option Bool
 first_said (Some outcome) later = Some outcome
 first_said None later = later
 
--- the outcome of the test whether a field is a number
+-- the outcome of the test whether a field is this number, by the first fact that decides it
 abbrev pub decided : List Fact → Field → ℕ → Option Bool
 decided [] f n = None
 decided (x ∷ xs) f n =
-    if same_field x.field f then first_said (says x.claim n) (decided xs f n) else decided xs f n
+    if same_field x.field f then first_said (outcome_by_claim x.claim n) (decided xs f n)
+    else decided xs f n
 
+-- the two numbers that a claim names, or else those found later
 abbrev pub the_two : Claim → Option (ℕ × ℕ) → Option (ℕ × ℕ)
 the_two (IsOneOf a b) later = Some (a, b)
 the_two _ later = later
 
--- the two numbers of which a field is one
-abbrev pub one_of : List Fact → Field → Option (ℕ × ℕ)
-one_of [] f = None
-one_of (x ∷ xs) f =
-    if same_field x.field f then the_two x.claim (one_of xs f) else one_of xs f
+-- the two numbers of which a field is one, if a fact claims that
+abbrev pub two_numbers_of : List Fact → Field → Option (ℕ × ℕ)
+two_numbers_of [] f = None
+two_numbers_of (x ∷ xs) f =
+    if same_field x.field f then the_two x.claim (two_numbers_of xs f) else two_numbers_of xs f
 
--- an old fact says nothing, or nothing that the new one doesn't
+-- a new fact y may take the place of x without loss: x claims nothing, or nothing that doesn't
+-- follow from y
 abbrev pub gives_way : Fact → Fact → Bool
-gives_way x y = is_nothing x.claim || (same_field x.field y.field && entails y.claim x.claim)
+gives_way x y = claims_nothing x.claim || (same_field x.field y.field && entails y.claim x.claim)
 
--- where one more fact goes
+-- the index of the fact whose place one more takes: the first that gives way, or else the last
 abbrev pub place_for : List Fact → Fact → ℕ
 place_for [] y = 0
 place_for (x ∷ xs) y = if length xs == 0 || gives_way x y then 0 else suc (place_for xs y)
 
--- one more fact, in the place of one that gives way, or of the last
+-- what is known with one more fact, in the place of one that gives way, or of the last
 abbrev pub with_one : Known → Fact → Known
 with_one k y = record k { facts = slice_set k.facts (place_for k.facts y) y }
 
+-- what is known with one more fact, of this field with this claim
 abbrev pub with_fact : Known → Field → Claim → Known
 with_fact k f c = with_one k (record { field = f; claim = c })
 
--- by a fact the bytes that a load takes are captured
+-- a fact says that the bytes that a load takes are captured: any claim of its number does
 abbrev pub captures : Fact → ℕ → ℕ → Bool
-captures x code k = (x.field.code == code && x.field.k == k) && not (is_nothing x.claim)
+captures x code k = (x.field.code == code && x.field.k == k) && not (claims_nothing x.claim)
 
--- by one of some facts they are
+-- one of some facts says that the bytes that a load takes are captured
 abbrev pub any_captures : List Fact → ℕ → ℕ → Bool
 any_captures [] code k = false
 any_captures (x ∷ xs) code k = captures x code k || any_captures xs code k
 
--- A holds the field of a load, perhaps masked
+-- A holds the field of a load, perhaps masked, so that its bytes are captured
 abbrev pub holds_field : Held → ℕ → ℕ → Bool
 holds_field (held.Field f) code k = f.code == code && f.k == k
 holds_field _ code k = false
 
--- the bytes that a load takes are captured
+-- the bytes that a load takes are captured, by what A holds or by a fact
 abbrev pub is_captured : Known → ℕ → ℕ → Bool
 is_captured known code k = holds_field known.held code k || any_captures known.facts code k
 
+-- a field, which has this mask, with another one: none, if it has one already
 abbrev pub masked_by : Option ℕ → Field → ℕ → Option Field
 masked_by None f m = Some (record f { mask = Some m })
 masked_by (Some old) f m = None
 
--- the bits of a mask of a field, if none is masked yet
+-- a field with a mask: none, if it has one already
 abbrev pub masked_field : Field → ℕ → Option Field
 masked_field f m = masked_by f.mask f m
 
+-- A holds a field, if there is one
 abbrev pub held_if_some : Option Field → Held
 held_if_some None = held.Unknown
 held_if_some (Some f) = held.Field f
 
--- what A holds after a mask
+-- what A holds once it is masked, by what it held
 abbrev pub masked_held : Held → ℕ → Held
 masked_held (held.Field f) m = held_if_some (masked_field f m)
 masked_held _ m = held.Unknown
 
--- what is known of A once X is another number
-abbrev pub without_index : Held → Held
-without_index (held.AtIndex code k) = held.Unknown
-without_index h = h
+-- what is known of A once X is another number: what it said of a load at X is no longer known
+abbrev pub held_without_index : Held → Held
+held_without_index (held.AtIndex code k) = held.Unknown
+held_without_index h = h
 
--- what A holds after an instruction that isn't a test
+-- what A holds after an instruction that isn't a test, by what it held
 abbrev pub held_after : Option Operation → Held → Insn → Held
 held_after (Some (LoadAbsolute width)) h i =
     held.Field (record { code = i.code; k = i.k; mask = None })
 held_after (Some (LoadIndirect width)) h i = held.AtIndex i.code i.k
 held_after (Some (Compute And Constant)) h i = masked_held h i.k
-held_after (Some LoadHeaderLength) h i = without_index h
-held_after (Some (Load Index source)) h i = without_index h
-held_after (Some CopyToIndex) h i = without_index h
+held_after (Some LoadHeaderLength) h i = held_without_index h
+held_after (Some (Load Index source)) h i = held_without_index h
+held_after (Some CopyToIndex) h i = held_without_index h
 held_after (Some (Store register)) h i = h
 held_after (Some Jump) h i = h
 held_after _ h i = held.Unknown
 
--- which header's length X holds then
+-- which header's length X holds after an instruction that isn't a test, by which it held
 abbrev pub index_after : Option Operation → Option ℕ → Insn → Option ℕ
 index_after (Some LoadHeaderLength) x i = Some i.k
 index_after (Some (Load Index source)) x i = None
@@ -219,7 +238,8 @@ known_after op k i = record {
   facts = k.facts;
 }
 
--- what the outcome of the test whether a number is this one says of it, if it is one of two
+-- what the outcome of the test whether a number is n lets claim of it, where it may be known to be
+-- one of two
 abbrev pub claim_after : Bool → ℕ → Option (ℕ × ℕ) → Claim
 claim_after true n two = Is n
 claim_after false n None = IsNot n
@@ -228,9 +248,10 @@ claim_after false n (Some two) =
 
 -- what is known once the test whether a field is a number had an outcome
 abbrev pub known_by : Known → Field → ℕ → Bool → Known
-known_by k f n outcome = with_fact k f (claim_after outcome n (one_of k.facts f))
+known_by k f n outcome = with_fact k f (claim_after outcome n (two_numbers_of k.facts f))
 
--- what is known once a test had an outcome
+-- what is known once a test of k had an outcome, where A held h: more only after a test for
+-- equality of a field
 abbrev pub known_by_test : Option Operation → Held → Known → ℕ → Bool → Known
 known_by_test (Some (JumpIf Equal Constant)) (held.Field f) k n outcome = known_by k f n outcome
 known_by_test _ h k n outcome = k

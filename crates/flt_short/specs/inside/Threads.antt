@@ -1,4 +1,5 @@
--- Tests that go on as far as what is known there decides.
+-- Tests that go on as far as what is known there decides. In a walk a place is an index of the code
+-- c that follows the test, k is what is known where the walk began, s a spot, and i an instruction.
 use Rattle.std.specs.Prelude.{ℕ, zero, suc, ◌+◌, ◌^◌, ◌==◌, nat_lt, Bool, true, false, if◌then◌else◌, ◌&&◌, ◌||◌, List, [], ◌∷◌, length, Option, Some, None, slice_get}
 use Rattle.std.specs.Option.{is_none}
 use Rattle.flt_bpf.specs.declared.insn.Insn.{Insn}
@@ -17,45 +18,51 @@ use Rattle.flt_short.specs.declared.facts.Known.{Known}
 use Rattle.flt_short.specs.declared.thread.Spot.{Spot}
 use Rattle.flt_short.specs.declared.thread.Reached.{Reached}
 use Rattle.flt_short.specs.declared.arrivals.Arrivals.{Arrivals}
-use Rattle.flt_short.specs.inside.Facts.{same_field, decided, one_of, with_fact, is_captured, masked_field, known_after, known_by_test}
+use Rattle.flt_short.specs.inside.Facts.{same_field, decided, two_numbers_of, with_fact, is_captured, masked_field, known_after, known_by_test}
 use Rattle.flt_short.specs.inside.Arrivals.{at_start, known_at, arrived, ended}
 
--- the field that A would hold
+-- the field that A would hold where a walk is, if it would hold one: another one than where the
+-- walk began, or what A holds there
 abbrev pub field_at : Held → Option Field → Option Field
 field_at h (Some f) = Some f
 field_at (held.Field f) None = Some f
 field_at _ None = None
 
--- a field in A, if it isn't what A holds
-abbrev pub away : Held → Field → Option Field
-away (held.Field same) f = if same_field same f then None else Some f
-away _ f = Some f
+-- a field that A would hold, if that isn't what A holds where the walk began
+abbrev pub other_field : Held → Field → Option Field
+other_field (held.Field same) f = if same_field same f then None else Some f
+other_field _ f = Some f
 
+-- a walk is at a place, where A would hold another field or the same as where it began
 abbrev pub spot_at : ℕ → Option Field → Spot
 spot_at place other = record { place = place; other = other }
 
+-- where a walk is past a test with this outcome, if it has one
 abbrev pub past_decided : Option Bool → Insn → Spot → Option Spot
 past_decided None i s = None
 past_decided (Some outcome) i s =
     Some (spot_at (s.place + 1 + (if outcome then i.jt else i.jf)) s.other)
 
+-- where a walk is past a test of this field, if there is one
 abbrev pub past_test_of : Option Field → Known → Insn → Spot → Option Spot
 past_test_of None k i s = None
 past_test_of (Some f) k i s = past_decided (decided k.facts f i.k) i s
 
--- past a test that is decided
+-- where a walk is past a test for equality, if what is known decides it
 abbrev pub past_test : Known → Insn → Spot → Option Spot
 past_test k i s = past_test_of (field_at k.held s.other) k i s
 
+-- where a walk is past a mask that leaves this field, if there is one
 abbrev pub past_masked : Option Field → Known → Spot → Option Spot
 past_masked None k s = None
-past_masked (Some f) k s = Some (spot_at (s.place + 1) (away k.held f))
+past_masked (Some f) k s = Some (spot_at (s.place + 1) (other_field k.held f))
 
+-- where a walk is past a mask m of this field, if there is one
 abbrev pub past_mask_of : Option Field → Known → ℕ → Spot → Option Spot
 past_mask_of None k m s = None
 past_mask_of (Some f) k m s = past_masked (masked_field f m) k s
 
--- past a mask of a field
+-- where a walk is past a mask m, if A would hold a field without one
 abbrev pub past_mask : Known → ℕ → Spot → Option Spot
 past_mask k m s = past_mask_of (field_at k.held s.other) k m s
 
@@ -69,20 +76,20 @@ abbrev pub holds_header : Option ℕ → ℕ → Bool
 holds_header (Some known) header = known == header
 holds_header None header = false
 
--- past one instruction, if what is known decides what it does
-abbrev pub step : Option Operation → Known → Insn → Spot → Option Spot
-step (Some (LoadAbsolute width)) k i s =
+-- where a walk is past one instruction, if what is known decides what it does
+abbrev pub past_insn : Option Operation → Known → Insn → Spot → Option Spot
+past_insn (Some (LoadAbsolute width)) k i s =
     if is_captured k i.code i.k
     then Some (spot_at (s.place + 1)
-    (away k.held (record { code = i.code; k = i.k; mask = None })))
+    (other_field k.held (record { code = i.code; k = i.k; mask = None })))
     else None
-step (Some (LoadIndirect width)) k i s =
+past_insn (Some (LoadIndirect width)) k i s =
     if holds_load k.held i then Some (spot_at (s.place + 1) None) else None
-step (Some (Compute And Constant)) k i s = past_mask k i.k s
-step (Some LoadHeaderLength) k i s =
+past_insn (Some (Compute And Constant)) k i s = past_mask k i.k s
+past_insn (Some LoadHeaderLength) k i s =
     if holds_header k.index i.k then Some (spot_at (s.place + 1) s.other) else None
-step (Some (JumpIf Equal Constant)) k i s = past_test k i s
-step _ k i s = None
+past_insn (Some (JumpIf Equal Constant)) k i s = past_test k i s
+past_insn _ k i s = None
 
 -- an operation puts something into A, or ends the run, without reading A
 abbrev pub ignores_accumulator : Option Operation → Bool
@@ -93,51 +100,61 @@ ignores_accumulator (Some ReturnConstant) = true
 ignores_accumulator (Some CopyToAccumulator) = true
 ignores_accumulator _ = false
 
+-- the instruction, if there is one, does
 abbrev pub ignores_accumulator_if_there : Option Insn → Bool
 ignores_accumulator_if_there None = false
 ignores_accumulator_if_there (Some i) = ignores_accumulator (operation_of i.code)
 
+-- the instruction at a place puts something into A, or ends the run, without reading A
 abbrev pub ignores_accumulator_at : List Insn → ℕ → Bool
 ignores_accumulator_at c place = ignores_accumulator_if_there (slice_get c place)
 
+-- it doesn't matter what A holds at a place, whose instruction has this operation
 abbrev pub is_free_by : Option Operation → List Insn → ℕ → Bool
 is_free_by (Some LoadHeaderLength) c place = ignores_accumulator_at c (place + 1)
 is_free_by op c place = ignores_accumulator op
 
+-- it doesn't matter what A holds at a place, whose instruction is this one, if there is one
 abbrev pub is_free_at : Option Insn → List Insn → ℕ → Bool
 is_free_at None c place = false
 is_free_at (Some i) c place = is_free_by (operation_of i.code) c place
 
--- something is put into A from a place on before A is read
+-- it doesn't matter what A holds at a place: the instruction there, or after a header's length the
+-- next one, puts something into A, or ends the run, without reading A
 abbrev pub is_free : List Insn → ℕ → Bool
 is_free c place = is_free_at (slice_get c place) c place
 
--- a run may go on where a walk is, in place of where the walk began
+-- a run may go on where a walk is, in place of where the walk began: A is as it would be after the
+-- whole way, or it doesn't matter what A holds
 abbrev pub can_stop : List Insn → Spot → Bool
 can_stop c s = nat_lt s.place (length c) && (is_none s.other || is_free c s.place)
 
+-- where a walk is past this instruction, if there is one
 abbrev pub step_if_there : Option Insn → Known → Spot → Option Spot
 step_if_there None k s = None
-step_if_there (Some i) k s = step (operation_of i.code) k i s
+step_if_there (Some i) k s = past_insn (operation_of i.code) k i s
 
+-- a walk goes on from its next spot, if there is one
 abbrev pub walk_on : (Reached → Reached) → List Insn → Reached → Option Spot → Reached
 walk_on go_on c w None = w
 walk_on go_on c w (Some s) =
     go_on (record { spot = s; best = if can_stop c s then s.place else w.best })
 
--- a walk goes on, past at most that many instructions
+-- a walk goes on as far as what is known decides, past at most that many instructions
 unfoldable pub walk : ℕ → Known → List Insn → Reached → Reached
 walk zero k c w = w
 walk (suc fuel) k c w =
     walk_on (walk fuel k c) c w (step_if_there (slice_get c w.spot.place) k w.spot)
 
+-- how many instructions a walk passes at most
 abbrev pub FUEL : ℕ
 FUEL = 128
 
--- a walk from a place
-abbrev pub walked : Known → List Insn → ℕ → Reached
-walked k c from = walk FUEL k c (record { spot = spot_at from None; best = from })
+-- how far a walk from a place goes
+abbrev pub walk_from : Known → List Insn → ℕ → Reached
+walk_from k c from = walk FUEL k c (record { spot = spot_at from None; best = from })
 
+-- a field with two numbers, if there are these
 abbrev pub two_of : Field → Option (ℕ × ℕ) → Option (Field × ℕ × ℕ)
 two_of f None = None
 two_of f (Some two) = Some (f, two.0, two.1)
@@ -147,54 +164,63 @@ abbrev pub tests : Option Operation → Bool
 tests (Some (JumpIf Equal Constant)) = true
 tests _ = false
 
+-- the instruction, if there is one, tests whether A is a number
 abbrev pub tests_if_there : Option Insn → Bool
 tests_if_there None = false
 tests_if_there (Some i) = tests (operation_of i.code)
 
+-- the instruction at a place tests whether A is a number
 abbrev pub tests_at : List Insn → ℕ → Bool
 tests_at c place = tests_if_there (slice_get c place)
 
--- a field, and the two numbers of which it is one
+-- this field, if there is one, with the two numbers of which it is known to be one
 abbrev pub two_at_field : Known → Option Field → Option (Field × ℕ × ℕ)
 two_at_field k None = None
-two_at_field k (Some f) = two_of f (one_of k.facts f)
+two_at_field k (Some f) = two_of f (two_numbers_of k.facts f)
 
--- the same of the field that A would hold where a walk ended, if it is tested there
-abbrev pub two_at : Known → List Insn → Spot → Option (Field × ℕ × ℕ)
-two_at k c s =
+-- the field that A would hold where a walk ended at a test of it, with the two numbers of which it
+-- is one
+abbrev pub two_numbers_at : Known → List Insn → Spot → Option (Field × ℕ × ℕ)
+two_numbers_at k c s =
     if tests_at c s.place then two_at_field k (field_at k.held s.other) else None
 
+-- the place where two walks end, if it is one, else another one
 abbrev pub agreed : ℕ → ℕ → ℕ → ℕ
 agreed first second best = if first == second then first else best
 
+-- where a run may go on in place of a place, if a field may be one of two numbers
 abbrev pub target_by : Option (Field × ℕ × ℕ) → Known → List Insn → ℕ → ℕ → ℕ
 target_by None k c from best = best
 target_by (Some two) k c from best =
-    agreed (walked (with_fact k two.0 (Is two.1)) c from).best
-    (walked (with_fact k two.0 (Is two.2)) c from).best best
+    agreed (walk_from (with_fact k two.0 (Is two.1)) c from).best
+    (walk_from (with_fact k two.0 (Is two.2)) c from).best best
 
--- where a run may go on in place of a place
+-- the last place where a run may go on in place of the place `from`
 abbrev pub target : Known → List Insn → ℕ → ℕ
 target k c from =
-    let end = walked k c from in
-    target_by (two_at k c end.spot) k c from end.best
+    let end = walk_from k c from in
+    target_by (two_numbers_at k c end.spot) k c from end.best
 
--- the same of the instructions that a test skips
-abbrev pub moved : Known → List Insn → ℕ → ℕ
-moved k c skipped = if nat_lt (target k c skipped) (2 ^ 32) then target k c skipped else skipped
+-- how many instructions a test skips once its target is as far on as what is known decides, in
+-- place of `skipped`
+abbrev pub threaded_offset : Known → List Insn → ℕ → ℕ
+threaded_offset k c skipped =
+    if nat_lt (target k c skipped) (2 ^ 32) then target k c skipped else skipped
 
 -- a test whose targets are as far as what is known decides
 abbrev pub threaded_test : Option Operation → Known → Insn → List Insn → Insn
 threaded_test op k i c =
     record i {
-      jt = moved (known_by_test op k.held k i.k true) c i.jt;
-      jf = moved (known_by_test op k.held k i.k false) c i.jf;
+      jt = threaded_offset (known_by_test op k.held k i.k true) c i.jt;
+      jf = threaded_offset (known_by_test op k.held k i.k false) c i.jf;
     }
 
+-- an instruction with this operation whose targets are as far as what is known decides
 abbrev pub threaded_by : Option Operation → Known → Insn → List Insn → Insn
 threaded_by (Some (JumpIf test operand)) k i c = threaded_test (Some (JumpIf test operand)) k i c
 threaded_by _ k i c = i
 
+-- an instruction whose targets are so, if a run comes there, by what A holds
 abbrev pub threaded_if : Held → Option Operation → Known → Insn → List Insn → Insn
 threaded_if held.Unreached op k i c = i
 threaded_if h op k i c = threaded_by op k i c
@@ -203,30 +229,34 @@ threaded_if h op k i c = threaded_by op k i c
 abbrev pub threaded_insn : Option Operation → Known → Insn → List Insn → Insn
 threaded_insn op k i c = threaded_if k.held op k i c
 
+-- an operation ends the run by returning a number
 abbrev pub ends : Option Operation → Bool
 ends (Some ReturnConstant) = true
 ends _ = false
 
+-- the instruction, if there is one, ends the run by returning a number
 abbrev pub ends_if_there : Option Insn → Bool
 ends_if_there None = false
 ends_if_there (Some i) = ends (operation_of i.code)
 
--- the run ends at a place
+-- a run ends at a place, by returning a number
 abbrev pub ends_at : List Insn → ℕ → Bool
 ends_at c place = ends_if_there (slice_get c place)
 
--- a run skips some instructions of the code, which begins at a place, and goes on with this known
+-- what is noted once a run goes on with this known after some instructions of the code, which
+-- begins at the place `from` of the whole code
 abbrev pub came : ℕ → ℕ → Known → List Insn → Arrivals → Arrivals
 came from skipped k c seen =
     if ends_at c skipped then ended seen from (from + skipped)
     else arrived seen from (from + skipped) k
 
--- a run goes on where a test leads, in the code from a place on
+-- what is noted once runs go on where a test leads; the code after it begins at the place `from`
 abbrev pub with_ways : ℕ → Option Operation → Known → Insn → List Insn → Arrivals → Arrivals
 with_ways from op k i c seen =
     came from i.jf (known_by_test op k.held k i.k false) c
     (came from i.jt (known_by_test op k.held k i.k true) c seen)
 
+-- what is noted once runs go on after an instruction with this operation
 abbrev pub with_arrivals_by : ℕ → Option Operation → Known → Insn → List Insn → Arrivals → Arrivals
 with_arrivals_by from (Some (JumpIf test operand)) k i c seen =
     with_ways from (Some (JumpIf test operand)) k i c seen
@@ -235,16 +265,17 @@ with_arrivals_by from (Some ReturnConstant) k i c seen = seen
 with_arrivals_by from (Some ReturnAccumulator) k i c seen = seen
 with_arrivals_by from op k i c seen = arrived seen from from (known_after op k i)
 
+-- what is noted once runs go on after an instruction, if a run comes there, by what A holds
 abbrev pub with_arrivals_if : Held → ℕ → Option Operation → Known → Insn → List Insn → Arrivals → Arrivals
 with_arrivals_if held.Unreached from op k i c seen = seen
 with_arrivals_if h from op k i c seen = with_arrivals_by from op k i c seen
 
--- a run goes on from an instruction to those after it, the first of which is at a place
+-- what is noted once runs go on after an instruction; the next one is at the place `from`
 abbrev pub with_arrivals : ℕ → Option Operation → Known → Insn → List Insn → Arrivals → Arrivals
 with_arrivals from op k i c seen = with_arrivals_if k.held from op k i c seen
 
--- the code from a place on with its targets as far as what is known decides, where that is known
--- that comes with the runs from the code in front
+-- the code from the place `at` on, with the targets of its tests as far as what is known decides;
+-- `seen` is what the code in front of it has noted
 abbrev pub flow : ℕ → Arrivals → List Insn → List Insn
 flow at seen [] = []
 flow at seen (i ∷ is) =
@@ -252,6 +283,6 @@ flow at seen (i ∷ is) =
     let j = threaded_insn (operation_of i.code) k i is in
     j ∷ flow (suc at) (with_arrivals (suc at) (operation_of i.code) k j is seen) is
 
--- the same of a whole program
+-- a whole program with the targets of its tests as far as what is known decides
 abbrev pub threaded : List Insn → List Insn
 threaded is = flow 0 at_start is

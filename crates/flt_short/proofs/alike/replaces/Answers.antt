@@ -15,4 +15,4 @@ returns-then-has_no_jump c = λ t.
     (sym c.are_alike.ensures ∙ c.if-not-are_alike.false)
     (omega arith)
     (c.has_no_jump.ensures.0 c.if-has_no_jump.true)
-    (c.are_valid.ensures t)
+    (c.is_valid_unless_long.ensures t)
