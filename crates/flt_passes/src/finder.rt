@@ -1,6 +1,8 @@
-//! The notes on two programs, one of which a pass made of the other: both are followed from their
-//! beginnings. A note is a draft as long as more ways may lead to it: the places of the new program
-//! are finished one after the other, and ways lead only to later ones.
+//! The notes by which `flt_opt` compares two programs, one of which passes made of the other: runs
+//! of both on the same packet are followed from their beginnings. A note is a place (an index) in
+//! each program where both runs may be at a time, with what is known of them there. It is a *draft*
+//! as long as more ways may lead to it: the places of the new program are finished one after the
+//! other, and ways lead only to later ones.
 
 use crate::graph::place_after;
 use crate::known::{Facts, NO_FACTS, common_facts, facts_after_operation, facts_after_test};
@@ -19,16 +21,20 @@ use std::alloc::{AllocError, Allocator};
 /// Both runs where the new one reaches an instruction.
 #[derive(Clone, Copy)]
 struct Way {
+    /// The place of the new run.
     new: usize,
+    /// The place of the old run, and what is known of the registers of both.
     old: Arrival,
+    /// What is known of the packet.
     facts: Facts,
 }
 
-/// A note that is being made: what holds on all ways to it that were seen.
+/// A note that is being made.
 #[derive(Clone, Copy)]
 struct Draft {
-    /// Its index.
+    /// The index of the note.
     note: usize,
+    /// The note's places, and what holds on all ways to it that were seen.
     way: Way,
     /// The index of the next draft for the same place of the new program.
     next: Option<usize>,
@@ -38,10 +44,10 @@ struct Draft {
 const START: Way = Way {
     new: 0,
     old: Arrival {
-        old: 0,
+        place: 0,
         both: Both {
-            new: ZERO,
-            old: ZERO,
+            new: ZERO_REGISTERS,
+            old: ZERO_REGISTERS,
             same_accumulator: true,
             same_index: true,
         },
@@ -50,20 +56,22 @@ const START: Way = Way {
 };
 
 /// What the registers of a run hold at its beginning.
-const ZERO: Registers = Registers {
+const ZERO_REGISTERS: Registers = Registers {
     accumulator: Term::Number(0),
     index: Term::Number(0),
 };
 
-/// Notes that are found.
+/// Notes that are found, with the lists that they share.
 #[derive(Drop)]
-pub(crate) struct Found<A: Allocator> {
+pub(crate) struct FoundNotes<A: Allocator> {
     notes: Vec<Note, A>,
+    /// The facts of all notes, each note's one after the other.
     facts: Vec<Fact, A>,
+    /// The pieces of all facts' sets of numbers.
     pieces: Vec<Piece, A>,
 }
 
-impl<A: Allocator> Found<A> {
+impl<A: Allocator> FoundNotes<A> {
     /// The notes, as `flt_opt` takes them.
     pub(crate) fn notes(&self) -> Notes<'_> {
         Notes {
@@ -80,17 +88,20 @@ struct Finder<'a, A: Allocator> {
     alloc: A,
     new: &'a [Wide],
     old: &'a [Wide],
+    /// What is read from each place of the new program on.
     new_lives: Vec<Live, A>,
+    /// What is read from each place of the old program on.
     old_lives: Vec<Live, A>,
-    found: Found<A>,
+    found: FoundNotes<A>,
+    /// The drafts, in any order.
     drafts: Vec<Draft, A>,
-    /// The drafts that are done.
+    /// The indices of the entries of `drafts` that are finished, so that new ones may take them.
     free: Vec<usize, A>,
-    /// The first draft for each place of the new program.
+    /// For each place of the new program the index of its first draft.
     firsts: Vec<Option<usize>, A>,
 }
 
-/// The entry of a draft in the list of notes until it is finished.
+/// What the list of notes has for a draft until it is finished: its places, and fillers.
 fn draft_note(new: usize, old: usize) -> Note {
     Note {
         new,
@@ -108,7 +119,7 @@ impl<A: Allocator + Clone> Finder<'_, A> {
         let mut next = self.firsts.get(new).copied().flatten();
         for _ in 0..self.drafts.len() {
             let draft = self.drafts.get(next?)?;
-            if draft.way.old.old == old {
+            if draft.way.old.place == old {
                 return next;
             }
             next = draft.next;
@@ -116,10 +127,11 @@ impl<A: Allocator + Clone> Finder<'_, A> {
         None
     }
 
-    /// A new draft, first of those for its place of the new program. Returns the index of its note.
+    /// Adds a draft, to which this way leads, as the first of those for its place of the new
+    /// program. Returns the index of its note.
     fn add_draft(&mut self, way: &Way) -> Result<usize, AllocError> {
         let note = self.found.notes.len();
-        self.found.notes.push(draft_note(way.new, way.old.old))?;
+        self.found.notes.push(draft_note(way.new, way.old.place))?;
         let draft = Draft {
             note,
             way: *way,
@@ -141,8 +153,8 @@ impl<A: Allocator + Clone> Finder<'_, A> {
         Ok(note)
     }
 
-    /// One more way leads to a draft: what holds on all of them is kept. Returns the index of its
-    /// note.
+    /// One more way leads to the draft `index`: what holds on all of them is kept. Returns the
+    /// index of its note.
     fn join_draft(&mut self, index: usize, way: &Way) -> Result<usize, AllocError> {
         // `draft_at` found it, so it is there.
         let Some(draft) = self.drafts.get_mut(index) else {
@@ -153,8 +165,9 @@ impl<A: Allocator + Clone> Finder<'_, A> {
         Ok(draft.note)
     }
 
-    /// Where the old run has to be when the new one does its next instruction: at what that
-    /// replaces by a rule, or where it is and waits. `None`: neither is allowed.
+    /// Where the old run has to be when the new one does its next instruction, `new`: at an
+    /// instruction that this replaces by a rule, to which it walks; or where it is, and waits.
+    /// `None`: neither is allowed.
     fn old_arrival(&self, way: &Way, new: Wide) -> Option<Arrival> {
         let pieces = &self.found.pieces;
         let facts = &way.facts;
@@ -163,7 +176,7 @@ impl<A: Allocator + Clone> Finder<'_, A> {
         arrival.or(is_own.then_some(way.old))
     }
 
-    /// What the new run and the old one read from where they are on a way.
+    /// What the new run and the old one read from where they are on.
     fn reads(&self, way: &Way) -> [Reads; 2] {
         let both = &way.old.both;
         [
@@ -172,14 +185,14 @@ impl<A: Allocator + Clone> Finder<'_, A> {
                 accumulator: both.new.accumulator,
             },
             Reads {
-                live: live_at(&self.old_lives, way.old.old),
+                live: live_at(&self.old_lives, way.old.place),
                 accumulator: both.old.accumulator,
             },
         ]
     }
 
-    /// The index of the note where a way leads, a new one if there is none yet. `None`: no rule
-    /// allows one.
+    /// The index of the note to which a way leads, once the old run has walked as far as it has to;
+    /// a new one if there is none yet. `None`: no rule allows one, so that none is found.
     fn arrive_at_note(&mut self, way: &Way) -> Result<Option<usize>, AllocError> {
         let Some(new) = self.new.get(way.new).copied() else {
             return Ok(None);
@@ -190,7 +203,7 @@ impl<A: Allocator + Clone> Finder<'_, A> {
         let mut way = Way { old, ..*way };
         let reads = self.reads(&way);
         way.facts.keep_useful(&reads);
-        match self.draft_at(way.new, old.old) {
+        match self.draft_at(way.new, old.place) {
             None => self.add_draft(&way).map(Some),
             Some(index) => self.join_draft(index, &way).map(Some),
         }
@@ -198,7 +211,7 @@ impl<A: Allocator + Clone> Finder<'_, A> {
 }
 
 impl<A: Allocator + Clone> Finder<'_, A> {
-    /// Puts the facts of a note into the list of all.
+    /// Adds the facts of a note at the end of the list of all. Returns where they are.
     fn put_facts(&mut self, facts: &Facts) -> Result<Span, AllocError> {
         let start = self.found.facts.len();
         self.found.facts.extend_from_slice(facts.as_slice())?;
@@ -208,17 +221,19 @@ impl<A: Allocator + Clone> Finder<'_, A> {
         })
     }
 
-    /// The place of the old run after an instruction that the new one does by a rule.
+    /// The place of the old run, which was at `old`, after an instruction that the new one does by
+    /// a rule; of a test on the side where that holds, or doesn't.
     fn old_place_after(&self, rule: Rule, old: usize, holds: bool) -> usize {
         match rule {
             Rule::Own => old,
             Rule::Same | Rule::Load => self.next_old_place(old, holds),
+            // Past the mask; then a test for 0, which holds where the test of bits doesn't.
             Rule::Bits => self.next_old_place(place_after(old, 0), !holds),
         }
     }
 
-    /// Where the old run goes on after its instruction at a place: after a test, on the side where
-    /// it holds or doesn't. The instruction is no `ja`: walks pass those.
+    /// Where the old run goes on after its instruction `at`; of a test on the side where that
+    /// holds, or doesn't. The instruction is no `ja`: walks pass those.
     fn next_old_place(&self, at: usize, holds: bool) -> usize {
         let Some(insn) = self.old.get(at) else {
             return place_after(at, 0);
@@ -231,7 +246,8 @@ impl<A: Allocator + Clone> Finder<'_, A> {
         }
     }
 
-    /// Both runs after an instruction of the new program that isn't a test.
+    /// Both runs after an instruction of the new program that isn't a test, which it does by a
+    /// rule.
     fn way_after(&self, way: &Way, insn: Wide, operation: Operation, rule: Rule) -> Way {
         let both = match rule {
             Rule::Own => after_new(operation, insn.k, way.old.both),
@@ -241,14 +257,15 @@ impl<A: Allocator + Clone> Finder<'_, A> {
         Way {
             new: place_after(way.new, 0),
             old: Arrival {
-                old: self.old_place_after(rule, way.old.old, true),
+                place: self.old_place_after(rule, way.old.place, true),
                 both,
             },
             facts: facts_after_operation(&way.facts, operation, insn.k, way.old.both.new),
         }
     }
 
-    /// Both runs on a side of a test of the new program.
+    /// Both runs after a test of the new program, which it does by a rule, on the side where that
+    /// holds, or doesn't.
     fn way_on_side(
         &mut self,
         way: &Way,
@@ -260,7 +277,7 @@ impl<A: Allocator + Clone> Finder<'_, A> {
         let mut on_side = Way {
             new: place_after(way.new, if holds { insn.yes } else { insn.no }),
             old: Arrival {
-                old: self.old_place_after(rule, way.old.old, holds),
+                place: self.old_place_after(rule, way.old.place, holds),
                 both: both_after_test(rule, both),
             },
             facts: way.facts,
@@ -275,7 +292,7 @@ impl<A: Allocator + Clone> Finder<'_, A> {
         Ok(on_side)
     }
 
-    /// The index of the note on a side of a test, if one is found.
+    /// The index of the note to which a side of a test of the new program leads, if one is found.
     fn arrive_on_side(
         &mut self,
         way: &Way,
@@ -287,7 +304,8 @@ impl<A: Allocator + Clone> Finder<'_, A> {
         self.arrive_at_note(&on_side)
     }
 
-    /// The indices of the notes where a test holds and where it doesn't, if both are found.
+    /// The indices of the notes to which a test of the new program leads where it holds, and where
+    /// it doesn't. `None`: one isn't found.
     fn notes_on_sides(
         &mut self,
         way: &Way,
@@ -299,8 +317,10 @@ impl<A: Allocator + Clone> Finder<'_, A> {
         Ok(yes.zip(no))
     }
 
-    /// The indices of the notes after an instruction, if they are found: of a test on both sides,
-    /// else twice the same; of a return 0, which isn't read.
+    /// The indices of the notes after an instruction of the new program, as a note has them: of a
+    /// test where it holds and where it doesn't, else twice the same. Where what is known decides a
+    /// test, both are those of the side that is taken. Of a return they are 0, and not read.
+    /// `None`: one isn't found.
     fn notes_after(
         &mut self,
         way: &Way,
@@ -327,14 +347,15 @@ impl<A: Allocator + Clone> Finder<'_, A> {
         }
     }
 
-    /// Makes the note of a draft, to which no more ways lead. Returns whether it can be one.
+    /// Makes the note of a draft, to which no more ways lead. Returns whether it can be one: the
+    /// notes after it are found.
     fn finish_note(&mut self, draft: &Draft) -> Result<bool, AllocError> {
         let way = &draft.way;
         let Some(insn) = self.new.get(way.new).copied() else {
             return Ok(false);
         };
         // Without a rule `old_arrival` let the old run wait.
-        let rule = rule_at(insn, self.old, way.old.old, &way.old.both).unwrap_or(Rule::Own);
+        let rule = rule_at(insn, self.old, way.old.place, &way.old.both).unwrap_or(Rule::Own);
         let Some((yes, no)) = self.notes_after(way, insn, rule)? else {
             return Ok(false);
         };
@@ -342,7 +363,7 @@ impl<A: Allocator + Clone> Finder<'_, A> {
         if let Some(note) = self.found.notes.get_mut(draft.note) {
             *note = Note {
                 new: way.new,
-                old: way.old.old,
+                old: way.old.place,
                 registers: way.old.both,
                 facts,
                 yes,
@@ -352,7 +373,7 @@ impl<A: Allocator + Clone> Finder<'_, A> {
         Ok(true)
     }
 
-    /// Finishes the drafts for a place of the new program. Returns whether all can be notes.
+    /// Finishes all drafts for a place of the new program. Returns whether all can be notes.
     fn finish_notes_at(&mut self, new: usize) -> Result<bool, AllocError> {
         let mut next = self.firsts.get(new).copied().flatten();
         for _ in 0..self.drafts.len() {
@@ -371,7 +392,8 @@ impl<A: Allocator + Clone> Finder<'_, A> {
         Ok(true)
     }
 
-    /// Makes all notes. Returns whether they are found.
+    /// Makes all notes, of which the first is for the beginning of both programs. Returns whether
+    /// they are found.
     fn find_all(&mut self) -> Result<bool, AllocError> {
         if self.arrive_at_note(&START)? != Some(0) {
             return Ok(false);
@@ -385,8 +407,8 @@ impl<A: Allocator + Clone> Finder<'_, A> {
     }
 }
 
-/// What is known of both runs after a test that the new one does by a rule. By `Bits` the old run
-/// has masked its A.
+/// What is known of the registers of both runs after a test that the new one does by a rule. By
+/// `Bits` the old run has masked its A.
 fn both_after_test(rule: Rule, both: &Both) -> Both {
     match rule {
         Rule::Same | Rule::Load | Rule::Own => *both,
@@ -401,19 +423,20 @@ fn both_after_test(rule: Rule, both: &Both) -> Both {
     }
 }
 
-/// Notes by which new code may be seen to replace old code, if they are found.
+/// Notes by which `flt_opt` may see that new code returns what old code returns. `None`: none are
+/// found; the two may return the same all the same.
 pub(crate) fn find_notes<A: Allocator + Clone>(
     alloc: A,
     new: &[Wide],
     old: &[Wide],
-) -> Result<Option<Found<A>>, AllocError> {
+) -> Result<Option<FoundNotes<A>>, AllocError> {
     let mut finder = Finder {
         alloc: alloc.clone()?,
         new,
         old,
         new_lives: lives_of_code(alloc.clone()?, new)?,
         old_lives: lives_of_code(alloc.clone()?, old)?,
-        found: Found {
+        found: FoundNotes {
             notes: Vec::new(alloc.clone()?),
             facts: Vec::new(alloc.clone()?),
             pieces: new_piece_list(alloc.clone()?)?,

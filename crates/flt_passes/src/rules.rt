@@ -1,5 +1,7 @@
-//! The rules by which an instruction of new code replaces some of the old code. They are those of
-//! `flt_opt::validator`: here they find the notes that it then checks.
+//! The rules by which an instruction of new code replaces one or two of the old code, where two
+//! runs on the same packet come to both (the *new* run and the *old* one). They are those of
+//! `flt_opt::validator`: here they find the notes that it then checks. `Both` has what is known of
+//! both runs' registers there.
 
 use crate::known::loads_from_packet;
 use flt_bpf::operation::{AluOperation, Operand, Operation, Test, decode};
@@ -8,16 +10,16 @@ use flt_opt::{
     Both, Fact, is_known, is_load, is_sure, is_there, made_term, same_accumulator, same_index,
 };
 
-/// What the new run does where it reaches an instruction.
+/// What an instruction of the new code does, by what the old run does meanwhile.
 #[derive(Clone, Copy)]
 pub(crate) enum Rule {
-    /// What the old one does.
+    /// What the old run's instruction does.
     Same,
-    /// A load of the field that the old one loads.
+    /// It loads the field that the old run's instruction loads, maybe in another way.
     Load,
-    /// A test of bits, where the old one has a mask and a test for 0.
+    /// It tests bits, where the old run masks A and tests it for 0.
     Bits,
-    /// Something of its own; the old run waits.
+    /// It does something of its own; the old run waits.
     Own,
 }
 
@@ -27,8 +29,8 @@ fn operands_agree(operation: Operation, both: &Both) -> bool {
         && (!reads_index(operation) || same_index(both))
 }
 
-/// Whether both instructions load the same field, as what is in their registers says.
-fn loads_same(new: Wide, old: Wide, both: &Both) -> bool {
+/// Whether both instructions load the same field into A, by what is known of their registers.
+fn loads_same_field(new: Wide, old: Wide, both: &Both) -> bool {
     let (Some(operation), Some(old_operation)) = (decode(new.code), decode(old.code)) else {
         return false;
     };
@@ -39,15 +41,16 @@ fn loads_same(new: Wide, old: Wide, both: &Both) -> bool {
         && field == made_term(old_operation, old.k, both.old)
 }
 
-/// Whether both instructions are the same, with the same operands. Where tests lead is not
-/// compared.
+/// Whether both instructions are the same, and what they read in A and X is. Where tests lead is
+/// not compared.
 fn does_same(new: Wide, old: Wide, both: &Both) -> bool {
     new.code == old.code
         && new.k == old.k
         && decode(new.code).is_some_and(|operation| operands_agree(operation, both))
 }
 
-/// Whether the new code tests bits where the old one has a mask and a test for 0.
+/// Whether the new code tests bits where the old one has a mask (`old`) and, in `following`, a test
+/// for 0.
 fn tests_bits(new: Wide, old: Wide, following: Option<Wide>, both: &Both) -> bool {
     let is_bits = matches!(
         decode(new.code),
@@ -67,14 +70,14 @@ fn tests_bits(new: Wide, old: Wide, following: Option<Wide>, both: &Both) -> boo
     is_bits && is_mask && is_test && new.k == old.k && same_accumulator(both)
 }
 
-/// The rule by which an instruction of new code replaces the one of the old code at a place, if one
-/// does.
+/// The rule by which an instruction of new code replaces the one of the old code with index `at`
+/// (by `Bits` that and the next one). `None`: no rule does. `Own` is never given.
 pub(crate) fn rule_at(new: Wide, old: &[Wide], at: usize, both: &Both) -> Option<Rule> {
     let insn = *old.get(at)?;
     if does_same(new, insn, both) {
         return Some(Rule::Same);
     }
-    if loads_same(new, insn, both) {
+    if loads_same_field(new, insn, both) {
         return Some(Rule::Load);
     }
     let following = old.get(at.saturating_add(1)).copied();
@@ -84,8 +87,9 @@ pub(crate) fn rule_at(new: Wide, old: &[Wide], at: usize, both: &Both) -> Option
     None
 }
 
-/// Whether an instruction may be the new code's own (`does_own` of flt_opt): it is a test, or leads
-/// on to the next instruction on each packet that comes there, and changes no word of memory.
+/// Whether an instruction may be the new code's own, while the old run waits (`does_own` of
+/// flt_opt): it is a test, or leads on to the next instruction on each packet of which these facts
+/// hold, and changes no word of memory.
 pub(crate) fn may_be_own(new: Wide, both: &Both, facts: &[Fact]) -> bool {
     match decode(new.code) {
         None => false,

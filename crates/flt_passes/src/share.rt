@@ -6,9 +6,9 @@ use crate::order::{entry_at, order_nodes};
 use std::alloc::{AllocError, Allocator};
 use std::collections::HashMap;
 
-/// What a node does and where it leads, as a key that is equal for nodes that do the same. Indices
-/// are below 2^32 in any code that fits into memory; were two keys equal by mistake, the result
-/// would be refused.
+/// What a node does and where it leads, as a key that is equal for nodes that do the same. As
+/// `best_of` takes less than 2^30 instructions, indices are below 2^32, so that no other keys are
+/// equal; were they, the result would be refused.
 #[derive(Clone, Copy, PartialEq, Eq, Hash)]
 struct NodeKey {
     /// The code and k.

@@ -1,5 +1,6 @@
-//! The old run on its way to what the next instruction of the new one replaces, by what is known.
-//! It is the search for what `flt_opt::walk` then checks.
+//! The walk of the old run to an instruction that the next one of the new run replaces by a rule,
+//! past instructions whose outcome is known. The new run stays where it is meanwhile. It is the
+//! search for what `flt_opt::walk` then checks.
 
 use crate::graph::place_after;
 use crate::known::{Facts, common_registers, loads_from_packet};
@@ -12,62 +13,70 @@ use flt_opt::{
 };
 use std::alloc::Allocator;
 
-/// How many instructions are passed at most, on all ways together.
+/// How many instructions one walk passes at most, on all ways together.
 const FUEL: usize = 2048;
 
-/// How many tests that aren't decided are passed at most, one on a side of the other: as many as
-/// `flt_opt` passes.
-const SPLITS: usize = 12;
+/// How deep a walk goes at most into sides of tests that aren't decided: it walks on a side of one
+/// first, on that on a side of a further one, and so on. `flt_opt` goes as deep.
+const MOST_SPLITS: usize = 12;
 
-/// The same on the way to a test, which may as well be the new code's own.
-const FEW_SPLITS: usize = 3;
+/// How deep it goes on the way to a test, which may as well be the new code's own.
+const MOST_SPLITS_TO_TEST: usize = 3;
 
-/// How many instructions are passed on that way from a test on that isn't decided.
-const LITTLE_FUEL: usize = 64;
+/// How many instructions are passed at most on the way to a test, once it comes to a test that
+/// isn't decided.
+const FUEL_TO_TEST: usize = 64;
 
 /// On which sides of tests a goal is looked for, one try after the other: the lowest bit is for the
 /// first test, the highest one for the third and all after it. A 1 is the side where a test holds.
-const SIDES: [u8; 8] = [7, 0, 5, 2, 1, 6, 3, 4];
+const TRIED_SIDES: [u8; 8] = [7, 0, 5, 2, 1, 6, 3, 4];
 
-/// How many bits these have.
-const BITS: u32 = 3;
+/// How many bits each of `TRIED_SIDES` has.
+const SIDE_BITS: u32 = 3;
 
-/// The old run at a place, and what is known of both.
+/// Where the old run is, and what is known of the registers of both runs there.
 #[derive(Clone, Copy)]
 pub(crate) struct Arrival {
-    pub old: usize,
+    /// The index of the old run's instruction.
+    pub place: usize,
     pub both: Both,
 }
 
-/// A place of the old run on its way.
+/// Where the old run is on its walk.
 #[derive(Clone, Copy)]
 struct Way {
     here: Arrival,
-    /// Something was loaded that may not be there, so it may have been rejected.
+    /// A load was passed whose bytes may not be captured, so the packet may have been rejected.
     may_fail: bool,
-    /// What the last tests have shown.
+    /// What the last undecided tests have shown on whose sides it is.
     learnt: [Learnt; OUTCOMES],
 }
 
-/// How the old run goes on.
+/// How the old run goes on after an instruction.
 #[derive(Clone, Copy)]
 enum Step {
     /// It ends, or may not be followed farther.
     Ends,
+    /// It goes on there.
     To(Way),
-    /// On a side of a test that isn't decided.
+    /// It goes on at either side of a test that isn't decided.
     Either,
 }
 
-/// The old run, until it reaches what an instruction of the new code replaces.
+/// A walk of the old run. Its goal is a place where a rule lets the new code's instruction replace
+/// the old one's: any such, or a certain one.
 #[derive(Drop)]
 struct Walker<'a, A: Allocator> {
+    /// The instruction of the new code that the new run does next.
     new: Wide,
     old: &'a [Wide],
+    /// What is known of the packet.
     facts: &'a Facts,
+    /// The list in which the facts' sets of numbers are.
     pieces: &'a Vec<Piece, A>,
-    /// The place where it has to come, if that is known.
+    /// The place where it has to come, if that is a certain one.
     goal: Option<usize>,
+    /// How many more instructions may be passed.
     fuel: usize,
 }
 
@@ -84,18 +93,20 @@ pub(crate) fn common_both(one: &Both, other: &Both) -> Both {
 }
 
 impl<A: Allocator> Walker<'_, A> {
-    /// Whether the old run is where it has to come: some rule allows the new code's instruction
-    /// there.
+    /// Whether the old run is at the goal: this is the place, if that is a certain one, and some
+    /// rule lets the new code's instruction replace `insn`, which is there. Where the packet may
+    /// have been rejected on the way, `insn` has to reject it.
     fn is_goal(&self, way: &Way, insn: Wide) -> bool {
         let rejects = matches!(decode(insn.code), Some(Operation::ReturnConstant)) && insn.k == 0;
         let here = &way.here;
-        self.goal.is_none_or(|goal| goal == here.old)
+        self.goal.is_none_or(|goal| goal == here.place)
             && (!way.may_fail || rejects)
-            && rule_at(self.new, self.old, here.old, &here.both).is_some()
+            && rule_at(self.new, self.old, here.place, &here.both).is_some()
     }
 
-    /// How the old run goes on after an operation that is no test.
-    fn after_operation(&self, way: &Way, operation: Operation, k: u32) -> Step {
+    /// How the old run goes on after an operation with the constant k that is no test. A load that
+    /// may fail is passed, which is noted; anything else that may fail is not, and no store.
+    fn step_past_operation(&self, way: &Way, operation: Operation, k: u32) -> Step {
         let here = &way.here;
         let term = made_term(operation, k, here.both.old);
         let there = loads_from_packet(operation)
@@ -106,7 +117,7 @@ impl<A: Allocator> Walker<'_, A> {
         }
         Step::To(Way {
             here: Arrival {
-                old: place_after(here.old, 0),
+                place: place_after(here.place, 0),
                 both: after_old(operation, k, here.both),
             },
             may_fail: way.may_fail || !succeeds,
@@ -114,18 +125,19 @@ impl<A: Allocator> Walker<'_, A> {
         })
     }
 
-    /// The way on the side of a test.
+    /// The old run on the side of the test `insn`, where it is, that holds or doesn't.
     fn on_side(&self, way: &Way, insn: Wide, holds: bool) -> Way {
         let skipped = if holds { insn.yes } else { insn.no };
         let here = Arrival {
-            old: place_after(way.here.old, skipped),
+            place: place_after(way.here.place, skipped),
             ..way.here
         };
         Way { here, ..*way }
     }
 
-    /// How the old run goes on after a test, where what is known decides it.
-    fn after_test(&self, way: &Way, insn: Wide, operation: Operation) -> Step {
+    /// How the old run goes on after a test: on the side that what is known decides, else at
+    /// either.
+    fn step_past_test(&self, way: &Way, insn: Wide, operation: Operation) -> Step {
         let knowledge = Knowledge {
             facts: self.facts.as_slice(),
             pieces: self.pieces.as_slice(),
@@ -140,27 +152,29 @@ impl<A: Allocator> Walker<'_, A> {
         }
     }
 
-    /// How the old run goes on after an instruction.
+    /// How the old run goes on after the instruction where it is.
     fn step(&self, way: &Way, insn: Wide) -> Step {
         match decode(insn.code) {
             None | Some(Operation::ReturnConstant | Operation::ReturnAccumulator) => Step::Ends,
-            Some(operation @ Operation::JumpIf(_, _)) => self.after_test(way, insn, operation),
+            Some(operation @ Operation::JumpIf(_, _)) => self.step_past_test(way, insn, operation),
             Some(Operation::Jump) => Step::To(Way {
                 here: Arrival {
-                    old: place_after(way.here.old, insn.k),
+                    place: place_after(way.here.place, insn.k),
                     ..way.here
                 },
                 ..*way
             }),
-            Some(operation) => self.after_operation(way, operation, insn.k),
+            Some(operation) => self.step_past_operation(way, operation, insn.k),
         }
     }
 
-    /// Walks as far as it is decided. Returns where it came, and whether that is the goal.
-    fn walk(&mut self, from: Way) -> Option<(Way, bool)> {
+    /// Walks to the goal, or to the first test that isn't decided. Returns where it came, and
+    /// whether that is the goal. `None`: it comes to neither, since the old run ends, may not be
+    /// followed farther, or the fuel is used up.
+    fn walk_decided(&mut self, from: Way) -> Option<(Way, bool)> {
         let mut way = from;
         for _ in 0..self.fuel {
-            let insn = self.old.get(way.here.old).copied()?;
+            let insn = self.old.get(way.here.place).copied()?;
             self.fuel = self.fuel.saturating_sub(1);
             if self.is_goal(&way, insn) {
                 return Some((way, true));
@@ -174,9 +188,10 @@ impl<A: Allocator> Walker<'_, A> {
         None
     }
 
-    /// The way on the side of a test that isn't decided, with what the test shows there.
-    fn learn(&self, way: &Way, holds: bool) -> Way {
-        let Some(insn) = self.old.get(way.here.old).copied() else {
+    /// The old run on a side of the test where it is, which isn't decided, with what the test shows
+    /// there.
+    fn on_learnt_side(&self, way: &Way, holds: bool) -> Way {
+        let Some(insn) = self.old.get(way.here.place).copied() else {
             return *way;
         };
         let side = self.on_side(way, insn, holds);
@@ -192,43 +207,44 @@ impl<A: Allocator> Walker<'_, A> {
         }
     }
 
-    /// The first place from a test on that may be the goal, on the sides of the next tests that the
-    /// bits of `sides` tell.
+    /// The first place that may be the goal, from a test on that isn't decided, on those sides of
+    /// such tests that the bits of `sides` tell (see `TRIED_SIDES`). `None`: there is none.
     fn find_goal(&mut self, from: Way, sides: u8) -> Option<usize> {
         let mut way = from;
         let mut tests = 0;
         for _ in 0..self.fuel {
-            let side = sides >> BITS.saturating_sub(1).min(tests);
+            let side = sides >> SIDE_BITS.saturating_sub(1).min(tests);
             tests = tests.saturating_add(1);
-            let (next, is_goal) = self.walk(self.learn(&way, side & 1 != 0))?;
+            let (next, is_goal) = self.walk_decided(self.on_learnt_side(&way, side & 1 != 0))?;
             if is_goal {
-                return Some(next.here.old);
+                return Some(next.here.place);
             }
             way = next;
         }
         None
     }
 
-    /// Whether the new code's instruction is a test.
+    /// Whether the walk is to a test: the new code's instruction is one.
     fn is_to_test(&self) -> bool {
         matches!(decode(self.new.code), Some(Operation::JumpIf(_, _)))
     }
 
-    /// Walks from a test on to one of the places that may be the goal.
+    /// Walks from a test on that isn't decided, and tries one place after the other that may be the
+    /// goal. Returns what is known at the first one to which all ways lead. `None`: there is none.
     fn walk_to_some_goal(&mut self, way: Way) -> Option<Arrival> {
         let mut missed = None;
-        let mut splits = SPLITS;
+        let mut splits = MOST_SPLITS;
         if self.is_to_test() {
-            splits = FEW_SPLITS;
-            self.fuel = self.fuel.min(LITTLE_FUEL);
+            splits = MOST_SPLITS_TO_TEST;
+            self.fuel = self.fuel.min(FUEL_TO_TEST);
         }
-        for sides in SIDES {
+        for sides in TRIED_SIDES {
             let goal = self.find_goal(way, sides);
             if goal.is_none() || goal == missed {
                 continue;
             }
             self.goal = goal;
-            let arrival = self.go_on(way, splits);
+            let arrival = self.walk_past_tests(way, splits);
             self.goal = None;
             if arrival.is_some() {
                 return arrival;
@@ -238,18 +254,20 @@ impl<A: Allocator> Walker<'_, A> {
         None
     }
 
-    /// Walks from a test that isn't decided on to the goal. One side of each such test has to lead
-    /// there; the walk goes on along the other one. Returns what is known at the goal on all ways.
+    /// Walks from a test on that isn't decided to the goal, past more such tests. One side of each
+    /// has to lead there and is walked first, `splits` deep at most; then the walk goes on along
+    /// the other side. Returns what is known at the goal on all ways. `None`: a way doesn't lead
+    /// there.
     #[cycle(splits)]
-    fn go_on(&mut self, from: Way, splits: usize) -> Option<Arrival> {
+    fn walk_past_tests(&mut self, from: Way, splits: usize) -> Option<Arrival> {
         let mut way = from;
         let mut met: Option<Arrival> = None;
         for _ in 0..self.fuel {
-            let (other, one) = self.one_side(&way, splits)?;
-            let joined = met_by(met, &one);
-            let (next, is_goal) = self.walk(other)?;
+            let (other, one) = self.walk_one_side(&way, splits)?;
+            let joined = common_arrival(met, &one);
+            let (next, is_goal) = self.walk_decided(other)?;
             if is_goal {
-                return Some(met_by(Some(joined), &next.here));
+                return Some(common_arrival(Some(joined), &next.here));
             }
             way = next;
             met = Some(joined);
@@ -257,41 +275,47 @@ impl<A: Allocator> Walker<'_, A> {
         None
     }
 
-    /// Walks on that side of a test which leads to the goal. Returns the other one, and what is
-    /// known at the goal.
+    /// Walks to the goal on one side of a test that isn't decided: where it holds, or if that side
+    /// doesn't lead there, where it doesn't hold. Returns the old run on the other side, and what
+    /// is known at the goal. `None`: neither side leads there, or `splits` is 0, so that it may go
+    /// no deeper.
     #[cycle(splits)]
-    fn one_side(&mut self, way: &Way, splits: usize) -> Option<(Way, Arrival)> {
+    fn walk_one_side(&mut self, way: &Way, splits: usize) -> Option<(Way, Arrival)> {
         let fewer = splits.checked_sub(1)?;
         if let Some(one) = self.walk_side(way, true, fewer) {
-            return Some((self.learn(way, false), one));
+            return Some((self.on_learnt_side(way, false), one));
         }
         let one = self.walk_side(way, false, fewer)?;
-        Some((self.learn(way, true), one))
+        Some((self.on_learnt_side(way, true), one))
     }
 
-    /// Walks to the goal on a side of a test that isn't decided, past `splits` more of them.
+    /// Walks to the goal on this side of a test that isn't decided, `splits` deeper at most.
+    /// Returns what is known at the goal. `None`: it isn't reached.
     #[cycle(splits)]
     fn walk_side(&mut self, way: &Way, holds: bool, splits: usize) -> Option<Arrival> {
-        let (way, is_goal) = self.walk(self.learn(way, holds))?;
+        let (way, is_goal) = self.walk_decided(self.on_learnt_side(way, holds))?;
         if is_goal {
             return Some(way.here);
         }
-        self.go_on(way, splits)
+        self.walk_past_tests(way, splits)
     }
 }
 
-/// What is known at a place on the ways that met there and on one more.
-fn met_by(met: Option<Arrival>, one: &Arrival) -> Arrival {
+/// What is known at the goal on all ways that met there, and on one more. `None`: it is the first
+/// one.
+fn common_arrival(met: Option<Arrival>, one: &Arrival) -> Arrival {
     match met {
         None => *one,
         Some(other) => Arrival {
-            old: one.old,
+            place: one.place,
             both: common_both(&other.both, &one.both),
         },
     }
 }
 
-/// Where the old run reaches what an instruction of the new code replaces, if it does.
+/// Walks the old run from where it is to an instruction that `new` replaces by a rule, by what is
+/// known of the packet (`facts`) and of the registers. Returns where that is; it may be where it
+/// begins. `None`: none is found.
 pub(crate) fn walk_to_replaced<A: Allocator>(
     new: Wide,
     old: &[Wide],
@@ -299,7 +323,7 @@ pub(crate) fn walk_to_replaced<A: Allocator>(
     pieces: &Vec<Piece, A>,
     from: &Arrival,
 ) -> Option<Arrival> {
-    if rule_at(new, old, from.old, &from.both).is_some() {
+    if rule_at(new, old, from.place, &from.both).is_some() {
         return Some(*from);
     }
     let mut walker = Walker {
@@ -315,7 +339,7 @@ pub(crate) fn walk_to_replaced<A: Allocator>(
         may_fail: false,
         learnt: outcomes_at_start(&[]),
     };
-    let (way, is_goal) = walker.walk(start)?;
+    let (way, is_goal) = walker.walk_decided(start)?;
     if is_goal {
         return Some(way.here);
     }
