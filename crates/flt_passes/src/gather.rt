@@ -85,7 +85,7 @@ impl<A: Allocator + Clone> Gathering<A> {
 
     /// The next test of a chain that goes on at the node `at`, with `field` in A: which field it
     /// tests, and the index of its node. It is at `at`, or after a load there. `None`: the chain
-    /// ends, since there is no such test, or since runs from elsewhere come to it too.
+    /// ends, since there is no such test, or since runs from elsewhere reach it too.
     fn next_link(&self, at: usize, target: usize, field: Field) -> Option<(Field, usize)> {
         if !has_one_edge(&self.edge_counts, at) {
             return None;

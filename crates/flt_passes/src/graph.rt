@@ -55,7 +55,7 @@ fn places_from_end<A: Allocator>(alloc: A, code: &[Wide]) -> Result<Vec<usize, A
     Ok(places)
 }
 
-/// For each instruction of some code, the index of the node that stands for it in the graph.
+/// For each instruction of some code, the index of the node that it is in the graph.
 #[derive(Drop)]
 struct Indices<'a> {
     /// What `places_from_end` gives for the code.

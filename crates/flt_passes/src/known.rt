@@ -135,7 +135,7 @@ impl Facts {
         facts
     }
 
-    /// Drops the fact with an index; those after it move to the front by one.
+    /// Drops the fact with an index; those after it move up by one.
     fn remove_fact(&mut self, at: usize) {
         for next in at.saturating_add(1)..self.len {
             if let Some(fact) = self.list.get(next).copied()

@@ -7,7 +7,7 @@ use std::alloc::{AllocError, Allocator};
 /// How far a search of a graph is with a node.
 #[derive(Clone, Copy)]
 enum Mark {
-    /// The search hasn't come to it yet.
+    /// The search hasn't reached it yet.
     Unseen,
     /// The nodes to which its edges lead are being searched.
     Entered,

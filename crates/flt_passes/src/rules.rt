@@ -1,5 +1,5 @@
 //! The rules by which an instruction of new code replaces one or two of the old code, where two
-//! runs on the same packet come to both (the *new* run and the *old* one). They are those of
+//! runs on the same packet reach both (the *new* run and the *old* one). They are those of
 //! `flt_opt::validator`: here they find the notes that it then checks. `Both` has what is known of
 //! both runs' registers there.
 

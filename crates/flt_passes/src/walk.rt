@@ -23,8 +23,8 @@ const MOST_SPLITS: usize = 12;
 /// How deep it goes on the way to a test, which may as well be the new code's own.
 const MOST_SPLITS_TO_TEST: usize = 3;
 
-/// How many instructions are passed at most on the way to a test, once it comes to a test that
-/// isn't decided.
+/// How many instructions are passed at most on the way to a test, once it reaches a test that isn't
+/// decided.
 const FUEL_TO_TEST: usize = 64;
 
 /// On which sides of tests a goal is looked for, one try after the other: the lowest bit is for the
@@ -169,7 +169,7 @@ impl<A: Allocator> Walker<'_, A> {
     }
 
     /// Walks to the goal, or to the first test that isn't decided. Returns where it came, and
-    /// whether that is the goal. `None`: it comes to neither, since the old run ends, may not be
+    /// whether that is the goal. `None`: it reaches neither, since the old run ends, may not be
     /// followed farther, or the fuel is used up.
     fn walk_decided(&mut self, from: Way) -> Option<(Way, bool)> {
         let mut way = from;
