@@ -174,7 +174,7 @@ impl<A: Allocator> Group<A> {
     }
 
     /// Adds the steps that look for the group's members together. `steps` has their numbers.
-    pub fn put(&self, link: Link, steps: &mut Steps<A>) -> Result<(), AllocError>
+    pub fn put_members(&self, link: Link, steps: &mut Steps<A>) -> Result<(), AllocError>
         requires { steps.old.numbers ≡ self.now.numbers }
         ensures { OnOk result (IsPut (group_formula link self.now) steps.old steps.new) }
     {

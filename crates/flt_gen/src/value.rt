@@ -20,7 +20,7 @@ impl<A: Allocator> Steps<A> {
     ghost use Rattle.flt_gen.specs.inside.Steps.{IsPut};
 
     /// Adds the steps of `host` with an IPv4, IPv6 or MAC address. Another value is no, as in
-    /// `put_qualified`.
+    /// `put_value`.
     fn put_host(
         &mut self,
         link: Link,
@@ -43,7 +43,7 @@ impl<A: Allocator> Steps<A> {
     }
 
     /// Adds the steps of `net` with a network of IPv4 or IPv6. Another value is no, as in
-    /// `put_qualified`.
+    /// `put_value`.
     fn put_net(
         &mut self,
         link: Link,
@@ -68,7 +68,7 @@ impl<A: Allocator> Steps<A> {
 
     /// Adds the steps of a value with its qualifiers. One that doesn't fit them is no: such
     /// expressions were refused before.
-    pub fn put_qualified(
+    pub fn put_value(
         &mut self,
         link: Link,
         qualifiers: CompleteQualifiers,

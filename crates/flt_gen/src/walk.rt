@@ -247,7 +247,7 @@ impl<A: Allocator + Clone> Walk<A> {
         }
         self.flush_group(link, steps)?;
         steps.begin(&[])?;
-        steps.put_qualified(link, qualifiers, value)?;
+        steps.put_value(link, qualifiers, value)?;
         self.emit_steps(steps)
     }
 
@@ -272,7 +272,7 @@ impl<A: Allocator + Clone> Walk<A> {
                 steps.put_cast(link, *protocol, *cast)?;
                 self.emit_steps(steps)
             }
-            Node::Sized(size, number) => self.emit_sized(*size, *number),
+            Node::Sized(size, number) => self.emit_length_test(*size, *number),
             Node::Bare(_) | Node::Valued(_, _) => {
                 let entry = self.to.no;
                 self.finish_truth(entry);
@@ -292,7 +292,7 @@ impl<A: Allocator + Clone> Walk<A> {
     }
 
     /// Emits `less N` and `greater N`: the original length is compared with a number.
-    fn emit_sized(&mut self, size: Size, number: u32) -> Result<(), AllocError>
+    fn emit_length_test(&mut self, size: Size, number: u32) -> Result<(), AllocError>
         ensures { OnOk result ((link : Link)
             → self.new ≡ finish_formula link (sized_formula size number) self.old) }
     {
@@ -345,7 +345,7 @@ impl<A: Allocator + Clone> Walk<A> {
             (record self.old { group = no_group })) }
     {
         steps.begin(self.group.numbers())?;
-        self.group.put(link, steps)?;
+        self.group.put_members(link, steps)?;
         self.group.clear();
         self.emit_steps(steps)
     }

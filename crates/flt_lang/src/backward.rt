@@ -309,7 +309,7 @@ impl<A: Allocator> Writer<A> {
 
     /// Writes a value with nothing before it, of a tree that isn't resolved, and then what waited
     /// for it.
-    fn write_bare(&mut self, is_operand: bool, value: Value) -> Result<(), AllocError>
+    fn write_bare_value(&mut self, is_operand: bool, value: Value) -> Result<(), AllocError>
         ensures { OnOk result (self.new ≡ write_node is_operand (node.Bare value) self.old) }
     {
         self.close_parentheses(is_operand)?;
@@ -320,7 +320,7 @@ impl<A: Allocator> Writer<A> {
 
     /// Writes a value with the qualifiers that its text had, of a tree that isn't resolved, and
     /// then what waited for it.
-    fn write_valued(
+    fn write_as_given(
         &mut self,
         is_operand: bool,
         qualifiers: Qualifiers,
@@ -338,7 +338,7 @@ impl<A: Allocator> Writer<A> {
 
     /// Writes a value with all its qualifiers, as it is in a resolved tree, and then what waited
     /// for it.
-    fn write_qualified(
+    fn write_resolved_value(
         &mut self,
         is_operand: bool,
         qualifiers: CompleteQualifiers,
@@ -377,10 +377,10 @@ impl<A: Allocator> Writer<A> {
             Node::Sized(size, number) => {
                 self.write_pair(is_operand, TokenKind::Size(size), TokenKind::Number(number))
             }
-            Node::Bare(value) => self.write_bare(is_operand, value),
-            Node::Valued(qualifiers, value) => self.write_valued(is_operand, qualifiers, value),
+            Node::Bare(value) => self.write_bare_value(is_operand, value),
+            Node::Valued(qualifiers, value) => self.write_as_given(is_operand, qualifiers, value),
             Node::Qualified(qualifiers, value) => {
-                self.write_qualified(is_operand, qualifiers, value)
+                self.write_resolved_value(is_operand, qualifiers, value)
             }
             Node::Compare(comparison) => {
                 self.begin_operator(

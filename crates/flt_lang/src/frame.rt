@@ -63,7 +63,7 @@ pub enum Sort {
 impl Operand {
     /// The operand with parentheses around it: a plain number begins no longer value then, so that
     /// `(10)/8` is a division and no network.
-    pub fn enclosed(self) -> Operand
+    pub fn in_parentheses(self) -> Operand
         ensures { result ≡ enclosed_operand self }
     {
         match self {

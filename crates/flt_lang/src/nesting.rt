@@ -31,7 +31,7 @@ fn is_closing(token: &Token) -> bool
     matches!(token.kind, TokenKind::Close | TokenKind::CloseBracket)
 }
 
-/// Whether a token is an operator that may stand before its operand, and so many times in a row:
+/// Whether a token is an operator that may stand before its operand, also many times in a row:
 /// `not` and the sign `-`. A `-` between two operands is the same token and counts too.
 #[tactic(auto, unfolding(crate::specs::Nesting::is_prefix_operator))]
 fn is_prefix_operator(token: &Token) -> bool

@@ -19,7 +19,7 @@ ghost use Rattle.flt_ast.specs.declared.node.Node.{Node};
 ghost use Rattle.flt_lang.specs.Grammar.{kinds_of};
 
 use crate::frame::{Frame, Operand, Sort, operand_precedence, token_precedence};
-use crate::primitive::{kind_at, read_value, read_valued};
+use crate::primitive::{kind_at, read_value, read_value_with_qualifiers};
 use crate::protocols::{ProtocolRole, has_casts, is_accessor, protocol_role, stands_alone};
 use flt_ast::{Expr, NetMask, Node, Value};
 use flt_words::{ExprFault, Operator, Protocol, Token, TokenKind};
@@ -160,12 +160,12 @@ impl<A: Allocator> Reader<A> {
                 self.write_primitive(read_primitive(tokens))
             }
             TokenKind::Cast(cast) => self.write_primitive(Some((Node::Cast(None, cast), 0))),
-            TokenKind::Size(_) => self.write_primitive(read_sized(tokens)),
+            TokenKind::Size(_) => self.write_primitive(read_length_test(tokens)),
             TokenKind::Number(_) => self.begin_number(tokens),
             TokenKind::Dotted { .. }
             | TokenKind::Ip6(_)
             | TokenKind::Mac(_)
-            | TokenKind::Range { .. } => self.write_primitive(read_bare(tokens)),
+            | TokenKind::Range { .. } => self.write_primitive(read_bare_value(tokens)),
             TokenKind::Len => self.write_number_word(Node::Len),
             TokenKind::Name(number) => self.write_number_word(Node::Named(number)),
             // 6 is its precedence. It is refused where the latest frame takes numbers: in
@@ -264,7 +264,7 @@ impl<A: Allocator> Reader<A> {
     {
         match (kind_at(tokens, 0), kind_at(tokens, 1), kind_at(tokens, 2)) {
             (Some(TokenKind::Number(_)), Some(TokenKind::Mask), Some(TokenKind::Dotted { .. })) =>
-                self.write_primitive(read_bare(tokens)),
+                self.write_primitive(read_bare_value(tokens)),
             (Some(TokenKind::Number(number)), _, _) => Ok((0, Some(Operand::Plain(number)))),
             _ => Err(ExprFault::NotAnExpression),
         }
@@ -402,7 +402,7 @@ impl<A: Allocator> Reader<A> {
         ensures err { IfErr result IsReadFault }
     {
         match self.pop_frame() {
-            Some(Frame::Open) => Ok((0, Some(operand.enclosed()))),
+            Some(Frame::Open) => Ok((0, Some(operand.in_parentheses()))),
             _ => Err(ExprFault::NotAnExpression),
         }
     }
@@ -462,7 +462,7 @@ impl<A: Allocator> Reader<A> {
             // An accessor without a size reads one byte.
             TokenKind::CloseBracket => self.close_bracket(operand, 0, 1),
             // The size and the bracket are two tokens.
-            TokenKind::Colon => match read_size(rest) {
+            TokenKind::Colon => match read_accessor_size(rest) {
                 Some(size) => self.close_bracket(operand, 2, size),
                 None => Err(ExprFault::NotAnExpression),
             },
@@ -582,7 +582,7 @@ impl<A: Allocator> Reader<A> {
 
 /// The node of `less N` or `greater N` with which tokens begin, and how many tokens more than one
 /// it takes; `None` where they don't.
-fn read_sized(tokens: &[Token]) -> Option<(Node, usize)>
+fn read_length_test(tokens: &[Token]) -> Option<(Node, usize)>
     ensures value { (nodes : List Node) →
         one_node nodes result ≡ sized_of (kinds_of tokens.now) nodes }
     ensures within { IfSome result (λ r. r.1 < length tokens.now) }
@@ -602,7 +602,7 @@ fn read_primitive(tokens: &[Token]) -> Option<(Node, usize)>
         one_node nodes result ≡ primitive (kinds_of tokens.now) nodes }
     ensures within { IfSome result (λ r. r.1 < length tokens.now) }
 {
-    if let Some((qualifiers, value, more)) = read_valued(tokens) {
+    if let Some((qualifiers, value, more)) = read_value_with_qualifiers(tokens) {
         return Some((Node::Valued(qualifiers, value), more));
     }
     match kind_at(tokens, 0) {
@@ -615,7 +615,7 @@ fn read_primitive(tokens: &[Token]) -> Option<(Node, usize)>
 
 /// The node of a value with nothing before it, with which tokens begin, and how many tokens more
 /// than one it takes; `None` where they begin with none.
-fn read_bare(tokens: &[Token]) -> Option<(Node, usize)>
+fn read_bare_value(tokens: &[Token]) -> Option<(Node, usize)>
     ensures value { (nodes : List Node) →
         one_node nodes result ≡ bare_of (kinds_of tokens.now) nodes }
     ensures within { IfSome result (λ r. r.1 < length tokens.now) }
@@ -652,7 +652,7 @@ fn number_with_prefix(operand: Operand, first: TokenKind, rest: &[Token]) -> Opt
 
 /// The size in bytes of an accessor, after its colon and before its bracket, in any range; `None`
 /// where no number and bracket are there.
-fn read_size(tokens: &[Token]) -> Option<u32>
+fn read_accessor_size(tokens: &[Token]) -> Option<u32>
     ensures value { result ≡ accessor_size (kinds_of tokens.now) }
     ensures within { IfSome result (λ _. 1 < length tokens.now) }
 {

@@ -11,11 +11,11 @@ pub returns : goal.returns
 returns g c =
     let link = c.args.link in
     let r = c.emit_steps in
-    let s = c.put.new.steps in
+    let s = c.put_members.new.steps in
     let group = c.self.inside.group in
     let f = group_formula link group in
     let numbers = c.numbers.result.now in
-    let put : IsPut f (no_steps numbers) s = subst (λ (s0 : Steps). IsPut f s0 s) c.in_ok-begin.ensures c.in_ok-put.ensures in
+    let put : IsPut f (no_steps numbers) s = subst (λ (s0 : Steps). IsPut f s0 s) c.in_ok-begin.ensures c.in_ok-put_members.ensures in
     let walk : Group → Walk = λ h. record {
       code = c.self.inside.code;
       to = c.self.inside.to;

@@ -12,9 +12,9 @@ pub returns : goal.returns
 returns g c =
     let a = c.args in
     let r = c.emit_steps in
-    let s = c.put_qualified.new.self in
+    let s = c.put_value.new.self in
     let f = qualified_needed a.link a.qualifiers a.value in
-    let put : IsPut f (no_steps []) s = subst (λ (s0 : Steps). IsPut f s0 s) c.in_ok-begin.ensures c.in_ok-put_qualified.ensures in
+    let put : IsPut f (no_steps []) s = subst (λ (s0 : Steps). IsPut f s0 s) c.in_ok-begin.ensures c.in_ok-put_value.ensures in
     let walk : Group → Walk = λ h. record {
       code = c.self.inside.code;
       to = c.self.inside.to;
