@@ -73,7 +73,7 @@ reads link (Either a b) p n = either (reads link a p n) (reads link b p n)
 reads link (Except a) p n = negation (reads link a p n)
 reads link (Among f vs) p n = among_reads f vs p
 
--- all of some tests
+-- some tests that all hold, read one after the other; none always do
 abbrev pub all_of : List Elementary → Formula
 all_of [] = Single (Outcome true)
 all_of (t ∷ []) = Single t

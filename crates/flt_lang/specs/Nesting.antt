@@ -19,10 +19,10 @@ is_closing_kind token.CloseBracket = true
 is_closing_kind _ = false
 
 -- `not`, and `-`, which may be a sign
-abbrev pub is_prefix_kind : TokenKind → Bool
-is_prefix_kind token.Not = true
-is_prefix_kind (token.Operator Subtract) = true
-is_prefix_kind _ = false
+abbrev pub is_prefix_operator_kind : TokenKind → Bool
+is_prefix_operator_kind token.Not = true
+is_prefix_operator_kind (token.Operator Subtract) = true
+is_prefix_operator_kind _ = false
 
 -- the token opens a parenthesis or a bracket
 unfoldable pub is_opening : Token → Bool
@@ -34,7 +34,7 @@ is_closing t = is_closing_kind t.kind
 
 -- the token is an operator that may stand before its operand
 unfoldable pub is_prefix_operator : Token → Bool
-is_prefix_operator t = is_prefix_kind t.kind
+is_prefix_operator t = is_prefix_operator_kind t.kind
 
 -- some prefix has over 100 more `(` and `[` than `)` and `]`
 abbrev pub HasDeepFront : List Token → Type 0

@@ -226,7 +226,7 @@ emit_formula link (Either a b) hit miss c =
 emit_formula link (Except a) hit miss c = emit_formula link a miss hit c
 emit_formula link (Among f vs) hit miss c = emit_among f vs hit miss c
 
--- all of some tests, from the last to the first
+-- the code of some tests that all have to hold, from the last to the first
 abbrev pub emit_all : List Elementary → ℕ → ℕ → List Insn → Block
 emit_all [] hit miss c = block c hit
 emit_all (t ∷ ts) hit miss c =
