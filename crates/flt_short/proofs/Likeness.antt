@@ -21,7 +21,8 @@ use Rattle.flt_short.specs.declared.alike.Landing.{Landing}
 use Rattle.flt_bpf.specs.Check.{IsValidUnlessLong}
 use Rattle.flt_bpf.specs.Layout.{JUMP, is_branch}
 use Rattle.flt_short.specs.Alike.{Shortens}
-use Rattle.flt_short.specs.inside.Alike.{MASK, EQUAL, reads_accumulator, reads_index, implies, landing_fits_at, landing_fits, goes_on, same_step, one_test, ANY_BIT, direct_code, is_code, direct_load, is_indirect, adds_header, loads_alike, header_load, code_from, stands_at, stands, are_alike, begins}
+use Rattle.flt_bpf.specs.Registers.{reads_accumulator, reads_index}
+use Rattle.flt_short.specs.inside.Alike.{MASK, EQUAL, implies, landing_fits_at, landing_fits, goes_on, same_step, one_test, ANY_BIT, direct_code, is_code, direct_load, is_indirect, adds_header, loads_alike, header_load, code_from, stands_at, stands, are_alike, begins}
 use Rattle.flt_bpf.specs.Answer.{answer_of, answer_after}
 use Rattle.flt_bpf.proofs.Checking.{parts}
 use Rattle.flt_bpf.proofs.Suffix.{answer_drop, machine_answers, valid_if_short}

@@ -1,5 +1,4 @@
-//! Whether a program does what an old one does: instruction by instruction, with what is read. What
-//! an operation reads and sets `flt_opt` has too, which compares by notes; this crate stands alone.
+//! Whether a program does what an old one does: instruction by instruction, with what is read.
 //! `old` is an instruction of the old program, `after` are those after it, `following` the landings
 //! of these, and `new` is the instruction of the new program where that of `old` lands.
 //!
@@ -9,8 +8,7 @@
 ghost use Rattle.std.specs.Prelude.{◌≡◌, ◌≢◌, ◌↔◌, ◌-◌, ◌==◌, ◌&&◌, nat_lt, length, IsTrue, All};
 ghost use Rattle.flt_bpf.specs.Instructions.{operation_of};
 ghost use Rattle.flt_short.specs.Alike.{Shortens};
-ghost use Rattle.flt_short.specs.inside.Alike.{reads_accumulator, reads_index};
-ghost use Rattle.flt_short.specs.inside.Alike.{sets_accumulator, sets_index, implies, landing_fits};
+ghost use Rattle.flt_short.specs.inside.Alike.{implies, landing_fits};
 ghost use Rattle.flt_short.specs.inside.Alike.{goes_on};
 ghost use Rattle.flt_short.specs.inside.Alike.{same_step, one_test, direct_code, is_code};
 ghost use Rattle.flt_short.specs.inside.Alike.{direct_load};
@@ -19,8 +17,8 @@ ghost use Rattle.flt_short.specs.inside.Alike.{stands, are_alike, begins, MASK, 
 ghost use Rattle.flt_bpf.specs.Layout.{JUMP};
 
 use crate::valid::{count_tests, is_valid_unless_long};
-use flt_bpf::Wide;
 use flt_bpf::operation::{AluOperation, Operand, Operation, Register, Source, Test, decode};
+use flt_bpf::{Wide, reads_accumulator, reads_index, sets_accumulator, sets_index};
 
 /// Where a new program does what the old one does from an instruction on.
 #[derive(Clone, Copy)]
@@ -31,60 +29,6 @@ pub struct Landing {
     pub accumulator: bool,
     /// X is read from there on before it is set, so both have to have the same in X there.
     pub index: bool,
-}
-
-/// Whether what an operation does depends on A.
-pub fn reads_accumulator(operation: Operation) -> bool
-    ensures { result ≡ reads_accumulator operation }
-{
-    matches!(
-        operation,
-        Operation::Store(Register::Accumulator)
-            | Operation::Compute(_, _)
-            | Operation::Negate
-            | Operation::JumpIf(_, _)
-            | Operation::ReturnAccumulator
-            | Operation::CopyToIndex
-    )
-}
-
-/// Whether what an operation does depends on X.
-pub fn reads_index(operation: Operation) -> bool
-    ensures { result ≡ reads_index operation }
-{
-    matches!(
-        operation,
-        Operation::LoadIndirect(_)
-            | Operation::Store(Register::Index)
-            | Operation::Compute(_, Operand::IndexRegister)
-            | Operation::JumpIf(_, Operand::IndexRegister)
-            | Operation::CopyToAccumulator
-    )
-}
-
-/// Whether an operation puts something into A.
-pub fn sets_accumulator(operation: Operation) -> bool
-    ensures { result ≡ sets_accumulator operation }
-{
-    matches!(
-        operation,
-        Operation::LoadAbsolute(_)
-            | Operation::LoadIndirect(_)
-            | Operation::Load(Register::Accumulator, _)
-            | Operation::Compute(_, _)
-            | Operation::Negate
-            | Operation::CopyToAccumulator
-    )
-}
-
-/// Whether an operation puts something into X.
-pub fn sets_index(operation: Operation) -> bool
-    ensures { result ≡ sets_index operation }
-{
-    matches!(
-        operation,
-        Operation::Load(Register::Index, _) | Operation::LoadHeaderLength | Operation::CopyToIndex
-    )
 }
 
 /// Whether `other` holds if `one` does.

@@ -10,10 +10,7 @@ ghost use Rattle.std.specs.Prelude.{IfOk};
 ghost use Rattle.std.specs.Option.{IfSome};
 ghost use Rattle.flt_short.specs.Alike.{Shortens};
 
-use crate::alike::{
-    Landing, adds_header, is_indirect, reads_accumulator, reads_index, replaces, sets_accumulator,
-    sets_index,
-};
+use crate::alike::{Landing, adds_header, is_indirect, replaces};
 use flt_bpf::Wide;
 use flt_bpf::operation::{AluOperation, Operand, Operation, Register, Source, Test, decode};
 use std::alloc::{AllocError, Allocator};

@@ -4,50 +4,15 @@
 use Rattle.std.specs.Prelude.{ℕ, ◌+◌, ◌-◌, ◌%◌, ◌^◌, ◌==◌, nat_lt, nat_le, Bool, true, false, if◌then◌else◌, ◌&&◌, ◌||◌, List, [], ◌∷◌, length, Option, Some, None, slice_get, drop}
 use Rattle.flt_bpf.specs.declared.insn.Insn.{Insn}
 use Rattle.flt_bpf.specs.declared.operation.Operation.{Operation}
-use Rattle.flt_bpf.specs.declared.operation.Operation.TheVariants.{LoadAbsolute, LoadIndirect, Load, LoadHeaderLength, Store, Compute, Negate, Jump, JumpIf, ReturnConstant, ReturnAccumulator, CopyToIndex, CopyToAccumulator}
-use Rattle.flt_bpf.specs.declared.operation.Register.TheVariants.{Accumulator, Index}
+use Rattle.flt_bpf.specs.declared.operation.Operation.TheVariants.{LoadAbsolute, LoadIndirect, Load, LoadHeaderLength, Compute, Jump, JumpIf, ReturnConstant, ReturnAccumulator, CopyToIndex}
+use Rattle.flt_bpf.specs.declared.operation.Register.TheVariants.{Accumulator}
 use Rattle.flt_bpf.specs.declared.operation.Source.TheVariants.{Immediate}
 use Rattle.flt_bpf.specs.declared.operation.Operand.TheVariants.{Constant, IndexRegister}
 use Rattle.flt_bpf.specs.declared.operation.Test.TheVariants as test
 use Rattle.flt_bpf.specs.declared.operation.AluOperation.TheVariants.{Add, And}
 use Rattle.flt_bpf.specs.Instructions.{code_of, operation_of}
+use Rattle.flt_bpf.specs.Registers.{reads_accumulator, reads_index, sets_accumulator, sets_index}
 use Rattle.flt_short.specs.declared.alike.Landing.{Landing}
-
--- what an operation does depends on A
-abbrev pub reads_accumulator : Operation → Bool
-reads_accumulator (Store Accumulator) = true
-reads_accumulator (Compute operator operand) = true
-reads_accumulator Negate = true
-reads_accumulator (JumpIf test operand) = true
-reads_accumulator ReturnAccumulator = true
-reads_accumulator CopyToIndex = true
-reads_accumulator _ = false
-
--- what an operation does depends on X
-abbrev pub reads_index : Operation → Bool
-reads_index (LoadIndirect width) = true
-reads_index (Store Index) = true
-reads_index (Compute operator IndexRegister) = true
-reads_index (JumpIf test IndexRegister) = true
-reads_index CopyToAccumulator = true
-reads_index _ = false
-
--- an operation puts something into A
-abbrev pub sets_accumulator : Operation → Bool
-sets_accumulator (LoadAbsolute width) = true
-sets_accumulator (LoadIndirect width) = true
-sets_accumulator (Load Accumulator source) = true
-sets_accumulator (Compute operator operand) = true
-sets_accumulator Negate = true
-sets_accumulator CopyToAccumulator = true
-sets_accumulator _ = false
-
--- an operation puts something into X
-abbrev pub sets_index : Operation → Bool
-sets_index (Load Index source) = true
-sets_index LoadHeaderLength = true
-sets_index CopyToIndex = true
-sets_index _ = false
 
 -- the second holds if the first does
 abbrev pub implies : Bool → Bool → Bool
