@@ -115,9 +115,10 @@ fn edited_packet<'a, A: Allocator>(edit: &Edit<A>, packet: &Packet<'a>, time: u6
     }
 }
 
-/// Whether a packet is no duplicate of one that the window remembers. Either way its mark enters
-/// the window, which keeps the last ones. Without a window none is a duplicate.
-fn is_unique<A: Allocator>(window: &mut Option<Window<A>>, packet: &Packet<'_>) -> bool
+/// Puts the mark of a packet (its length and digest) into the window, which keeps the last ones,
+/// and returns whether the packet is no duplicate: whether no equal mark was there. Without a
+/// window no packet is a duplicate.
+fn mark_and_check_unique<A: Allocator>(window: &mut Option<Window<A>>, packet: &Packet<'_>) -> bool
     requires { length packet.now.bytes.now ≤ most_in_unit }
     ensures exact { (n : Option ℕ) (passed : ℕ) (tally : Tally) → IsWindowFor n window.old
         → ReturnsVerdict None (unique n (state_of passed (marks_in window.old) tally) (captured
@@ -156,7 +157,7 @@ pub(crate) fn edit_packet<A: Allocator>(
         return Err(Fault::TimeOutOfRange);
     };
     *packet = edited_packet(edit, packet, time);
-    Ok(is_unique(window, packet))
+    Ok(mark_and_check_unique(window, packet))
 }
 
 /// A law of the definitions, the contract of a function that does nothing: what passes of an edit,

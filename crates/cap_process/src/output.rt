@@ -145,7 +145,7 @@ impl<O: Output, A: Allocator> JobOutput<O, A> {
         }
     }
 
-    /// The output, as it stands.
+    /// The device that was written to, as the last call left it.
     pub fn into_output(self) -> O
     where
         A: Drop,

@@ -216,7 +216,8 @@ impl<I: Input, O: Output, E: Output, A: Allocator + Copy + Drop> Job<I, O, E, A>
         }
     }
 
-    /// Compiles an expression, and writes its listing. It is one step, and the last one.
+    /// Compiles an expression and writes its listing, or reports why it is refused. It is one step,
+    /// and the last one.
     fn compile(&mut self, compile: &Compile<A>) -> Turn
         requires fresh { IsFresh self.old }
         requires taken { self.old.preparing ≡ None }

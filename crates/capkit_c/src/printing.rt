@@ -14,7 +14,7 @@ use flt_bpf::Insn;
 use flt_trace::insn_text;
 
 /// Puts an instruction, at an index of a program, into a buffer as `tcpdump -d` prints it, and
-/// gives the length of its text.
+/// gives the length of its text, at most 80 bytes.
 #[unsafe(no_mangle)]
 pub extern "C" fn capkit_insn_text(insn: &Insn, index: u32, buffer: &mut [u8]) -> usize
     ensures count { result ≡ length (insn_text insn.now index) }
@@ -24,8 +24,10 @@ pub extern "C" fn capkit_insn_text(insn: &Insn, index: u32, buffer: &mut [u8]) -
     put_text(insn_text(insn, index).as_slice(), buffer)
 }
 
-/// Puts the line of a packet into a buffer, as `capkit print` prints it, or where the flag isn't 0
-/// `capkit print -e`, with its line feed; gives its length, or 0 where the time is 2^63 or more.
+/// Puts the line of a packet into a buffer, as `capkit print` prints it, or where `with_link` isn't
+/// 0 `capkit print -e`, with its line feed. `time` is in nanoseconds since 1970, `original` how
+/// many bytes the packet had on the wire. It gives the length of the line, at most 250 bytes, or 0
+/// where the time is 2^63 or more.
 #[unsafe(no_mangle)]
 pub extern "C" fn capkit_line(
     link_type: u16,

@@ -59,8 +59,8 @@ fn rule_text(rule: u32) -> &'static str
     }
 }
 
-/// Puts as many bytes into a buffer as there is room for in front of a NUL, and the NUL; returns
-/// how many bytes there are, whether they had room or not.
+/// Puts as many bytes into a buffer as there is room for in front of a NUL, and the NUL; a buffer
+/// of no bytes is left so. It returns how many bytes there are, whether they had room or not.
 pub(crate) fn put_text(bytes: &[u8], buffer: &mut [u8]) -> usize
     ensures count { result ≡ length bytes.now }
     ensures put { buffer.new ≡ put_text bytes.now buffer.old }

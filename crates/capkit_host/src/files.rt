@@ -13,8 +13,8 @@ pub struct Identity {
 
 /// Where files are looked up: the system, or what a test has in its place.
 pub trait Identify {
-    /// The identity of the plain file that this path leads to, through links. None where there is
-    /// no such file: a terminal, a pipe or another device can be read and written at once.
+    /// The identity of the plain file that this path leads to, through links. `None` where there is
+    /// no file, and of a terminal, a pipe or another device: these can be read and written at once.
     fn identity_of(&self, path: &str) -> Option<Identity>;
 }
 

@@ -108,7 +108,8 @@ pub fn refusal_text(alloc: Global, error: &clap::Error) -> Result<String, AllocE
 
 /// Standard error, which takes a text of any length by one call. A test has its own in place of it.
 pub trait Errors: Eprint {
-    /// Writes the text by one call, as far as the system takes it whole.
+    /// Writes the text by one call; what the system doesn't take of it then, by further ones. The
+    /// error is the system's.
     fn write_text(&self, text: &str) -> io::Result<()>;
 }
 

@@ -5,7 +5,7 @@ use Rattle.cap_process.specs.Verdict.{unique}
 use Rattle.cap_process.specs.Selector.{marks_in, state_of}
 use Rattle.cap_process.specs.inside.Selector.{IsWindowFor, ReturnsVerdict}
 use Rattle.cap_process.proofs.EditRules.{unique-keeps}
-use Rattle.cap_process.proofs.edit.is_unique.Goals as goal
+use Rattle.cap_process.proofs.edit.mark_and_check_unique.Goals as goal
 
 pub returns-in-Some-clause-exact : goal.returns-in-Some-clause-exact
 returns-in-Some-clause-exact g c = λ n passed tally is.
