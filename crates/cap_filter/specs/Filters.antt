@@ -50,6 +50,6 @@ most_cost (by_reading empty) = 0
 most_cost (by_reading (truth a)) = bound_of (truth a)
 most_cost (by_answer prog) = length prog
 
--- what deciding a packet costs: one run of one program, or nothing
+-- the programs after a packet was decided: one of them ran once, or none where none is needed
 abbrev pub spent_on : Rule → Captured → List Content → List Content
 spent_on rule p programs = ran_if (place_by rule p.link) p programs

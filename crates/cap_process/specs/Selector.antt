@@ -17,7 +17,7 @@ use Rattle.cap_process.specs.Verdict.{Policy, Edit, Filter, KeepAll, Count, Edit
 use Rattle.cap_process.specs.Reports.{Tally}
 use Rattle.cap_io.specs.Reading.{most_in_unit}
 
--- a selector: its policy, what it met, and its programs
+-- a selector: its policy, its state, and the programs of its filter
 pub record SelectorView : Type 0 where
   pub policy : Policy
   pub state : SelectorState
@@ -67,17 +67,17 @@ abbrev pub HavePrograms : Policy → List Content → Type 0
 HavePrograms (Filter rule count) programs = AreFor rule programs
 HavePrograms other programs = programs ≡ []
 
--- what judging a packet costs: under a filter one run of one program, or nothing
+-- the programs after a packet was judged: under a filter one of them may have run once
 abbrev pub spent_by : Policy → Captured → List Content → List Content
 spent_by (Filter rule count) p programs = spent_on rule p programs
 spent_by other p programs = programs
 
--- how many instructions deciding a packet meets at most
+-- the most instructions that judging a packet meets
 abbrev pub most_spent : Policy → ℕ
 most_spent (Filter rule count) = most_cost rule
 most_spent other = 0
 
--- what deciding a packet costs: a packet too many is refused before any program runs
+-- the programs after a packet with this number was judged: one too many is refused before any runs
 abbrev pub spent_by_verdict : Policy → ℕ → Captured → List Content → List Content
 spent_by_verdict policy number p programs =
     if is_too_many policy number then programs else spent_by policy p programs

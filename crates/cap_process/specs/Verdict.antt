@@ -64,7 +64,7 @@ pub data Verdict : Type 0 where
   Skip : Verdict
   Refuse : (fault : Fault) → Verdict
 
--- what becomes of a packet, and what is met with it
+-- what becomes of a packet, and the state of the selector after it
 pub record Judgement : Type 0 where
   pub verdict : Verdict
   pub state : SelectorState
@@ -126,9 +126,9 @@ shifted_time (shift.Earlier by) time = if nat_le by time then Some (time - by) e
 abbrev pub with_mark : ℕ → Mark → SelectorState → SelectorState
 with_mark most mark s = record s { window = last most (s.window ++ mark ∷ []) }
 
--- A packet is skipped whose mark, the length and digest of its bytes as they are cut, is that of one
--- of the last n - 1 that were selected, those that were skipped too. Times, original lengths, link
--- types and interfaces aren't compared. Its mark enters the window all the same.
+-- A packet is skipped whose mark, the length and digest of its bytes as they are cut, is that of
+-- one of the last n - 1 that were selected, those that were skipped too. Times, original lengths,
+-- link types and interfaces aren't compared. Its mark enters the window all the same.
 abbrev pub unique : Option ℕ → SelectorState → Captured → Judgement
 unique None s p = passes s p
 unique (Some n) s p =
@@ -182,7 +182,7 @@ abbrev pub is_too_many : Policy → ℕ → Bool
 is_too_many Count number = false
 is_too_many policy number = nat_le PACKET_NUMBER_END number
 
--- the same; a packet whose number is too great is refused
+-- what becomes of the packet with this number; one whose number is too great is refused
 abbrev pub judge : Policy → SelectorState → ℕ → Captured → Judgement
 judge policy state number p =
     if is_too_many policy number then refuses state TooManyPackets

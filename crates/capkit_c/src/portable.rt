@@ -63,9 +63,9 @@ fn all_run_alike(insns: &[Insn], small: bool) -> bool
     insns.iter().all(|insn| runs_alike(insn, small))
 }
 
-/// Whether a word of memory is live, which means that a run may read it before it writes it, from
-/// the instruction at index `place` on. `following` has the answers for all instructions after a
-/// certain one; past the last of them nothing is live.
+/// Whether a word of memory is live at one of the instructions after the current one: whether a run
+/// from there on may read the word before it writes it. `following` says so of each of them, the
+/// next one first, and `place` is the index there; past the last one no word is live.
 fn is_live_at(following: &[bool], place: usize) -> bool
     ensures { result ≡ is_live_at following.now place }
 {

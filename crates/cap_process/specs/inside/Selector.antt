@@ -11,7 +11,7 @@ use Rattle.cap_process.specs.Reports.{Tally, nothing_counted}
 use Rattle.cap_io.specs.Reading.{most_in_unit}
 use Rattle.cap_process.specs.Selector.{SelectorView, window_of, places}
 
--- the policy, and what was met
+-- the policy of a selector, and its state
 pub record PolicyState : Type 0 where
   pub policy : Policy
   pub state : SelectorState
