@@ -1,7 +1,9 @@
 //! What is shown of programs: their runs, instruction by instruction, and the instructions as
 //! `tcpdump -d` prints them.
 //!
-//! Nothing here takes memory.
+//! `steps` runs a program and keeps what is before each instruction; `text` makes the line of an
+//! instruction, with names and operands of `operand`, in a buffer of `line`. Nothing here takes
+//! memory.
 #![tactic(auto)]
 
 mod line;
