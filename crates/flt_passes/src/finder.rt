@@ -252,6 +252,7 @@ impl<A: Allocator + Clone> Finder<'_, A> {
         let both = match rule {
             Rule::Own => after_new(operation, insn.k, way.old.both),
             Rule::Load => after_loads(made_term(operation, insn.k, way.old.both.new), way.old.both),
+            // `Bits` is for tests alone, so it never is the rule here.
             Rule::Same | Rule::Bits => after_both(operation, insn.k, way.old.both),
         };
         Way {

@@ -51,8 +51,8 @@ impl Facts {
         Some(fact.pieces)
     }
 
-    /// Whether a test of A with k holds, where A holds this term. `None`: the facts don't decide
-    /// it, or there is no test.
+    /// Whether a test of A with k holds, where A holds this term; `test` is what `Node::test`
+    /// gives. `None`: the facts don't decide it, or there is no test.
     pub(crate) fn decide(
         &self,
         pieces: &[Piece],
@@ -179,8 +179,9 @@ pub(crate) fn common_facts<A: Allocator>(
     Ok(facts)
 }
 
-/// The facts after a test, with one on the term that it is about: the numbers that its outcome
-/// `learnt` leaves. Where that term is a number or anything, no fact comes of it.
+/// The facts after a test, with one on the term that A held: it has a value, which is among the
+/// numbers that the test's outcome `learnt` leaves. Where the term is a number or anything, no fact
+/// comes of it.
 pub(crate) fn facts_after_test<A: Allocator>(
     pieces: &mut Vec<Piece, A>,
     facts: &Facts,

@@ -1,4 +1,4 @@
-//! What each pass makes of a listing, and what all of them do.
+//! Tests of what each pass makes of a listing, and of what all of them do.
 
 use crate::optimise::optimised_counted;
 use crate::pass::{Pass, passed};
@@ -6,13 +6,17 @@ use flt_bpf::Wide;
 use std::alloc::{AllocError, Global};
 use std::test::Fail;
 
-/// An instruction as a row of a listing.
+/// An instruction as a row of a listing: its code, how many instructions it skips if a test holds
+/// and if it doesn't, and k.
 type Row = (u16, u32, u32, u32);
 
+/// The return of a packet that is accepted.
 const ACCEPTS: Row = (6, 0, 0, 262_144);
 
+/// The return of a packet that is rejected.
 const REJECTS: Row = (6, 0, 0, 0);
 
+/// The code with these rows.
 fn code_of(alloc: Global, rows: &[Row]) -> Result<Vec<Wide>, AllocError> {
     let mut code = Vec::new(alloc);
     for (insn, yes, no, k) in rows {
@@ -26,6 +30,7 @@ fn code_of(alloc: Global, rows: &[Row]) -> Result<Vec<Wide>, AllocError> {
     Ok(code)
 }
 
+/// The rows of this code.
 fn rows_of(alloc: Global, code: &[Wide]) -> Result<Vec<Row>, AllocError> {
     let mut rows = Vec::new(alloc);
     for insn in code {
@@ -34,8 +39,8 @@ fn rows_of(alloc: Global, code: &[Wide]) -> Result<Vec<Row>, AllocError> {
     Ok(rows)
 }
 
-/// The rows that a pass makes of others.
-fn made(alloc: Global, rows: &[Row], pass: Pass) -> Result<Vec<Row>, AllocError> {
+/// The rows that a pass makes of others; none if it makes no code.
+fn rows_after_pass(alloc: Global, rows: &[Row], pass: Pass) -> Result<Vec<Row>, AllocError> {
     let code = code_of(alloc, rows)?;
     let made = passed(alloc, &code, &[pass])?.unwrap_or(Vec::new(alloc));
     rows_of(alloc, &made)
@@ -62,7 +67,7 @@ fn share_has_one_node_for_two(rt: HostRuntime) -> Result<(), Fail> {
         ACCEPTS,
         REJECTS,
     ];
-    let made = made(rt.alloc(), &two, Pass::Share)?;
+    let made = rows_after_pass(rt.alloc(), &two, Pass::Share)?;
     assert_eq!(rt; made.as_slice(), one.as_slice());
     Ok(())
 }
@@ -91,7 +96,7 @@ fn thread_goes_past_what_is_known(rt: HostRuntime) -> Result<(), Fail> {
         ACCEPTS,
         REJECTS,
     ];
-    let made = made(rt.alloc(), &asked_twice, Pass::Thread)?;
+    let made = rows_after_pass(rt.alloc(), &asked_twice, Pass::Thread)?;
     assert_eq!(rt; made.as_slice(), once.as_slice());
     Ok(())
 }
@@ -120,7 +125,7 @@ fn bits_are_tested_in_one_instruction(rt: HostRuntime) -> Result<(), Fail> {
         ACCEPTS,
         REJECTS,
     ];
-    let made = made(rt.alloc(), &long, Pass::Bits)?;
+    let made = rows_after_pass(rt.alloc(), &long, Pass::Bits)?;
     assert_eq!(rt; made.as_slice(), short.as_slice());
     Ok(())
 }
@@ -151,7 +156,7 @@ fn fields_are_gathered(rt: HostRuntime) -> Result<(), Fail> {
         ACCEPTS,
         REJECTS,
     ];
-    let made = made(rt.alloc(), &mixed, Pass::Gather)?;
+    let made = rows_after_pass(rt.alloc(), &mixed, Pass::Gather)?;
     assert_eq!(rt; made.as_slice(), gathered.as_slice());
     Ok(())
 }
@@ -182,7 +187,7 @@ fn numbers_are_searched(rt: HostRuntime) -> Result<(), Fail> {
         ACCEPTS,
         REJECTS,
     ];
-    let made = made(rt.alloc(), &chain, Pass::Search)?;
+    let made = rows_after_pass(rt.alloc(), &chain, Pass::Search)?;
     assert_eq!(rt; made.as_slice(), search.as_slice());
     Ok(())
 }

@@ -139,9 +139,9 @@ fn improve_one_by_one<A: Allocator + Clone>(
     Ok(made)
 }
 
-/// Makes one more turn: all of its passes at once; where what they make isn't seen to return the
-/// same, one by one, so that only those are left out of which that is so. A refusal of all at once
-/// isn't counted.
+/// Makes one more turn: all of its passes at once. Where what they make isn't seen to return the
+/// same, it makes them one by one instead, so that only what isn't seen to is left out. The refusal
+/// of all at once isn't counted.
 #[tactic(auto, using(crate::proofs::Improving::improves_over))]
 fn make_turn<A: Allocator + Clone>(
     alloc: A,

@@ -10,7 +10,7 @@ use crate::write::write_code;
 use flt_bpf::Wide;
 use std::alloc::{AllocError, Allocator};
 
-/// `ThreadFar` goes past at most this many tests on one way that what is known doesn't decide.
+/// The most tests on one way that `ThreadFar` goes past though what is known doesn't decide them.
 const MOST_SPLITS: usize = 2;
 
 /// A pass: what is done to the graph of some code.
@@ -25,7 +25,7 @@ pub enum Pass {
     /// One instruction for several that do the same, one after the other: a test of bits for a mask
     /// and a test, a load at a fixed place for one at X.
     Bits,
-    /// Tests of one register become a search by halves.
+    /// Tests of A with numbers become a search by halves.
     Search,
     /// One instruction for those that do the same in several places.
     Share,

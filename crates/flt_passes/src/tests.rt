@@ -1,4 +1,4 @@
-//! What the passes make of code with jumps.
+//! A test of what the passes make of code with jumps (`ja`).
 
 use crate::optimised;
 use flt_bpf::Wide;
@@ -14,12 +14,14 @@ const EQUAL: u16 = 21;
 
 const RETURN: u16 = 6;
 
+/// An instruction that isn't a test.
 fn line(code: u16, k: u32) -> Wide {
     let (yes, no) = (0, 0);
     Wide { code, yes, no, k }
 }
 
-fn is_equal(k: u32, yes: u32, no: u32) -> Wide {
+/// A test whether A is k, which skips `yes` instructions if it is, else `no`.
+fn equality(k: u32, yes: u32, no: u32) -> Wide {
     let code = EQUAL;
     Wide { code, yes, no, k }
 }
@@ -30,13 +32,13 @@ fn jumps_are_led_on(rt: HostRuntime) -> Result<(), Fail> {
     let mut code = Vec::new(rt.alloc());
     for insn in [
         line(LOAD_HALF, 12),
-        is_equal(2048, 0, 1),
+        equality(2048, 0, 1),
         line(JUMP, 1),
         line(JUMP, 4),
         line(LOAD_HALF, 12),
-        is_equal(2048, 0, 2),
+        equality(2048, 0, 2),
         line(LOAD_BYTE, 23),
-        is_equal(6, 1, 0),
+        equality(6, 1, 0),
         line(RETURN, 0),
         line(RETURN, 1),
     ] {
@@ -45,9 +47,9 @@ fn jumps_are_led_on(rt: HostRuntime) -> Result<(), Fail> {
     let made = optimised(rt.alloc(), code)?;
     let expected = [
         line(LOAD_HALF, 12),
-        is_equal(2048, 0, 3),
+        equality(2048, 0, 3),
         line(LOAD_BYTE, 23),
-        is_equal(6, 0, 1),
+        equality(6, 0, 1),
         line(RETURN, 1),
         line(RETURN, 0),
     ];

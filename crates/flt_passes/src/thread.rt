@@ -1,7 +1,8 @@
 //! The passes `Thread` and `ThreadFar`: each edge is led on, so that it leads to a later node, as
-//! far as what is known on every way to it decides the tests there (jump threading). Nodes are
-//! taken from the first to the last; a node *waits* from the first run that is seen to reach it
-//! until its turn, when all runs to it have been seen.
+//! far as what is known on every way to it decides the tests there (jump threading). So where a
+//! first test has shown that a packet is TCP, an edge to a second test for that leads on to where
+//! the second one goes. Nodes are taken from the first to the last; a node *waits* from the first
+//! run that is seen to reach it until its turn, when all runs to it have been seen.
 
 use crate::follow::farthest_node;
 use crate::graph::{Flow, NOWHERE, Node};
@@ -87,8 +88,8 @@ impl<A: Allocator + Clone> Threading<A> {
         Ok(Some(known))
     }
 
-    /// What a run of which this is known reads from the node `at` on; a list of one, as `live` and
-    /// `known` ask for it.
+    /// What a run of which this is known reads from the node `at` on. It is a list since
+    /// `is_of_use` asks of several runs.
     fn reads(&self, known: &Known, at: usize) -> [Reads; 1] {
         let (live, accumulator) = (live_at(&self.lives, at), known.registers.accumulator);
         [Reads { live, accumulator }]
@@ -111,8 +112,8 @@ impl<A: Allocator + Clone> Threading<A> {
         )
     }
 
-    /// Whether it is of use to follow a run, of which this is known, past the node `at`: a test, or
-    /// one whose result is known.
+    /// Whether a run of which this is known might go on past the node `at`: past a test, or a node
+    /// whose result is known. Past no other one it can, so it need not be followed.
     fn may_pass(&self, known: &Known, at: usize) -> bool {
         let Some(node) = self.nodes.get(at) else {
             return false;
@@ -130,7 +131,8 @@ impl<A: Allocator + Clone> Threading<A> {
 }
 
 impl<A: Allocator + Clone> Threading<A> {
-    /// Whether a test can hold, and whether it can fail, by what is known: one of both at least.
+    /// Whether a test can hold, and whether it can fail, by what is known: at least one of both is
+    /// true.
     fn possible_outcomes(&self, known: &Known, node: Node) -> (bool, bool) {
         let term = known.registers.accumulator;
         match known.facts.decide(&self.pieces, node.test(), node.k, term) {
