@@ -24,7 +24,7 @@ struct Way {
     /// The place of the new run.
     new: usize,
     /// The place of the old run, and what is known of the registers of both.
-    old: Arrival,
+    arrival: Arrival,
     /// What is known of the packet.
     facts: Facts,
 }
@@ -43,7 +43,7 @@ struct Draft {
 /// The two runs at their beginning.
 const START: Way = Way {
     new: 0,
-    old: Arrival {
+    arrival: Arrival {
         place: 0,
         both: Both {
             new: ZERO_REGISTERS,
@@ -85,7 +85,6 @@ impl<A: Allocator> FoundNotes<A> {
 /// Two programs and the notes on them so far.
 #[derive(Drop)]
 struct Finder<'a, A: Allocator> {
-    alloc: A,
     new: &'a [Wide],
     old: &'a [Wide],
     /// What is read from each place of the new program on.
@@ -106,7 +105,7 @@ fn draft_note(new: usize, old: usize) -> Note {
     Note {
         new,
         old,
-        registers: START.old.both,
+        registers: START.arrival.both,
         facts: Span { start: 0, end: 0 },
         yes: 0,
         no: 0,
@@ -119,7 +118,7 @@ impl<A: Allocator + Clone> Finder<'_, A> {
         let mut next = self.firsts.get(new).copied().flatten();
         for _ in 0..self.drafts.len() {
             let draft = self.drafts.get(next?)?;
-            if draft.way.old.place == old {
+            if draft.way.arrival.place == old {
                 return next;
             }
             next = draft.next;
@@ -131,7 +130,9 @@ impl<A: Allocator + Clone> Finder<'_, A> {
     /// program. Returns the index of its note.
     fn add_draft(&mut self, way: &Way) -> Result<usize, AllocError> {
         let note = self.found.notes.len();
-        self.found.notes.push(draft_note(way.new, way.old.place))?;
+        self.found
+            .notes
+            .push(draft_note(way.new, way.arrival.place))?;
         let draft = Draft {
             note,
             way: *way,
@@ -160,7 +161,7 @@ impl<A: Allocator + Clone> Finder<'_, A> {
         let Some(draft) = self.drafts.get_mut(index) else {
             return Ok(0);
         };
-        draft.way.old.both = common_both(&draft.way.old.both, &way.old.both);
+        draft.way.arrival.both = common_both(&draft.way.arrival.both, &way.arrival.both);
         draft.way.facts = common_facts(&mut self.found.pieces, &draft.way.facts, &way.facts)?;
         Ok(draft.note)
     }
@@ -171,21 +172,21 @@ impl<A: Allocator + Clone> Finder<'_, A> {
     fn old_arrival(&self, way: &Way, new: Wide) -> Option<Arrival> {
         let pieces = &self.found.pieces;
         let facts = &way.facts;
-        let arrival = walk_to_replaced(new, self.old, facts, pieces, &way.old);
-        let is_own = may_be_own(new, &way.old.both, facts.as_slice());
-        arrival.or(is_own.then_some(way.old))
+        let arrival = walk_to_replaced(new, self.old, facts, pieces, &way.arrival);
+        let is_own = may_be_own(new, &way.arrival.both, facts.as_slice());
+        arrival.or(is_own.then_some(way.arrival))
     }
 
     /// What the new run and the old one read from where they are on.
     fn reads(&self, way: &Way) -> [Reads; 2] {
-        let both = &way.old.both;
+        let both = &way.arrival.both;
         [
             Reads {
                 live: live_at(&self.new_lives, way.new),
                 accumulator: both.new.accumulator,
             },
             Reads {
-                live: live_at(&self.old_lives, way.old.place),
+                live: live_at(&self.old_lives, way.arrival.place),
                 accumulator: both.old.accumulator,
             },
         ]
@@ -250,18 +251,21 @@ impl<A: Allocator + Clone> Finder<'_, A> {
     /// rule.
     fn way_after(&self, way: &Way, insn: Wide, operation: Operation, rule: Rule) -> Way {
         let both = match rule {
-            Rule::Own => after_new(operation, insn.k, way.old.both),
-            Rule::Load => after_loads(made_term(operation, insn.k, way.old.both.new), way.old.both),
+            Rule::Own => after_new(operation, insn.k, way.arrival.both),
+            Rule::Load => after_loads(
+                made_term(operation, insn.k, way.arrival.both.new),
+                way.arrival.both,
+            ),
             // `Bits` is for tests alone, so it never is the rule here.
-            Rule::Same | Rule::Bits => after_both(operation, insn.k, way.old.both),
+            Rule::Same | Rule::Bits => after_both(operation, insn.k, way.arrival.both),
         };
         Way {
             new: place_after(way.new, 0),
-            old: Arrival {
-                place: self.old_place_after(rule, way.old.place, true),
+            arrival: Arrival {
+                place: self.old_place_after(rule, way.arrival.place, true),
                 both,
             },
-            facts: facts_after_operation(&way.facts, operation, insn.k, way.old.both.new),
+            facts: facts_after_operation(&way.facts, operation, insn.k, way.arrival.both.new),
         }
     }
 
@@ -274,11 +278,11 @@ impl<A: Allocator + Clone> Finder<'_, A> {
         rule: Rule,
         holds: bool,
     ) -> Result<Way, AllocError> {
-        let both = &way.old.both;
+        let both = &way.arrival.both;
         let mut on_side = Way {
             new: place_after(way.new, if holds { insn.yes } else { insn.no }),
-            old: Arrival {
-                place: self.old_place_after(rule, way.old.place, holds),
+            arrival: Arrival {
+                place: self.old_place_after(rule, way.arrival.place, holds),
                 both: both_after_test(rule, both),
             },
             facts: way.facts,
@@ -332,7 +336,7 @@ impl<A: Allocator + Clone> Finder<'_, A> {
             None => Ok(None),
             Some(Operation::ReturnConstant | Operation::ReturnAccumulator) => Ok(Some((0, 0))),
             Some(operation @ Operation::JumpIf(_, _)) => {
-                let (test, term) = (test_of(operation), way.old.both.new.accumulator);
+                let (test, term) = (test_of(operation), way.arrival.both.new.accumulator);
                 match way.facts.decide(&self.found.pieces, test, insn.k, term) {
                     None => self.notes_on_sides(way, insn, rule),
                     Some(holds) => {
@@ -356,7 +360,9 @@ impl<A: Allocator + Clone> Finder<'_, A> {
             return Ok(false);
         };
         // Without a rule `old_arrival` let the old run wait.
-        let rule = rule_at(insn, self.old, way.old.place, &way.old.both).unwrap_or(Rule::Own);
+        let rule = rule_at(insn, self.old, way.arrival.place, &way.arrival.both).unwrap_or(
+            Rule::Own,
+        );
         let Some((yes, no)) = self.notes_after(way, insn, rule)? else {
             return Ok(false);
         };
@@ -364,8 +370,8 @@ impl<A: Allocator + Clone> Finder<'_, A> {
         if let Some(note) = self.found.notes.get_mut(draft.note) {
             *note = Note {
                 new: way.new,
-                old: way.old.place,
-                registers: way.old.both,
+                old: way.arrival.place,
+                registers: way.arrival.both,
                 facts,
                 yes,
                 no,
@@ -432,7 +438,6 @@ pub(crate) fn find_notes<A: Allocator + Clone>(
     old: &[Wide],
 ) -> Result<Option<FoundNotes<A>>, AllocError> {
     let mut finder = Finder {
-        alloc: alloc.clone()?,
         new,
         old,
         new_lives: lives_of_code(alloc.clone()?, new)?,
