@@ -113,6 +113,7 @@ impl<A: Allocator + Clone> Gathering<A> {
         if let Some(in_chain) = self.in_chain.get_mut(test) {
             *in_chain = true;
         }
+        // A field that wasn't met yet gets the next rank.
         let met = chain.links.iter().rev().find(|link| link.field == field);
         let rank = met.map_or(chain.field_count, |link| link.rank);
         if rank == chain.field_count {
@@ -182,6 +183,7 @@ fn sorted_by_field<A: Allocator + Clone>(
     };
     let rest = chain.links.get(before.saturating_add(1)..).unwrap_or(&[]);
     let mut links = Vec::from_slice(alloc, rest)?;
+    // The newest field first, the others in the order in which they were met.
     links.sort_by_key(|link| if link.rank == newest {
         0
     } else {

@@ -1,7 +1,7 @@
 //! The rules by which an instruction of new code replaces one or two of the old code, where two
 //! runs on the same packet reach both (the *new* run and the *old* one). They are those of
-//! `flt_opt::validator`: here they find the notes that it then checks. `Both` has what is known of
-//! both runs' registers there.
+//! `flt_opt::validator`, by the same names: here they find the notes that it then checks. `Both`
+//! has what is known of both runs' registers there.
 
 use crate::known::loads_from_packet;
 use flt_bpf::operation::{AluOperation, Operand, Operation, Test, decode};
@@ -30,7 +30,7 @@ fn operands_agree(operation: Operation, both: &Both) -> bool {
 }
 
 /// Whether both instructions load the same field into A, by what is known of their registers.
-fn loads_same_field(new: Wide, old: Wide, both: &Both) -> bool {
+fn loads_same(new: Wide, old: Wide, both: &Both) -> bool {
     let (Some(operation), Some(old_operation)) = (decode(new.code), decode(old.code)) else {
         return false;
     };
@@ -41,8 +41,8 @@ fn loads_same_field(new: Wide, old: Wide, both: &Both) -> bool {
         && field == made_term(old_operation, old.k, both.old)
 }
 
-/// Whether both instructions are the same, and what they read in A and X is. Where tests lead is
-/// not compared.
+/// Whether both instructions are the same, and find the same where they read A or X. Where tests
+/// lead is not compared.
 fn does_same(new: Wide, old: Wide, both: &Both) -> bool {
     new.code == old.code
         && new.k == old.k
@@ -77,7 +77,7 @@ pub(crate) fn rule_at(new: Wide, old: &[Wide], at: usize, both: &Both) -> Option
     if does_same(new, insn, both) {
         return Some(Rule::Same);
     }
-    if loads_same_field(new, insn, both) {
+    if loads_same(new, insn, both) {
         return Some(Rule::Load);
     }
     let following = old.get(at.saturating_add(1)).copied();
