@@ -12,7 +12,7 @@ use Rattle.flt_bpf.proofs.Checking.{first_none, parts}
 use Rattle.flt_bpf.proofs.Suffix.{machine_answers}
 use Rattle.flt_passes.specs.Improves.{Improves}
 use Rattle.flt_passes.specs.Lays.{Answers, Lays}
-use Rattle.flt_passes.specs.inside.NoLonger.{IsNoLonger}
+use Rattle.flt_passes.specs.inside.Within.{IsProgramWithin}
 
 -- code with an answer is a program that gives it
 answers : (prog : List Insn) (p : List ℕ) (n a : ℕ) → answer_of prog p n 0 start ≡ Some a → Answers prog p n a
@@ -38,23 +38,23 @@ lays_laid_out new wide same at_most jumps short valid = record {
   short = short;
 }
 
-pub no_longer : (new best wide : List Insn) (most : ℕ) → Improves best wide → ((p : List ℕ) (n : ℕ) → answer_of new p n 0 start ≡ answer_of best p n 0 start) → length new ≤ most → IsValid new → JumpsAreNeeded new → (length new ≤ 256 → HasNoJump new) → IsNoLonger new wide most
-no_longer new best wide most improves same few valid needed no_jump = record {
-  no_longer = few;
+pub program_within : (new best wide : List Insn) (most : ℕ) → Improves best wide → ((p : List ℕ) (n : ℕ) → answer_of new p n 0 start ≡ answer_of best p n 0 start) → length new ≤ most → IsValid new → JumpsAreNeeded new → (length new ≤ 256 → HasNoJump new) → IsProgramWithin new wide most
+program_within new best wide most improves same few valid needed no_jump = record {
+  at_most = few;
   valid = valid;
   runs = λ p n answer e. same p n ∙ improves.runs p n answer e;
   needed = needed;
   no_jump = no_jump;
 }
 
-pub lays_no_longer : (best laid wide : List Insn) (most : ℕ) → most ≤ length laid → IsNoLonger best wide most → Lays laid wide → Lays best wide
-lays_no_longer best laid wide most few n l = record {
-  at_most = omega (arith, n.no_longer, l.at_most);
+pub lays_program_within : (best laid wide : List Insn) (most : ℕ) → most ≤ length laid → IsProgramWithin best wide most → Lays laid wide → Lays best wide
+lays_program_within best laid wide most few n l = record {
+  at_most = omega (arith, n.at_most, l.at_most);
   valid = λ v low. n.valid;
   runs = λ p m answer e. answers best p m answer (n.runs p m answer e);
   needed = λ none. n.needed;
   short = λ none low. let s = l.short none low in record {
-    no_jump = n.no_jump (omega (arith, n.no_longer, s.short));
-    short = omega (arith, n.no_longer, s.short);
+    no_jump = n.no_jump (omega (arith, n.at_most, s.short));
+    short = omega (arith, n.at_most, s.short);
   };
 }

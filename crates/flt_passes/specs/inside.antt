@@ -1,2 +1,2 @@
 -- What no promise rests on: it helps the crate's own functions and proofs.
-pub mod NoLonger
+pub mod Within

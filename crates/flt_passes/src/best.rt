@@ -5,7 +5,7 @@ ghost use Rattle.std.specs.Prelude.{IfOk, IsTrue, length};
 ghost use Rattle.std.specs.Option.{IfSome};
 ghost use Rattle.flt_bpf.specs.Layout.{HasNoJump};
 ghost use Rattle.flt_passes.specs.Lays.{Lays};
-ghost use Rattle.flt_passes.specs.inside.NoLonger.{IsNoLonger};
+ghost use Rattle.flt_passes.specs.inside.Within.{IsProgramWithin};
 
 use crate::optimise::optimised;
 use flt_bpf::{Insn, Wide, check_insns};
@@ -34,23 +34,24 @@ fn skips_optimiser(left: usize, written: usize) -> bool {
     left <= FEW_LEFT && (written <= MANY_WRITTEN || written / 2 <= left)
 }
 
-/// Whether no instruction is a `ja`, which code may have that isn't laid out yet. (`flt_opt` and
-/// `flt_short` have it too, with clauses of their own.)
+/// Whether no instruction is a `ja`: of such code `flt_lay` promises a program that has jumps only
+/// where they are needed. (`flt_opt` and `flt_short` have it too, with clauses of their own.)
 fn has_no_jump(code: &[Wide]) -> bool
     ensures { IsTrue result → HasNoJump code.now }
 {
     code.iter().all(|insn| insn.code != JUMP)
 }
 
-/// A program of the code, which is optimised and laid out, if it is valid and has at most `most`
-/// instructions. `None`: it isn't or has more, or what the optimiser made can't be laid out.
-fn optimised_insns<A: Allocator + Clone>(
+/// Optimises code and lays it out as a program, if that is valid and has at most `most`
+/// instructions. `None`: it isn't or has more, or what the optimiser made has a `ja` or too many
+/// instructions to be laid out.
+fn optimise_and_lay_out<A: Allocator + Clone>(
     alloc: A,
     plain: Vec<Wide, A>,
     most: usize,
 ) -> Result<Option<Vec<Insn, A>>, AllocError>
     ensures { IfOk result (λ found.
-        IfSome found (λ insns. IsNoLonger insns.items plain.items most)) }
+        IfSome found (λ insns. IsProgramWithin insns.items plain.items most)) }
 {
     let wide = optimised(alloc.clone()?, plain)?;
     if wide.len() >= TOO_MANY || !has_no_jump(&wide) {
@@ -87,7 +88,7 @@ pub fn best_of<A: Allocator + Clone>(
     if skips_optimiser(plain.len(), written) {
         return Ok(insns);
     }
-    let found = optimised_insns(alloc, plain, insns.len())?;
+    let found = optimise_and_lay_out(alloc, plain, insns.len())?;
     match found {
         Some(best) => Ok(best),
         None => Ok(insns),
