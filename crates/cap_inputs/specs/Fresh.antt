@@ -14,7 +14,7 @@ fresh_view o =
       greatest = 0;
     }
 
--- of its bytes none are done
+-- the past of an input that was handed over: none of its bytes are done
 abbrev pub nothing_done : FreshInput → InputPast
 nothing_done o = record { text = o.text; done = []; packets = [] }
 

@@ -42,7 +42,7 @@ items_left h f = record {
   size = f.size;
 }
 
--- the same of each input
+-- what is left of each input for the job
 abbrev pub inputs_left : List InputView → List Future → List InputItems
 inputs_left (h ∷ hs) (f ∷ fs) = items_left h f ∷ inputs_left hs fs
 inputs_left hs fs = []
@@ -74,7 +74,7 @@ abbrev pub input_items : InputPast → InputView → Future → InputItems
 input_items s h f =
     record (items_left h f) { greatest = 0; items = after_packets s.packets (items_left h f).items }
 
--- the same of each input
+-- all items of each input
 abbrev pub inputs_with : List InputPast → List InputView → List Future → List InputItems
 inputs_with (s ∷ ss) (h ∷ hs) (f ∷ fs) = input_items s h f ∷ inputs_with ss hs fs
 inputs_with ss hs fs = []
@@ -151,7 +151,8 @@ pub record ReadsInput (old : InputsView) (i : ℕ) (r : Result Bool Fault)
   pub steps : Steps cursor.source.phase cursor.source r source
   pub is : new ≡ with_cursor old i (input_after cursor r source)
 
--- the same on any device, whether it tells its bytes or not
+-- The input with index i was read on, and no other changed: what that does on any device, whether
+-- it tells its bytes or not.
 pub record ReadSteps (old : InputsView) (i : ℕ) (r : Result Bool Fault)
     (new : InputsView) : Type 0 where
   pub cursor : InputView
@@ -175,7 +176,7 @@ abbrev pub input_steps_left : InputView → ℕ
 input_steps_left h =
     2 * (2 ^ 63 - h.source.given) + steps_owed h.waiting h.source.phase
 
--- the same of some inputs
+-- the most steps that are left of some inputs
 abbrev pub steps_left_in : List InputView → ℕ
 steps_left_in [] = 0
 steps_left_in (h ∷ hs) = input_steps_left h + steps_left_in hs

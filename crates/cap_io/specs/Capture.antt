@@ -135,10 +135,12 @@ abbrev pub ending_by : Option Fault → ℕ → Ending
 ending_by None offset = End
 ending_by (Some fault) offset = FaultAt fault offset
 
+-- no packets, and how the text ends there
 abbrev pub no_items : Declared → Option Fault → ℕ → Items
 no_items declared why offset =
     record { packets = []; declared = declared; ending = ending_by why offset }
 
+-- these packets in front of items
 abbrev pub after_packets : List Placed → Items → Items
 after_packets ps items =
     record { packets = ps ++ items.packets; declared = items.declared; ending = items.ending }

@@ -19,7 +19,7 @@ pub record HasPacket (s : SourceView) : Type 0 where
   pub unit : IsUnit s.declared s.block (packet ∷ []) s.declared
   pub phase : s.phase ≡ Reading
 
--- nothing is left
+-- a source is at the clean end: nothing is left
 pub record IsOver (s : SourceView) : Type 0 where
   pub ends : front_of s.declared [] ≡ NoUnit None
   pub unread : s.unread ≡ []

@@ -37,6 +37,8 @@ abbrev pub length_by_header : (header : ℕ) → List ℕ → List (Bool × Faul
 length_by_header header text checks size =
     if nat_le header (length text) && is_none (first_failing checks) then Some size else None
 
+-- the length of a block, as its first 12 bytes state it: none where they aren't all there, or fail
+-- a check
 abbrev pub block_length : Option Section → List ℕ → Option ℕ
 block_length before text =
     length_by_header 12 text (frame_checks (order_before before) text) (block_size before text)

@@ -17,10 +17,12 @@ pub data SequenceEnd : Type 0 where
   Complete : SequenceEnd
   FaultIn : (input : ℕ) → (fault : Fault) → (offset : ℕ) → SequenceEnd
 
+-- the packets of a job in its order, and how that ends
 pub record Sequence : Type 0 where
   pub events : List Event
   pub end : SequenceEnd
 
+-- a sequence with these events in front
 abbrev pub with_front : List Event → Sequence → Sequence
 with_front es more = record { events = es ++ more.events; end = more.end }
 
@@ -40,6 +42,7 @@ whole_input text = record { greatest = 0; items = items text; size = length text
 
 -- ---- in turn
 
+-- the packets of an input, as events
 abbrev pub packet_events : ℕ → List Placed → List Event
 packet_events input ps = map (Packet input) ps
 
@@ -68,6 +71,7 @@ pub record Entry : Type 0 where
   pub p : Placed
   pub end : SequenceEnd
 
+-- how the order ends where this input ends so
 abbrev pub end_of : ℕ → Ending → SequenceEnd
 end_of input End = Complete
 end_of input (FaultAt fault offset) = FaultIn input fault offset
@@ -95,14 +99,17 @@ all_entries input [] = []
 all_entries input (r ∷ rs) =
     entries_of input r.items.ending r.greatest r.items.packets ++ all_entries (input + 1) rs
 
--- by the greatest time, then the input's number; the packets of one input keep their order
+-- whether one packet comes before another: by the greatest time, then by the input's number; those
+-- of one input keep their order
 abbrev pub comes_before : Entry → Entry → Bool
 comes_before x y = nat_lt x.key y.key || (nat_eq x.key y.key && nat_lt x.input y.input)
 
+-- an entry put in its place among sorted ones
 abbrev pub insert_entry : Entry → List Entry → List Entry
 insert_entry e [] = e ∷ []
 insert_entry e (x ∷ xs) = if comes_before x e then x ∷ insert_entry e xs else e ∷ x ∷ xs
 
+-- entries in the order of time
 abbrev pub sort_entries : List Entry → List Entry
 sort_entries [] = []
 sort_entries (e ∷ es) = insert_entry e (sort_entries es)
@@ -119,6 +126,7 @@ sequence_of_entries [] = record { events = []; end = Complete }
 sequence_of_entries (e ∷ es) =
     with_front (Packet e.input e.p ∷ []) (unless_fault e.end (sequence_of_entries es))
 
+-- the first of two ends: a fault, else the later one
 abbrev pub first_end : SequenceEnd → SequenceEnd → SequenceEnd
 first_end Complete later = later
 first_end (FaultIn input fault offset) later = FaultIn input fault offset
@@ -137,14 +145,17 @@ sequence_by_time rs =
 
 -- ---- the job's order
 
+-- how a job takes its inputs: one after another, or by the times of their packets
 pub data PacketOrder : Type 0 where
   InTurn : PacketOrder
   ByTime : PacketOrder
 
+-- the order of a job that merges its inputs, or doesn't
 abbrev pub order_of : (merges : Bool) → PacketOrder
 order_of false = InTurn
 order_of true = ByTime
 
+-- the packets of inputs in this order
 abbrev pub sequence_of : PacketOrder → List InputItems → Sequence
 sequence_of InTurn rs = sequence_in_turn 0 rs
 sequence_of ByTime rs = sequence_by_time rs

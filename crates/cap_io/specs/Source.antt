@@ -165,7 +165,7 @@ pub record KeepsBounds (old : SourceView) (r : Result Bool Fault) (new : SourceV
   pub given : old.given ≤ new.given
   -- a failed read is told exactly where the device failed in this call
   pub failures : new.failures ≡ old.failures + read_failures r
-  -- and it had given as many bytes as it was sure to
+  -- a device that failed had given as many bytes as it was sure to
   pub sure : new.sure ≡ old.sure
   pub enough : 0 < new.failures → HasGiven new.sure new.given
   -- at most one unit is held, in a block that has room for it and never less than before

@@ -31,6 +31,7 @@ interface_of p = record { link = p.link; snap = p.snap; name = p.name }
 abbrev pub is_same : Interface → Interface → Bool
 is_same i j = i.link == j.link && (i.snap == j.snap && pointwise nat_eq i.name j.name)
 
+-- whether one of these interfaces is the same
 abbrev pub is_among : List Interface → Interface → Bool
 is_among interfaces i = list_any (is_same i) interfaces
 
@@ -65,11 +66,12 @@ record_text resolution p = pcap.record_header resolution p ++ p.bytes
 
 -- ---- one packet more, by what a file keeps of those before it
 
--- the state and the interfaces after one packet more: pcap forms have no interfaces
+-- the state after one packet more
 abbrev pub state_after_packet : SinkState → Captured → SinkState
 state_after_packet Empty p = Started p.link
 state_after_packet state p = state
 
+-- the interfaces after one packet more: pcap forms have none
 abbrev pub interfaces_after_packet : Format → List Interface → Captured → List Interface
 interfaces_after_packet Pcapng interfaces p = interfaces ++ new_among interfaces (interface_of p)
 interfaces_after_packet format interfaces p = interfaces
@@ -112,11 +114,12 @@ appended_packet Pcapng interfaces p =
 
 -- ---- packets, one after another
 
+-- the state after these packets
 abbrev pub state_after : List Captured → SinkState
 state_after [] = Empty
 state_after (p ∷ ps) = Started p.link
 
--- their different interfaces, in the order of first use
+-- the different interfaces of these packets, in the order of first use; pcap forms have none
 abbrev pub kept_interfaces : Format → List Captured → List Interface
 kept_interfaces format packets = fold (interfaces_after_packet format) [] packets
 
@@ -125,11 +128,11 @@ abbrev pub refusal_of : Format → List Captured → Captured → Option Fault
 refusal_of format earlier p =
     first_failing (checks_in format (state_after earlier) (kept_interfaces format earlier) p)
 
--- whether it takes memory
+-- whether a packet that comes after these takes memory
 abbrev pub takes_memory : Format → List Captured → Captured → Bool
 takes_memory format earlier p = takes_memory_in format (kept_interfaces format earlier) p
 
--- what it adds to the text of those before it
+-- what a packet adds to the text of those before it
 abbrev pub added_text : Format → List Captured → Captured → List ℕ
 added_text format earlier p =
     file_start_in format (state_after earlier) p.link

@@ -50,8 +50,9 @@ pub(crate) struct UnitReader<I: Input, A: Allocator> {
 }
 
 impl<I: Input, A: Allocator> UnitReader<I, A> {
-    /// Reads the first unit of a file: a section header, or the file header of pcap.
-    /// `NotACaptureFile` where it begins with neither; other faults as in `next_block`.
+    /// Reads the first unit of a file: a section header, or the file header of pcap. A fault is
+    /// that of the first check that it fails, as `NotACaptureFile` where the file begins with
+    /// neither; `Truncated`, `ReadFailed` or `NoMemory`.
     fn read_first_unit(&mut self) -> Result<NextUnit, Fault>
         requires unknown { self.old.file ≡ state.Unknown }
         requires empty { self.old.table ≡ [] }

@@ -77,7 +77,7 @@ impl<A: Allocator> Model for OutputInterfaces<A> {
 }
 
 impl<A: Allocator + Copy> OutputInterfaces<A> {
-    /// No interfaces. It takes no memory.
+    /// The interfaces of a file without packets: none. It takes no memory.
     pub fn new(alloc: A) -> Self
         ensures { result ≡ [] }
     {

@@ -121,8 +121,8 @@ impl<O: Output, A: Allocator> Sink<O, A> {
         }
     }
 
-    /// Makes the device pass on what it holds back, and returns whether it could; `false` leaves
-    /// the sink as it was.
+    /// Makes the device pass on what it holds back, and returns whether it could. The sink's state
+    /// stays as it was in either case.
     pub fn release(&mut self) -> bool
         ensures kept { self.new ≡ self.old }
         ensures sure { IsTrue O.tells → result ≡ true }

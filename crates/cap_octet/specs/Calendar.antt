@@ -2,6 +2,7 @@
 use Rattle.std.specs.Prelude.{ℕ, zero, suc, ◌+◌, nat_lt, if◌then◌else◌, pos}
 use Rattle.jiff_core.specs.Calendar.{days_in_month}
 
+-- a day of the calendar
 pub record Day : Type 0 where
   pub year : ℕ
   -- from 1 for January

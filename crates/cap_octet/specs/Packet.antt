@@ -2,8 +2,9 @@
 use Rattle.std.specs.Prelude.{ℕ, List}
 use Rattle.cap_octet.specs.declared.packet.Packet.{Packet}
 
+-- what a contract sees of a packet
 pub record Captured : Type 0 where
-  -- of its interface, or of its pcap file
+  -- the link type and the snap length of its interface, or of its pcap file
   pub link : ℕ
   pub snap : ℕ
   -- its interface's name; empty in pcap

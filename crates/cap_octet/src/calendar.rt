@@ -17,7 +17,7 @@ pub fn calendar_day(number: u64) -> CalendarDay
     requires { number < 200_000 }
     ensures { ymd result.year result.month result.day ≡ day_from_epoch number }
 {
-    // jiff has all days up to the year 9999.
+    // The crate jiff_core has all days up to the year 9999.
     let date = Date::from_unix_epoch_day(number as i64).unwrap();
     CalendarDay {
         year: date.year as u16,

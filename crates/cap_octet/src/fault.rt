@@ -90,6 +90,7 @@ impl fmt::Display for Fault {
 
     ghost output = { λ fault. Some (fault_text fault) };
 
+    /// Writes the fault's text.
     fn fmt<W: fmt::Write>(&self, f: &mut fmt::Formatter<W>) -> fmt::Result {
         write!(f, "{}", self.text())
     }

@@ -68,7 +68,7 @@ impl Input for MemInput<'_> {
         Ok(count)
     }
 
-    /// All that is left.
+    /// All bytes that are left.
     fn at_hand(&self) -> &[u8]
         ensures exact { IsTrue true → StartsWith self.now.rest.now result.now }
         ensures all { result.now ≡ self.now.rest.now }

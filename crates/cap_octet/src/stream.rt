@@ -126,8 +126,9 @@ impl<R: Read> Input for StdInput<R> {
         self.reader.buffer()
     }
 
-    /// Takes `count` bytes of what the reader's buffer holds, if it holds as many; else none, and
-    /// returns `false`.
+    /// Takes `count` bytes of what the reader's buffer holds, if it holds as many, and returns
+    /// `true`; else none, and returns `false`. None either where 2^63 bytes in all would be
+    /// reached.
     #[inline(always)]
     fn pass(&mut self, count: usize) -> bool
         ensures counted { self.new.given ≡ self.old.given + (if result then count else 0) }
@@ -281,7 +282,7 @@ impl<W: Write + Drop> Output for StdOutput<W> {
         }
     }
 
-    /// Whether somebody may be waiting for what it takes: as `new_awaited` said, or `new` didn't.
+    /// Whether somebody may be waiting for what it takes: whether `new_awaited` made it.
     fn is_awaited(&self) -> bool
         ensures { result ≡ self.now.is_awaited }
     {

@@ -11,7 +11,7 @@ use crate::seconds::{fraction_nanoseconds, read_duration, time_below_end};
 use jiff_core::civil;
 use jiff_core::civil::Date;
 
-/// The number of 1970-01-01 as jiff counts days from its first date, -9999-01-01.
+/// The number of 1970-01-01 as the crate jiff_core counts days from its first date, -9999-01-01.
 const EPOCH: u32 = 4_371_587;
 
 /// How many days after 1970-01-01 a day comes; `None` if the calendar has no such day, or its year
@@ -63,7 +63,7 @@ fn clock_of_parts(hour: Option<u64>, minute: Option<u64>, second: Option<u64>) -
 }
 
 /// The nanoseconds since 1970-01-01 of a day's number (days since then), seconds since midnight and
-/// a fraction in nanoseconds. `None` where one of them is, and from 2^63 nanoseconds on.
+/// a fraction in nanoseconds. `None` where one of the three is, and from 2^63 nanoseconds on.
 fn time_of_parts(day: Option<u64>, clock: Option<u64>, fraction: Option<u64>) -> Option<u64>
     ensures { result ≡ time_of_parts day clock fraction }
 {

@@ -26,7 +26,8 @@ form_in text =
     else (if u32_in Big text 0 == magic Nanoseconds then Some (Big, Nanoseconds)
     else None)))
 
--- the same where there is one; where there is none, any, since the first check fails then
+-- byte order and resolution of a file; of one without a magic number any, since the first check
+-- fails then
 abbrev pub form_of : List ℕ → Order × Resolution
 form_of text = unwrap_or (form_in text) (Little, Microseconds)
 

@@ -46,6 +46,7 @@ pub fn file_header(format: Format, link: u16) -> [u8; 24]
     requires { IsPcap format }
     ensures { result ≡ file_header (resolution_of format) link }
 {
+    // 0 magic number, 4 and 6 version, 16 snap length, 20 link type
     let mut bytes = [0; 24];
     LittleEndian::write_u32(&mut bytes, resolution_of(format).magic());
     LittleEndian::write_u16(&mut bytes[4..], 2);
@@ -64,6 +65,7 @@ pub fn record_header(format: Format, packet: &Packet<'_>) -> [u8; 16]
     ensures { result ≡ record_header (resolution_of format) (captured packet.now) }
 {
     let part = resolution_of(format).whole_parts(packet.time % NANOS_PER_SECOND);
+    // 0 seconds, 4 part of a second, 8 captured length, 12 original length
     let mut bytes = [0; 16];
     LittleEndian::write_u32(&mut bytes, (packet.time / NANOS_PER_SECOND) as u32);
     LittleEndian::write_u32(&mut bytes[4..], part as u32);

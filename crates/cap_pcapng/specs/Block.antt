@@ -45,7 +45,8 @@ block_checks frame text =
     (u32_in frame.order text (frame.length - 4) == frame.length, BadBlockLength)
     ∷ body_checks frame.block_type frame.order (body_in frame text)
 
--- that there is room for a block's header and end, and that all its bytes are there
+-- the checks of a block's length, in order: there is room for its header and end, and all its bytes
+-- are there
 abbrev pub size_checks : Frame → List ℕ → List (Bool × Fault)
 size_checks frame text =
     (nat_le 12 frame.length, BadBlockLength) ∷ (nat_le frame.length (length text), Truncated) ∷ []
@@ -56,7 +57,7 @@ size_checks frame text =
 abbrev pub simple_captured : (orig snap : ℕ) → ℕ
 simple_captured orig snap = if snap == 0 then orig else min orig snap
 
--- that this many captured bytes with their padding lie in what is left of a body
+-- the check that this many captured bytes with their padding lie in what is left of a body
 abbrev pub data_checks : ℕ → List ℕ → List (Bool × Fault)
 data_checks captured rest = (nat_le (padded_length captured) (length rest), BadBody) ∷ []
 

@@ -4,6 +4,7 @@ use Rattle.cap_octet.specs.declared.number.Order.{Order}
 use Rattle.cap_pcapng.specs.InterfaceOptions.{first_value, fitting_options}
 use Rattle.cap_pcapng.specs.OptionList.{options_in}
 
+-- the code of a comment
 abbrev pub comment_code : ℕ
 comment_code = 1
 

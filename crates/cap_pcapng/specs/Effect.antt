@@ -25,7 +25,7 @@ abbrev pub is_interface : Parts → Bool
 is_interface (InterfaceParts link snap order options) = true
 is_interface parts = false
 
--- the same section with these interfaces
+-- a section of this byte order with these interfaces
 abbrev pub section_of : Order → List Described → Section
 section_of order interfaces = record { order = order; interfaces = interfaces }
 

@@ -49,7 +49,7 @@ described_by link snap order options = record {
   offset = option_map_or (offset_in_value order) (first_value offset_code options) (pos 0);
 }
 
--- the same of options as they are in a block's bytes; those whose values don't fit are left out
+-- the interface that the options in these bytes describe; those whose values don't fit are left out
 abbrev pub described_in : (link snap : ℕ) → Order → List ℕ → Described
 described_in link snap order text =
     described_by link snap order (fitting_options (options_in order text))

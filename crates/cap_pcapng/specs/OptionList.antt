@@ -17,7 +17,7 @@ pub record CodedValue : Type 0 where
 abbrev pub option_size : Order → List ℕ → ℕ
 option_size order text = 4 + u16_in order text 2
 
--- its code and its value
+-- code and value of the option at the start of a text
 abbrev pub option_at : Order → List ℕ → CodedValue
 option_at order text =
     record { code = u16_in order text 0; value = take (u16_in order text 2) (drop 4 text) }

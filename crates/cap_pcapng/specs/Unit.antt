@@ -29,13 +29,15 @@ order_before before = option_map (λ (s : Section). s.order) before
 abbrev pub interfaces_before : Option Section → List Described
 interfaces_before before = option_map_or (λ (s : Section). s.interfaces) before []
 
--- the frame, the size and the parts of the block that a text begins with
+-- the frame of the block that a text begins with
 abbrev pub frame_after : Option Section → List ℕ → Frame
 frame_after before text = frame_in (order_before before) text
 
+-- the total length of the block that a text begins with
 abbrev pub block_size : Option Section → List ℕ → ℕ
 block_size before text = (frame_after before text).length
 
+-- what the block says that a text begins with
 abbrev pub parts_after : Option Section → List ℕ → Parts
 parts_after before text = parts_in (frame_after before text) text
 

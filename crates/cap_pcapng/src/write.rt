@@ -58,6 +58,8 @@ pub fn check_block_fits(packet: &Packet<'_>) -> Result<(), Fault>
 pub fn section_bytes() -> [u8; 28]
     ensures { result ≡ section_text }
 {
+    // 0 type, 4 total length, 8 byte-order magic, 12 and 14 version, 16 section length, 24 total
+    // length
     let mut bytes = [0xff; 28];
     LittleEndian::write_u32(&mut bytes, SECTION_TYPE);
     LittleEndian::write_u32(&mut bytes[4..], 28);
@@ -82,6 +84,7 @@ pub fn packet_header(size: u32, number: u32, packet: &Packet<'_>) -> [u8; 28]
     requires { length packet.now.bytes.now < 2 ^ 32 }
     ensures { result ≡ packet_header size number (captured packet.now) }
 {
+    // 0 type, 4 total length, 8 interface, 12 time, 20 captured length, 24 original length
     let mut bytes = [0; 28];
     LittleEndian::write_u32(&mut bytes, ENHANCED_PACKET_TYPE);
     LittleEndian::write_u32(&mut bytes[4..], size);
@@ -94,8 +97,8 @@ pub fn packet_header(size: u32, number: u32, packet: &Packet<'_>) -> [u8; 28]
     bytes
 }
 
-/// An option's code and the length of its value, after three zeros, of which what is before the
-/// option takes as many for its padding as it needs.
+/// An option's code and the length of its value, after three zeros as padding of what is before the
+/// option; who writes it leaves out those that aren't needed.
 pub fn option_header(code: u16, value: &[u8]) -> [u8; 7]
     requires { length value.now < 2 ^ 16 }
     ensures { result ≡ replicate 3 0 ++ (little_bytes 2 code ++ little_bytes 2 (length value.now)) }
@@ -157,6 +160,7 @@ pub fn write_packet<O: Output>(
 pub fn interface_header(size: u32, packet: &Packet<'_>) -> [u8; 16]
     ensures { result ≡ interface_header size packet.now.link packet.now.snap }
 {
+    // 0 type, 4 total length, 8 link type, 10 reserved, 12 snap length
     let mut bytes = [0; 16];
     LittleEndian::write_u32(&mut bytes, INTERFACE_TYPE);
     LittleEndian::write_u32(&mut bytes[4..], size);
@@ -165,8 +169,9 @@ pub fn interface_header(size: u32, packet: &Packet<'_>) -> [u8; 16]
     bytes
 }
 
-/// What is after an interface's name in a block of `size` bytes: three zeros, from which the name
-/// takes its padding, the resolution of nanoseconds, the end of the options, the total length.
+/// What is after an interface's name in a block of `size` bytes: three zeros as padding of the
+/// name, of which a writer leaves out those that aren't needed; the resolution of nanoseconds, the
+/// end of the options, the total length.
 pub fn interface_end(size: u32) -> [u8; 19]
     ensures { result ≡ replicate 3 0 ++ (resolution_text ++ end_text ++ little_bytes 4 size) }
 {

@@ -23,6 +23,7 @@ fn hex_digit(digit: u16) -> u8
 fn hex_four(number: u16) -> [u8; 4]
     ensures { result ≡ hex_four number }
 {
+    // 4,096 and 256 are 16^3 and 16^2.
     [
         hex_digit(number / 4096),
         hex_digit(number / 256 % 16),

@@ -71,8 +71,8 @@ fn push_link_header(text: &mut Text, link: Link, type_offset: Option<usize>, byt
     }
 }
 
-/// Appends what a line says of the link header of a link type; `link` and the number of one that
-/// isn't known.
+/// Appends what a line says of the link header of a packet with this link type; of one that isn't
+/// known only its number, as `link 147, `.
 #[tactic(auto, unfolding(crate::specs::Line::link_part))]
 fn push_link_part(text: &mut Text, link: u16, bytes: &[u8])
     requires { length text.old + 60 ≤ 256 }

@@ -94,7 +94,7 @@ impl Text {
     }
 
     /// Appends a number in decimal, without leading zeros: at most ten digits.
-    // Below a million two digits at a time are looked up.
+    // Below a million two digits at a time are looked up, the first pair without a leading zero.
     pub(crate) fn push_decimal(&mut self, number: u32)
         requires { length self.old + 10 ≤ 256 }
         ensures value { self.new ≡ self.old ++ decimal number }
@@ -114,8 +114,8 @@ impl Text {
         }
     }
 
-    /// Appends any number in decimal, as `push_decimal` does, but digit by digit. It is out of line
-    /// since most numbers are below a million.
+    /// Appends any number in decimal, by the crate itoa. It is out of line since most numbers are
+    /// below a million.
     #[inline(never)]
     fn push_any_decimal(&mut self, number: u32)
         requires { length self.old + 10 ≤ 256 }

@@ -130,8 +130,8 @@ impl<A: Allocator> Window<A> {
     }
 }
 
-/// The hash of a mark, which is the index of its head: the low bits of its digest's first four
-/// bytes.
+/// The hash of a mark, which is its index in `heads`: the low bits of its digest's first four
+/// bytes, little-endian, as many as the mask has.
 fn hash_of(mark: &Mark, mask: u32) -> usize
     ensures value { result ≡ hash_of mask mark.now }
     ensures bound { result ≤ mask }
@@ -140,8 +140,8 @@ fn hash_of(mark: &Mark, mask: u32) -> usize
     (u32::from_le_bytes([a, b, c, d]) & mask) as usize
 }
 
-/// The mask of a hash: one less than the number of heads, which is a power of two, at least the
-/// capacity up to `MOST_HEADS`.
+/// The mask of a hash, one less than the number of heads. That is a power of two: the capacity,
+/// rounded up, and `MOST_HEADS` at most.
 fn head_mask(capacity: u32) -> u32
     ensures { result < 2 ^ 31 }
 {
@@ -149,7 +149,7 @@ fn head_mask(capacity: u32) -> u32
 }
 
 /// Subtracts `less` from each number; one that is smaller becomes 0.
-fn lower_all(numbers: &mut [u32], less: u32)
+fn subtract_from_all(numbers: &mut [u32], less: u32)
     ensures { EachIndex numbers.old
         (λ i. slice_index numbers.new i ≡ slice_index numbers.old i - less) }
 {
@@ -172,6 +172,6 @@ fn renumber(heads: &mut [u32], newest: u32, kept: u32) -> u32
     if newest < u32::MAX {
         return newest;
     }
-    lower_all(heads, newest - kept);
+    subtract_from_all(heads, newest - kept);
     kept
 }

@@ -51,7 +51,7 @@ abbrev pub NoneWaits : List InputView → Type 0
 NoneWaits [] = Unit {0}
 NoneWaits (h ∷ hs) = (h.waiting ≡ false) × NoneWaits hs
 
--- of the packets that wait this input's has the least key, and it is the lowest input of those
+-- of the packets that wait that of input i has the least key, and of equal keys the lowest index
 pub record IsLeast (cursors : List InputView) (i : ℕ) : Type 0 where
   pub cursor : InputView
   pub among : IsInput cursors i cursor
@@ -98,7 +98,7 @@ IsNextInTurn cursors (next.Read i) = IsAtTurn cursors i false
 IsNextInTurn cursors (next.Decide i) = IsAtTurn cursors i true
 IsNextInTurn cursors next.Finish = AllEnded cursors
 
--- it is the first input that is neither at its clean end nor has a packet that waits
+-- the input with index i is the first that is neither at its clean end nor has a packet that waits
 pub record IsFirstUnready (cursors : List InputView) (i : ℕ) : Type 0 where
   pub cursor : InputView
   pub among : IsInput cursors i cursor

@@ -60,7 +60,7 @@ past_unit s = record {
   room = s.room;
 }
 
--- no packet is current
+-- a source is between units: no packet is current, and no end or fault was met
 pub record IsBetween (s : SourceView) : Type 0 where
   pub phase : s.phase ≡ Reading
   pub block : s.block ≡ []
