@@ -396,18 +396,18 @@ fn update_after_read<A: Allocator>(
         queue.new }
     ensures schedule { schedule.new ≡ schedule_after schedule.old entry.input read }
 {
-    let Ok(found) = read else {
+    let Ok(has_packet) = read else {
         return;
     };
     match schedule {
         Schedule::Turn(turn) => {
-            if !found {
+            if !has_packet {
                 *turn = entry.input + 1;
             }
         }
         Schedule::Merge(next, _) => {
             *next = entry.input + 1;
-            if found {
+            if has_packet {
                 queue.add(entry);
             }
         }

@@ -211,8 +211,9 @@ impl<I: Input, A: Allocator> Source<I, A> {
         self.skip_to_packet()
     }
 
-    /// Takes the next record of a pcap file, if the device has it at hand and it fails no check.
-    /// `false` means that nothing was taken: `skip_to_packet` then finds the packet or the fault.
+    /// Takes the next record of a pcap file, if the device has it at hand, the buffer has room for
+    /// it and it fails no check: its packet is the current one then. `false` means that nothing was
+    /// taken: `skip_to_packet` then finds the packet, the end or the fault.
     #[inline(always)]
     fn take_next(&mut self) -> bool
         requires between { IsBetween self.old }

@@ -201,17 +201,17 @@ pub fn block_effect<'a, T: Interfaces>(
 {
     match read_block(frame, bytes) {
         Ok(Block::Section) => Ok(BlockEffect::Section),
-        Ok(Block::Interface(found)) => {
+        Ok(Block::Interface(block)) => {
             if table.count() >= MOST_INTERFACES {
                 return Err(Fault::TooManyInterfaces);
             }
-            Ok(BlockEffect::Interface(found.interface))
+            Ok(BlockEffect::Interface(block.interface))
         }
-        Ok(Block::Enhanced(found)) => match enhanced_packet_spans(table, &found, frame.length) {
+        Ok(Block::Enhanced(block)) => match enhanced_packet_spans(table, &block, frame.length) {
             Ok(spans) => Ok(BlockEffect::Packet(spans)),
             Err(fault) => Err(fault),
         },
-        Ok(Block::Simple(found)) => match simple_packet_spans(table, &found, frame.length) {
+        Ok(Block::Simple(block)) => match simple_packet_spans(table, &block, frame.length) {
             Ok(spans) => Ok(BlockEffect::Packet(spans)),
             Err(fault) => Err(fault),
         },

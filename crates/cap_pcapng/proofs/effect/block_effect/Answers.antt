@@ -8,18 +8,18 @@ use Rattle.cap_pcapng.proofs.effect.block_effect.Goals as goal
 pub enhanced_packet_spans-requires : goal.enhanced_packet_spans-requires
 enhanced_packet_spans-requires g c =
     let e = c.in-Ok-Enhanced.ensures in
-    enhanced_room c.args.frame.now c.args.bytes.now c.in-Ok-Enhanced.found c.requires.whole c.requires.shortest (sym (ap parts_of c.in-Ok-Enhanced.field-0-is) ∙ e.parts) e.passes
+    enhanced_room c.args.frame.now c.args.bytes.now c.in-Ok-Enhanced.block c.requires.whole c.requires.shortest (sym (ap parts_of c.in-Ok-Enhanced.field-0-is) ∙ e.parts) e.passes
 
 pub returns-in-Ok-clause-ok : goal.returns-in-Ok-clause-ok
 returns-in-Ok-clause-ok g c =
     let e = c.in-Ok-Enhanced.ensures in
-    enhanced_enters c.args.frame.now (g.T.Interfaces.list c.args.table.now) c.args.bytes.now c.in-Ok-Enhanced.found c.in-Ok.spans
+    enhanced_enters c.args.frame.now (g.T.Interfaces.list c.args.table.now) c.args.bytes.now c.in-Ok-Enhanced.block c.in-Ok.spans
     c.requires.whole c.requires.shortest (sym (ap parts_of c.in-Ok-Enhanced.field-0-is) ∙ e.parts) e.passes c.in-Ok.ensures
 
 pub returns-in-Ok-simple_packet_spans-clause-ok : goal.returns-in-Ok-simple_packet_spans-clause-ok
 returns-in-Ok-simple_packet_spans-clause-ok g c =
     let e = c.in-Ok-Simple.ensures in
-    simple_enters c.args.frame.now (g.T.Interfaces.list c.args.table.now) c.args.bytes.now c.in-Ok-Simple.found c.in-Ok-simple_packet_spans.spans
+    simple_enters c.args.frame.now (g.T.Interfaces.list c.args.table.now) c.args.bytes.now c.in-Ok-Simple.block c.in-Ok-simple_packet_spans.spans
     c.requires.whole c.requires.shortest (sym (ap parts_of c.in-Ok-Simple.field-0-is) ∙ e.parts) e.passes c.in-Ok-simple_packet_spans.ensures
 
 pub returns-in-Err-clause-err : goal.returns-in-Err-clause-err
