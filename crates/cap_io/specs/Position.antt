@@ -39,8 +39,8 @@ pub record IsAt (text done : List ℕ) (packets : List Placed) (waiting : Bool)
   pub waits : waiting ≡ true → HasPacket s
   pub ended : s.phase ≡ Ended → IsOver s
   pub sound : (fault : Fault) → s.phase ≡ Failed fault → ⊥
-  -- the block has room for each unit that is done, but the file header of pcap, and for the current
-  -- one
+  -- the buffer has room for each unit that is done, but the file header of pcap, and for the
+  -- current one
   pub fit : FitUnits s.room Nothing done s.declared
   pub held : length s.block ≤ s.room
 
@@ -66,7 +66,7 @@ pub record ReadFailsAt (old new : SourceView) (text done rest : List ℕ)
   pub few : new.given + length text
       < given_in_all old + length done + decisive_length declared rest
 
--- After these whole units memory is taken: the header of the next one states more bytes than a block
+-- After these whole units memory is taken: the next one's header states more bytes than a buffer
 -- has room for that held each of them, but the file header of pcap; or it describes an interface.
 pub record MemoryEndsAt (done rest : List ℕ) (declared : Declared) : Type 0 where
   pub room : ℕ

@@ -81,19 +81,19 @@ DescribesInterface (PcapngFile first section) text =
     × (is_interface (parts_after (Some section) text) ≡ true)
 DescribesInterface declared text = ⊥
 
--- The next unit is longer, as its whole header states, than the block has room for; or it describes
--- an interface.
+-- The next unit is longer, as its whole header states, than the buffer has room for; or it
+-- describes an interface.
 abbrev pub TakesMemory : ℕ → Declared → List ℕ → Type 0
 TakesMemory room declared unread =
     (room < unwrap_or (stated_length declared unread) 0) ⊎ DescribesInterface declared unread
 
--- how much of a unit of this size the block holds: none of the file header of pcap
+-- how much of a unit of this size the buffer holds: none of the file header of pcap
 abbrev pub held_length : (before after : Declared) → ℕ → ℕ
 held_length Nothing (PcapFile head) size = 0
 held_length before after size = size
 
--- These bytes are whole units, and a block of this size has room for each of them, but for the file
--- header of pcap, which it doesn't hold.
+-- These bytes are whole units, and a buffer of this size has room for each of them, but for the
+-- file header of pcap, which it doesn't hold.
 pub data FitUnits (room : ℕ) : Declared → List ℕ → Declared → Type 0 where
   no_unit_fits : {d : Declared} → FitUnits room d [] d
   unit_fits : {b c d : Declared} {u more : List ℕ} {qs : List Captured} → IsUnit b u qs c

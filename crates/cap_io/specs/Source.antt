@@ -35,7 +35,7 @@ pub record SourceView : Type 0 where
   pub failures : ℕ
   -- how many bytes the device gives at least before it fails; `None`: it never fails
   pub sure : Option ℕ
-  -- how many bytes the block has room for
+  -- how many bytes the buffer has room for
   pub room : ℕ
 
 -- a source of which nothing is read yet
@@ -92,7 +92,7 @@ pub record SkipsUnits (old new : SourceView) (rest : List ℕ) : Type 0 where
   pub splits : old.unread ≡ passed ++ rest
   pub units : AreUnits old.declared (old.offset + length old.block) passed [] new.declared
   pub offset : new.offset ≡ old.offset + length old.block + length passed
-  -- the block, which never has less room than before, has room for each of them
+  -- the buffer, which never has less room than before, has room for each of them
   pub room : old.room ≤ new.room
   pub fit : FitUnits new.room old.declared passed new.declared
 
@@ -168,7 +168,7 @@ pub record KeepsBounds (old : SourceView) (r : Result Bool Fault) (new : SourceV
   -- a device that failed had given as many bytes as it was sure to
   pub sure : new.sure ≡ old.sure
   pub enough : 0 < new.failures → HasGiven new.sure new.given
-  -- at most one unit is held, in a block that has room for it and never less than before
+  -- at most one unit is held, in a buffer that has room for it and never less than before
   pub block : length new.block ≤ new.room
   pub held : new.room ≤ most_in_unit
   pub room : old.room ≤ new.room

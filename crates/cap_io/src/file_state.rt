@@ -16,9 +16,10 @@ use std::alloc::Allocator;
 pub enum FileState {
     /// Nothing was read.
     Unknown,
+    /// A pcap file with this file header.
     Pcap(Head),
-    /// The byte order of the current section, and the first link type that an interface of the file
-    /// declared.
+    /// A pcapng file: the byte order of the current section, and the first link type that an
+    /// interface of the file declared.
     Pcapng(Order, Option<u16>),
 }
 

@@ -1,4 +1,4 @@
-//! Packets from a device and to a device, one at a time, through one block of memory.
+//! Packets from a device, one at a time, through one buffer; and packets to a device.
 #![tactic(auto)]
 
 mod file_state;

@@ -35,7 +35,7 @@ fn read_first_bytes<I: Input>(input: &mut I) -> Result<[u8; 4], Fault>
     Ok(first)
 }
 
-/// Reads the units of a file, one at a time, through one block of memory.
+/// Reads the units of a file, one at a time, through one buffer.
 #[derive(Drop)]
 pub(crate) struct UnitReader<I: Input, A: Allocator> {
     pub(crate) input: I,

@@ -16,6 +16,7 @@ pub enum Kind {
     Pcap,
     /// A pcap savefile with nanoseconds.
     NsecPcap,
+    /// A pcapng file.
     Pcapng,
 }
 
@@ -32,8 +33,8 @@ pub(crate) enum Stage {
     Failed(Fault),
 }
 
-/// Reads the packets of a capture from a device, through one block of memory, and beside it for
-/// pcapng the table of a section's interfaces.
+/// Reads the packets of a capture from a device, through one buffer for the current unit, and
+/// beside it for pcapng the table of a section's interfaces.
 #[derive(Drop)]
 pub struct Source<I: Input, A: Allocator> {
     reader: UnitReader<I, A>,
@@ -90,7 +91,7 @@ impl<I: Input, A: Allocator> Source<I, A> {
 
     /// Reads on to the next packet, which `head` lends; `false` at the clean end, then and ever
     /// after. A fault is that of the first check which the unit at `offset` fails; `ReadFailed`
-    /// where the device failed in this call; `NoMemory` where the block or the table of interfaces
+    /// where the device failed in this call; `NoMemory` where the buffer or the table of interfaces
     /// could not grow. After a fault it returns that again, and reads nothing.
     pub fn advance(&mut self) -> Result<bool, Fault>
         ensures packets { IsTrue I.tells → Advances self.old.phase self.old result self.new }
@@ -123,7 +124,7 @@ impl<I: Input, A: Allocator> Source<I, A> {
         }
     }
 
-    /// The current packet, lent from the block, with its comment; `None` before the first
+    /// The current packet, lent from the buffer, with its comment; `None` before the first
     /// `advance`, at the clean end and after a fault.
     pub fn head(&self) -> Option<Packet<'_>>
         ensures packet { option_map captured result ≡ self.now.packet }

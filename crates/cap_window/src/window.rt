@@ -72,8 +72,8 @@ impl<A: Allocator> Window<A> {
     }
 
     /// Puts the mark of a packet's captured bytes into the window, and returns whether an equal one
-    /// was there: of as many bytes with the same digest. It is put there in either case, and the
-    /// oldest mark leaves the window where it is full. Takes no memory.
+    /// was there: of as many bytes with the same digest. The mark is put there in either case, and
+    /// the oldest one leaves the window where it is full. Takes no memory.
     pub fn seen_before(&mut self, bytes: &[u8]) -> bool
         requires { length bytes.now < 2 ^ 32 }
         ensures answer { IsTrue result ↔ Contains self.old.marks (mark_of bytes.now) }
@@ -87,8 +87,8 @@ impl<A: Allocator> Window<A> {
         found
     }
 
-    /// Whether an equal mark is in the window: if so, it is in the tree of its hash, on the way
-    /// down by its bits.
+    /// Whether an equal mark is in the window. If so, it is in the tree of this mark's hash, where
+    /// the way down by this mark's bits meets it.
     fn contains(&self, mark: &Mark) -> bool
         ensures { IsTrue result ↔ Contains self.now.marks mark.now }
     {
