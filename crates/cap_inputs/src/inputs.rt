@@ -186,6 +186,7 @@ impl<I: Input, A: Allocator> InputCursor<I, A> {
 /// The inputs of a job.
 #[derive(Drop)]
 pub struct Inputs<I: Input, A: Allocator> {
+    /// The inputs, by their indexes.
     cursors: Vec<InputCursor<I, A>, A>,
     schedule: Schedule,
     /// Of a merge the inputs whose packets wait, with their keys; else empty.

@@ -57,6 +57,7 @@ impl InterfaceKey {
 /// The different interfaces of a file's packets so far, in the order of first use.
 #[derive(Drop)]
 pub(crate) struct OutputInterfaces<A: Allocator> {
+    /// The interface with number n has index n.
     keys: IndexSet<InterfaceKey, BuildHasherDefault<FoldHasher>, A>,
     /// The number of the last packet's interface, which is mostly that of the next one too.
     last_number: u32,

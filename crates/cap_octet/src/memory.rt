@@ -13,7 +13,9 @@ use crate::device::{DeviceFault, Input, Output};
 /// Gives the bytes of a slice, and never fails.
 #[derive(Drop)]
 pub struct MemInput<'a> {
+    /// The bytes that are left.
     rest: &'a [u8],
+    /// How many bytes were given so far.
     given: usize,
     ghost bounded: { given + length rest.now < 2 ^ 63 },
 }

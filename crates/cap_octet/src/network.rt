@@ -8,7 +8,7 @@ use crate::assigned::{ETHERTYPE_ARP, ETHERTYPE_IPV4, ETHERTYPE_IPV6, ETHERTYPE_R
 use crate::link::Link;
 use crate::number::{Order, u16_at};
 
-/// The network headers that lines and expressions know.
+/// The network headers that lines and expressions know, by their protocols.
 #[derive(Clone, Copy)]
 pub enum NetworkKind {
     Ipv4,

@@ -23,6 +23,7 @@ const GIVEN_END: u64 = 0x8000_0000_0000_0000;
 #[derive(Drop)]
 pub struct StdInput<R> {
     reader: CountingReader<R>,
+    /// How many bytes were given so far.
     given: u64,
     failures: ContractCount,
     ghost bounded: { given < 2 ^ 63 },
@@ -157,6 +158,7 @@ impl<R: Read> Input for StdInput<R> {
 #[derive(Drop)]
 pub struct StdOutput<W: Write + Drop> {
     writer: CountingWriter<W>,
+    /// Whether somebody may be waiting for what is written.
     is_awaited: bool,
     /// Why it failed last; `None` where it never did.
     cause: Option<ErrorKind>,

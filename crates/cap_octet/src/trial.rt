@@ -19,6 +19,7 @@ pub struct TrialInput<'a> {
     inner: MemInput<'a>,
     piece: usize,
     fails_at: Option<u64>,
+    /// How many reads were made.
     reads: u64,
     failures: ContractCount,
     ghost moves: { 0 < piece },

@@ -23,9 +23,13 @@ use cap_octet::{Fault, Order, u16_at, u32_at};
 /// A block that passed its own checks (draft-ietf-opsawg-pcapng, "Block Types").
 #[derive(Clone, Copy)]
 pub enum Block<'a> {
+    /// A section header block.
     Section,
+    /// An interface description block.
     Interface(InterfaceBlock<'a>),
+    /// An enhanced packet block.
     Enhanced(EnhancedBlock<'a>),
+    /// A simple packet block.
     Simple(SimpleBlock<'a>),
     /// A block of another type.
     Skipped,

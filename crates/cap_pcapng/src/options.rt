@@ -27,6 +27,7 @@ pub struct Options<'a> {
 /// An option, with its value lent.
 #[derive(Clone, Copy)]
 pub struct BlockOption<'a> {
+    /// What the option is: 1 for a comment; other codes belong to the type of the block.
     pub code: u16,
     /// At most 65,535 bytes.
     pub value: &'a [u8],

@@ -66,6 +66,7 @@ impl Entry {
 /// The interfaces of a section by their numbers. Contracts see a list.
 #[derive(Drop)]
 pub struct Table<A: Allocator = Global> {
+    /// The interface with number n has index n.
     entries: Vec<Entry, A>,
 }
 

@@ -6,6 +6,7 @@ use std::marker::Model;
 /// Contracts see it as the second.
 #[derive(Drop)]
 pub struct LastSecond {
+    /// Seconds since 1970-01-01 00:00:00 UTC.
     second: u64,
     /// The second's date up to its point, `YYYY-MM-DD hh:mm:ss.`
     date: [u8; 20],

@@ -7,7 +7,9 @@ use md5::{Digest, Md5};
 /// What packets are compared by: the number of captured bytes, and their MD5 (RFC 1321).
 #[derive(Clone, Copy)]
 pub struct Mark {
+    /// The number of captured bytes.
     pub length: u32,
+    /// Their MD5.
     pub digest: [u8; 16],
 }
 

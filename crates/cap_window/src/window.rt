@@ -20,7 +20,9 @@ const MOST_HEADS: u32 = 0x0010_0000;
 /// itself where it leaves the window, and nothing is ever deleted from it.
 #[derive(Drop)]
 pub struct Window<A: Allocator> {
+    /// From the oldest to the newest.
     marks: HeapCircularBuffer<Mark, A>,
+    /// The links of each mark, at the same place.
     links: HeapCircularBuffer<Links, A>,
     /// For each hash the number of the newest mark that has it, or 0.
     heads: Vec<u32, A>,
