@@ -65,17 +65,17 @@ pub(crate) fn holds_packet(order: Order, bytes: &[u8]) -> bool {
     let mut order = order;
     let mut rest = bytes;
     while let Some(front) = rest.first_chunk::<BLOCK_FRONT>() {
-        let Ok(found) = read_frame(Some(order), front) else {
+        let Ok(frame) = read_frame(Some(order), front) else {
             return false;
         };
-        let size = found.length as usize;
+        let size = frame.length as usize;
         if size > rest.len() {
             return false;
         }
-        if let BlockType::SimplePacket | BlockType::EnhancedPacket = found.block_type {
+        if let BlockType::SimplePacket | BlockType::EnhancedPacket = frame.block_type {
             return true;
         }
-        order = found.order;
+        order = frame.order;
         rest = &rest[size..];
     }
     false

@@ -13,8 +13,8 @@ use Rattle.cap_pcapng.specs.declared.frames.Frame.{Frame}
 use Rattle.cap_pcapng.specs.declared.effect.PacketSpans.{PacketSpans}
 use Rattle.cap_pcapng.specs.Effect.{is_interface, held_packet, IsBlockFault}
 
--- the packet of a block of this size, whose data are at the start of what is left of its body,
--- and its options after them
+-- Where the packet of a block of this size lies: its data begin at `start` in the block and are the
+-- first bytes of what is left of the body (`rest`); its options are after them.
 pub record PacketFound (order : Order) (interfaces : List Described) (parts : Parts)
     (start size : ℕ) (rest : List ℕ) (spans : PacketSpans) : Type 0 where
   pub whole : spans.size ≡ size
