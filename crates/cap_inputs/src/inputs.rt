@@ -470,10 +470,7 @@ where
 
 /// The schedule before anything is read: in turn from the first input on; of a merge all inputs are
 /// read on first.
-fn first_schedule<I: Input, A: Allocator>(
-    cursors: &[InputCursor<I, A>],
-    merges: bool,
-) -> Schedule
+fn first_schedule<I: Input, A: Allocator>(cursors: &[InputCursor<I, A>], merges: bool) -> Schedule
     ensures { result ≡ first_schedule (order_of merges) (length cursors.now) }
 {
     if merges {

@@ -133,13 +133,7 @@ fn push_address_with_port(text: &mut Text, ip: Ip, bytes: &[u8], at: usize, port
 /// IP, each with its port if there are ports.
 #[inline(always)]
 #[tactic(auto, unfolding(crate::specs::Network::ip_endpoints))]
-fn push_endpoints(
-    text: &mut Text,
-    ip: Ip,
-    bytes: &[u8],
-    start: usize,
-    ports: Option<(u16, u16)>,
-)
+fn push_endpoints(text: &mut Text, ip: Ip, bytes: &[u8], start: usize, ports: Option<(u16, u16)>)
     requires room { length text.old + 117 ≤ 256 }
     requires there { (start ≤ longest_header) × (addresses_end ip start ≤ length bytes.now) }
     ensures value { text.new ≡ text.old ++ ip_endpoints ip start bytes.now ports }
