@@ -11,8 +11,8 @@ ghost use Rattle.std.specs.Option.{IfSome};
 ghost use Rattle.flt_short.specs.Alike.{Shortens};
 
 use crate::alike::{Landing, adds_header, is_indirect, replaces};
-use flt_bpf::Wide;
 use flt_bpf::operation::{AluOperation, Operand, Operation, Register, Source, Test, decode};
+use flt_bpf::{Wide, reads_accumulator, reads_index, sets_accumulator, sets_index};
 use std::alloc::{AllocError, Allocator};
 
 /// The most instructions of code whose tests are shared: in longer code they aren't, since the
