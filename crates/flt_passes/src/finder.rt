@@ -198,13 +198,13 @@ impl<A: Allocator + Clone> Finder<'_, A> {
         let Some(new) = self.new.get(way.new).copied() else {
             return Ok(None);
         };
-        let Some(old) = self.old_arrival(way, new) else {
+        let Some(arrival) = self.old_arrival(way, new) else {
             return Ok(None);
         };
-        let mut way = Way { old, ..*way };
+        let mut way = Way { arrival, ..*way };
         let reads = self.reads(&way);
         way.facts.keep_useful(&reads);
-        match self.draft_at(way.new, old.place) {
+        match self.draft_at(way.new, arrival.place) {
             None => self.add_draft(&way).map(Some),
             Some(index) => self.join_draft(index, &way).map(Some),
         }
