@@ -59,7 +59,7 @@ IsRule words None (by_answer prog) = ⊥
 IsRule words (Some text) (by_reading e) = ⊥
 IsRule words (Some text) (by_answer prog) = IsListing text prog × IsValid prog
 
--- why words, or a listing where there is one, are refused
+-- why words, or a listing where there is one, are refused; memory may be lacking for any
 abbrev pub IsWhy : List ℕ → Option (List ℕ) → Refusal → Type 0
 IsWhy words None (refusal.Expression fault) = IsTextFault words fault
 IsWhy words None (refusal.Listing fault) = ⊥

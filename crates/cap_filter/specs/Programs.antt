@@ -55,7 +55,7 @@ abbrev pub spent_in : List Content → ℕ
 spent_in [] = 0
 spent_in (program ∷ programs) = program.spent + spent_in programs
 
--- programs, of which the one at this place ran on a packet; or none, without a place
+-- programs, of which the one at this place ran on a packet; without a place none of them ran
 abbrev pub ran_if : Option ℕ → Captured → List Content → List Content
 ran_if None p programs = programs
 ran_if (Some i) p programs = ran_at i p programs

@@ -151,8 +151,8 @@ pub record ReadsInput (old : InputsView) (i : ℕ) (r : Result Bool Fault)
   pub steps : Steps cursor.source.phase cursor.source r source
   pub is : new ≡ with_cursor old i (input_after cursor r source)
 
--- The input with index i was read on, and no other changed: what that does on any device, whether
--- it tells its bytes or not.
+-- The input with index i was read on, and no other changed, on any device, whether it tells its
+-- bytes or not: counts, the phase, and that the section's interfaces are few.
 pub record ReadSteps (old : InputsView) (i : ℕ) (r : Result Bool Fault)
     (new : InputsView) : Type 0 where
   pub cursor : InputView

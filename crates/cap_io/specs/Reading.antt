@@ -43,8 +43,8 @@ abbrev pub block_length : Option Section → List ℕ → Option ℕ
 block_length before text =
     length_by_header 12 text (frame_checks (order_before before) text) (block_size before text)
 
--- the length of the next unit, as its header states it; none of the file header of pcap, which
--- states no length
+-- the length of the next unit, as its header states it: none where that isn't whole or fails a
+-- check, and none of the file header of pcap, which states no length
 abbrev pub stated_length : Declared → List ℕ → Option ℕ
 stated_length Nothing text = if is_pcapng text then block_length None text else None
 stated_length (PcapFile head) text =

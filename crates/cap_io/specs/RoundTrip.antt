@@ -59,6 +59,6 @@ Back format =
     (p : Captured) (ps : List Captured) → Carries format (p ∷ ps)
     → ReadsBack (text format (p ∷ ps)) (p ∷ ps)
 
--- in each format what is written of packets that it carries reads back as they are
+-- in each format what is written of one packet or more that it carries reads back as these packets
 abbrev pub ItemsBack : Type 0
 ItemsBack = (format : Format) → Back format

@@ -17,8 +17,8 @@ pub record SinkView : Type 0 where
   pub state : SinkState
   -- the interfaces of a pcapng file so far; pcap forms have none
   pub interfaces : List Interface
-  -- the bytes that the output took, a count of its failures, and how many bytes it takes in all
-  -- before it fails
+  -- the bytes that the output took, a count of its failures, and how many bytes in all it takes at
+  -- least before it fails
   pub written : List ℕ
   pub failures : ℕ
   pub room : ℕ
@@ -100,8 +100,8 @@ WritesPacket refusal bytes written (Ok done) written' = written' ≡ written ++ 
 WritesPacket (Some refusal) bytes written (Err fault) written' = written' ≡ written
 WritesPacket None bytes written (Err fault) written' = BreaksOff fault bytes written written'
 
--- What a put does to a sink that did not fail: it adds the packet, and where that fails, the sink
--- has failed.
+-- What a put does to a sink that has not failed: it adds the packet, and where the put fails, the
+-- sink has failed from then on.
 pub record PutsNext (old : SinkView) (p : Captured) (r : Result (Unit {0}) Fault)
     (new : SinkView) : Type 0 where
   pub adds : AddsPacket old p r new
@@ -138,7 +138,7 @@ abbrev pub link_or_ethernet : Option ℕ → ℕ
 link_or_ethernet first = unwrap_or first LINKTYPE_ETHERNET
 
 -- What a finish does to a sink in this state, whatever the device: where nothing was put it writes
--- the header, else nothing.
+-- the header, else nothing. A sink that failed returns its fault again, and stays.
 abbrev pub Finishes : SinkState → SinkView → Option ℕ → Result (Unit {0}) Fault → SinkView → Type 0
 Finishes Empty old first r new = FinishesEmpty old (link_or_ethernet first) r new
 Finishes (Started link) old first r new = (r ≡ Ok tt) × (new ≡ old)

@@ -159,8 +159,8 @@ abbrev pub SectionFits : Declared → Type 0
 SectionFits (PcapngFile first section) = FitSection section.interfaces
 SectionFits declared = Unit {0}
 
--- what an `advance` does on any device, whether it tells its bytes or not: counts, and the size of
--- what is held
+-- what an `advance` of a source that has neither ended nor failed does on any device, whether it
+-- tells its bytes or not: counts, and the size of what is held
 pub record KeepsBounds (old : SourceView) (r : Result Bool Fault) (new : SourceView) : Type 0 where
   pub given : old.given ≤ new.given
   -- a failed read is told exactly where the device failed in this call

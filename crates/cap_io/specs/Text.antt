@@ -76,7 +76,7 @@ abbrev pub interfaces_after_packet : Format → List Interface → Captured → 
 interfaces_after_packet Pcapng interfaces p = interfaces ++ new_among interfaces (interface_of p)
 interfaces_after_packet format interfaces p = interfaces
 
--- whether a packet has the link type of the first
+-- whether a packet has the link type of the first, if there is a first
 abbrev pub has_link : SinkState → Captured → Bool
 has_link (Started link) p = link == p.link
 has_link state p = true

@@ -11,7 +11,7 @@ use Rattle.cap_octet.specs.declared.link.Link.TheVariants.{Ether, Raw, Cooked}
 unfoldable pub all_links : List Link
 all_links = Ether ∷ Raw ∷ Cooked ∷ []
 
--- the link type that captures have for it
+-- the link type that captures have for a link
 abbrev pub link_type : Link → ℕ
 link_type Ether = LINKTYPE_ETHERNET
 link_type Raw = LINKTYPE_RAW
@@ -27,7 +27,7 @@ network_offset Cooked = LINUX_SLL_HEADER_LENGTH
 abbrev pub longest_header : ℕ
 longest_header = 16
 
--- where its header has the EtherType of the network header; raw IP has none
+-- where a link's header has the EtherType of the network header; raw IP has none
 abbrev pub type_offset : Link → Option ℕ
 type_offset Ether = Some ETHERNET_TYPE_OFFSET
 type_offset Raw = None

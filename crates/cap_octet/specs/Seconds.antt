@@ -27,7 +27,7 @@ duration_at text None = duration_of_parts (decimal_value text) (Some 0)
 duration_at text (Some point) =
     duration_of_parts (decimal_value (take point text)) (fraction_nanoseconds (drop (point + 1) text))
 
--- the nanoseconds of a text that is a number of seconds; None of every other text. The point is the
--- first `.`
+-- the nanoseconds of a text that is a number of seconds, if they are below 2^63; None of every
+-- other text. The point is the first `.`
 unfoldable pub duration_value : List ℕ → Option ℕ
 duration_value text = duration_at text (position (λ b. b == 46) text)

@@ -8,8 +8,8 @@ use Rattle.std.specs.declared.io.ErrorKind.{ErrorKind}
 use Rattle.std.specs.declared.io.ErrorKind.TheVariants.{WriteZero}
 use Rattle.cap_octet.specs.declared.device.DeviceFault.{DeviceFault}
 
--- The device returns what the reader did, where `given` bytes were given before; but a read that
--- would reach 2^63 bytes in all is a failure.
+-- The device returns what the reader did, where `given` bytes were given before. Where it fails
+-- though the reader did not, the read would have reached 2^63 bytes in all.
 abbrev pub HandsOver : ℕ → Result ℕ Error → Result ℕ DeviceFault → Type 0
 HandsOver given (Ok n) (Ok count) = count ≡ n
 HandsOver given (Ok n) (Err fault) = 2 ^ 63 ≤ given + n
@@ -35,16 +35,16 @@ pub record IsOneRead (held : List ℕ) (remaining : Option (List ℕ)) (given ca
   pub bytes : ReadConsumes remaining remaining' answer buf'
   pub hands : HandsOver given answer result
 
--- `count` bytes that a reader's buffer held are consumed, as by a read that gave them; or none, and
--- as many remain as before.
+-- `count` bytes that a reader's buffer held are consumed, as by a read that gave them (true); or
+-- none, and the same bytes remain as before (false).
 abbrev pub IsPassed : (held : List ℕ) (remaining : Option (List ℕ)) (count : ℕ) → Bool
     → (remaining' : Option (List ℕ)) → Type 0
 IsPassed held remaining count true remaining' =
     (count ≤ length held) × Consumes remaining remaining' (take count held)
 IsPassed held remaining count false remaining' = remaining' ≡ remaining
 
--- The device returns what the writer did; but a write that takes nothing of some bytes is a
--- failure.
+-- The device returns what the writer did. Where it fails though the writer did not, the writer took
+-- nothing of some bytes.
 abbrev pub TakesOver : List ℕ → Result ℕ Error → Result ℕ DeviceFault → Type 0
 TakesOver buf (Ok n) (Ok count) = count ≡ n
 TakesOver buf (Ok n) (Err fault) = (n ≡ 0) × (0 < length buf)

@@ -46,7 +46,8 @@ time_of_parts day clock fraction =
     (λ c. option_and_then
     (λ f. time_below_end ((d * 86400 + c) * NANOS_PER_SECOND + f)) fraction) clock) day
 
--- the number that `count` digits from place `at` write; None where one is no digit
+-- the number that `count` digits from place `at` write, or fewer where the text ends before; None
+-- where one is no digit, or there is none
 abbrev pub number_at : List ℕ → ℕ → ℕ → Option ℕ
 number_at text at count = decimal_value (take count (drop at text))
 
@@ -66,14 +67,14 @@ is_date_time text =
     && ((slice_index text 16 == 58) && (slice_index text (length text - 1) == 90))))))
 
 -- the nanoseconds since 1970-01-01 of a text whose marks are in their places; None where what
--- stands between these is no date, time of day and fraction
+-- stands between the marks is no date, time of day and fraction, or they aren't below 2^63
 unfoldable pub date_time_value : List ℕ → Option ℕ
 date_time_value text =
     time_of_parts (day_of_parts (number_at text 0 4) (number_at text 5 2) (number_at text 8 2))
     (clock_of_parts (number_at text 11 2) (number_at text 14 2) (number_at text 17 2))
     (optional_fraction (take (length text - 20) (drop 19 text)))
 
--- the time of a timestamp, in nanoseconds since 1970-01-01: a date and a time of day, or a number
--- of seconds; None of every other text
+-- the time of a timestamp, in nanoseconds since 1970-01-01, if it is below 2^63: a date and a time
+-- of day, or a number of seconds; None of every other text
 unfoldable pub time_value : List ℕ → Option ℕ
 time_value text = if is_date_time text then date_time_value text else duration_value text

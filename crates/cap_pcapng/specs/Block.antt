@@ -23,7 +23,8 @@ body_in frame text = take (frame.length - 12) (drop 8 text)
 
 -- ---- the checks
 
--- the checks of a body, in order: that it is long enough for its type, and a section's version
+-- the checks of a body, in order: that it is long enough for its type, and a section's version; an
+-- obsolete packet block passes none
 abbrev pub body_checks : BlockType → Order → List ℕ → List (Bool × Fault)
 body_checks type.Section order body =
     (nat_le 16 (length body), BadBody)

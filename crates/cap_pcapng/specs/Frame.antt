@@ -68,7 +68,7 @@ frame_checks section text =
     ∷ (nat_le (length_in section text) most_block, TooLong)
     ∷ []
 
--- the first of these checks that fails
+-- the first check of a block's first 12 bytes that fails; None where all pass
 abbrev pub frame_fault : Option Order → List ℕ → Option Fault
 frame_fault section text = first_failing (frame_checks section text)
 

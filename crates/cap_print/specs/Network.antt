@@ -33,7 +33,7 @@ abbrev pub icmp : Ip → ℕ
 icmp V4 = IPPROTO_ICMP
 icmp V6 = IPPROTO_ICMPV6
 
--- what a line calls the version's own ICMP
+-- what a line calls the ICMP of this version of IP
 abbrev pub icmp_name : Ip → List ℕ
 icmp_name V4 = codes "ICMP"
 icmp_name V6 = codes "ICMP6"

@@ -12,7 +12,8 @@ use Rattle.cap_process.specs.Outcome.{Form, AsCapture, AsReports, AsLines, lines
 use Rattle.cap_process.specs.Reports.{Report, reports_text}
 
 -- What is written into: a capture; or a text or the lines of packets, with the bytes that the
--- output took, a count of its failures, and how many bytes it takes in all before it fails.
+-- output took, a count of its failures, and how many bytes in all it takes at least before it
+-- fails.
 pub data Target : Type 0 where
   Capture : (sink : SinkView) → Target
   Text : (written : List ℕ) → (failures room : ℕ) → Target
@@ -33,25 +34,25 @@ target_at (writing.Capture format) written failures room =
 target_at writing.Text written failures room = Text written failures room
 target_at (writing.Lines options) written failures room = Lines options written failures room
 
--- in which form packets and reports are written into it
+-- in which form packets and reports are written into a target
 abbrev pub form_to : List (List ℕ) → Target → Form
 form_to names (Capture sink) = AsCapture sink.format
 form_to names (Text written failures room) = AsReports names
 form_to names (Lines options written failures room) = AsLines options
 
--- the bytes that its output took
+-- the bytes that a target's output took
 abbrev pub written_to : Target → List ℕ
 written_to (Capture sink) = sink.written
 written_to (Text written failures room) = written
 written_to (Lines options written failures room) = written
 
--- how often its output failed
+-- how often a target's output failed
 abbrev pub failures_to : Target → ℕ
 failures_to (Capture sink) = sink.failures
 failures_to (Text written failures room) = failures
 failures_to (Lines options written failures room) = failures
 
--- how many bytes its output takes in all before it fails
+-- how many bytes in all a target's output takes at least before it fails
 abbrev pub room_to : Target → ℕ
 room_to (Capture sink) = sink.room
 room_to (Text written failures room) = room

@@ -92,7 +92,7 @@ abbrev pub marks_in : Option WindowView → List Mark
 marks_in None = []
 marks_in (Some w) = w.marks
 
--- among how many packets in a row, the current one among them, duplicates are searched for
+-- among how many packets in a row, with the current one, duplicates are searched for, if they are
 abbrev pub window_of : Policy → Option ℕ
 window_of (Edit s) = s.window
 window_of other = None

@@ -73,11 +73,11 @@ pub record Judgement : Type 0 where
 abbrev pub passes : SelectorState → Captured → Judgement
 passes s p = record { verdict = Pass p; state = record s { passed = s.passed + 1 } }
 
--- the packet is skipped; nothing is kept of it
+-- the packet is skipped, with this state after it
 abbrev pub skip_judgement : SelectorState → Judgement
 skip_judgement s = record { verdict = Skip; state = s }
 
--- the packet is refused for this fault, where the job ends
+-- the packet is refused for this fault, by which the job ends
 abbrev pub refuses : SelectorState → Fault → Judgement
 refuses s fault = record { verdict = Refuse fault; state = s }
 
@@ -141,7 +141,7 @@ judgement_by_time s state p None = refuses state TimeOutOfRange
 judgement_by_time s state p (Some time) = unique s.window state (edited_packet_with s p time)
 
 -- what an edit makes of the packet with this number: it is skipped where it isn't selected, or is a
--- duplicate
+-- duplicate, and refused where its moved time is out of range
 abbrev pub selects : EditRule → SelectorState → ℕ → Captured → Judgement
 selects s state number p =
     if is_selected s number p then judgement_by_time s state p (shifted_time s.shift p.time)

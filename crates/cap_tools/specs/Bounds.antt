@@ -71,8 +71,8 @@ abbrev pub reads_of : List InputView → ℕ
 reads_of [] = 0
 reads_of (h ∷ hs) = end_offset h.source + reads_of hs
 
--- the most steps of a job that read so far: two for each byte, one for each input, and one that
--- reads a filter
+-- the most steps that a job which goes on has made, by what it read: two for each byte, one for
+-- each input, and one that reads a filter
 abbrev pub most_turns : InputsView → ℕ
 most_turns f = 2 * reads_of f.cursors + length f.cursors + 1
 

@@ -56,7 +56,8 @@ pub record RefusesExpression (words : List ℕ) (tells : Bool) (old : JobView) (
   pub why : IsTextFault words fault
   pub refuses : RefusesStart (refusal.Expression fault) tells old status new
 
--- the one step of a compilation: a listing is written, or the expression is refused
+-- the one step of a compilation: a listing is written, or not the whole of it, or the expression is
+-- refused
 abbrev pub CompileGives : List ℕ → Link → Bool → JobView → Turn → JobView → Type 0
 CompileGives words link tells old turn.More new = ⊥
 CompileGives words link tells old (turn.Done status) new =

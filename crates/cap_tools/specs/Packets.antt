@@ -38,15 +38,15 @@ output_form m = form_to m.names m.output
 abbrev pub work_of : JobState → Work
 work_of m = record { order = m.inputs.order; policy = m.policy; form = output_form m }
 
--- the bytes that its output took
+-- the bytes that a job's output took
 abbrev pub written_by : JobState → List ℕ
 written_by m = written_to m.output
 
--- how often its output failed
+-- how often a job's output failed
 abbrev pub failures_by : JobState → ℕ
 failures_by m = failures_to m.output
 
--- how many bytes its output takes in all before it fails
+-- how many bytes in all a job's output takes at least before it fails
 abbrev pub room_by : JobState → ℕ
 room_by m = room_to m.output
 

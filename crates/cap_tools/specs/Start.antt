@@ -55,7 +55,8 @@ abbrev pub without_preparation : Policy → PacketOrder → Writing → Assignme
 without_preparation policy order to =
     record { preparing = None; policy = policy; order = order; writing = to }
 
--- this before the first packet
+-- this is done before the first packet; the policy says nothing, and the packets that a print
+-- filters come in the order of its input
 abbrev pub with_preparation : Preparing → Writing → Assignment
 with_preparation preparing to =
     record { preparing = Some preparing; policy = KeepAll; order = InTurn; writing = to }

@@ -49,11 +49,11 @@ texts_in id matches = unwrap_or (all_of id matches) []
 abbrev pub flag_in : Text → List Row → Bool
 flag_in id matches = option_map_or (λ text. bytes_eq text (codes "true")) (one_of id matches) false
 
--- the format that an argument names, or pcapng where it isn't given
+-- the format that an argument names, or pcapng where it isn't given, or names none
 abbrev pub format_in : Text → List Row → Format
 format_in id matches = unwrap_or (option_and_then format_of_name (first_of id matches)) Pcapng
 
--- the link that an argument names, or Ethernet where it isn't given
+-- the link that an argument names, or Ethernet where it isn't given, or names none
 abbrev pub link_in : Text → List Row → Link
 link_in id matches = unwrap_or (option_and_then link_of_name (first_of id matches)) Ether
 
@@ -121,7 +121,7 @@ is_bad_time id matches = is_some (first_of id matches) && is_none (time_in id ma
 abbrev pub is_bad_duration : Text → List Row → Bool
 is_bad_duration id matches = is_some (first_of id matches) && is_none (duration_in id matches)
 
--- one of the arguments for times and numbers of seconds has another text
+-- an argument for a time or for a number of seconds has a text that is none
 abbrev pub has_bad_time : List Row → Bool
 has_bad_time matches =
     is_bad_time ids.START.now matches || (is_bad_time ids.STOP.now matches

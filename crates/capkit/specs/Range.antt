@@ -30,6 +30,6 @@ abbrev pub range_between : Option ℕ → Option ℕ → Option (ℕ × ℕ)
 range_between (Some first) (Some last) = if is_range first last then Some (first, last) else None
 range_between _ _ = None
 
--- the range that a word names: `N`, or `N-M`
+-- the range that a word names: `N`, or `N-M`; None of every other word
 abbrev pub range_of : List ℕ → Option (ℕ × ℕ)
 range_of word = range_between (range_number (sides_of word).0) (range_number (sides_of word).1)

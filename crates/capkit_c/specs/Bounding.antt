@@ -16,14 +16,14 @@ pub record IsBound (text : List ℕ) (number : ℕ) : Type 0 where
   pub is_bound : number ≡ bound_of e
   pub most : (link_type : ℕ) (prog : List Insn) → IsFor text link_type prog → length prog ≤ number
 
--- why a text is no expression, and so has no bound
+-- why nothing is told of a text: it is no expression, or there was no memory
 abbrev pub IsTextFailure : List ℕ → Failure → Type 0
 IsTextFailure text (Text refusal) = IsTextFault text refusal
 IsTextFailure text (NotUtf8 at) = IsNotUtf8 text at
 IsTextFailure text LinkType = ⊥
 IsTextFailure text (NoRoom needed) = ⊥
 
--- the text is no expression: its failure, with its status and its number
+-- no bound is told: why, with the failure's status and its number
 pub record HasNoBound (text : List ℕ) (number status : ℕ) : Type 0 where
   pub failure : Failure
   pub why : IsTextFailure text failure

@@ -77,7 +77,8 @@ failure_number (NotUtf8 at) = at
 failure_number LinkType = 0
 failure_number (NoRoom needed) = needed
 
--- nothing is compiled: why, with its status and its number; the instructions are as they were
+-- nothing is compiled: why, with the failure's status and its number; the instructions are as they
+-- were
 pub record Fails (text : List ℕ) (link_type : ℕ) (old new : List Insn)
     (number status : ℕ) : Type 0 where
   pub failure : Failure

@@ -14,14 +14,14 @@ pub record Explains (text meaning : List ℕ) : Type 0 where
   pub expression : IsExpression text e
   pub is_text : meaning ≡ explained_text e
 
--- the meaning is put into the buffer, and `number` is its length
+-- as much of the meaning as fits is put into the buffer, and `number` is the meaning's length
 pub record PutsMeaning (text old new : List ℕ) (number : ℕ) : Type 0 where
   pub meaning : List ℕ
   pub explains : Explains text meaning
   pub put : new ≡ put_text meaning old
   pub count : number ≡ length meaning
 
--- the text is no expression: its failure, with its status and its number; the buffer is as it was
+-- no meaning is told: why, with the failure's status and its number; the buffer is as it was
 pub record HasNoMeaning (text old new : List ℕ) (number status : ℕ) : Type 0 where
   pub failure : Failure
   pub why : IsTextFailure text failure

@@ -11,7 +11,7 @@ use Rattle.flt_bpf.specs.declared.operation.Operation.TheVariants.{LoadAbsolute,
 use Rattle.flt_bpf.specs.declared.operation.Register.TheVariants.{Index}
 use Rattle.flt_bpf.specs.declared.operation.Source.TheVariants.{Immediate, Memory, Length}
 
--- 2^31, the greatest bit of 32: from here on Linux takes the offset of a load as negative
+-- 2^31, the highest bit of 32: from here on Linux takes the offset of a load as negative
 abbrev pub sign_bit : ℕ
 sign_bit = 2 ^ 31
 

@@ -41,7 +41,7 @@ found_number found.End = 222
 found_number found.Unit = 223
 found_number found.NoRoom = 224
 
--- a call leaves what it does where it finds this, and its number says what that is
+-- a call found something: it leaves what a call that finds this leaves, and returns its number
 pub record UnitLeaves (capture : List ℕ) (r r' : Reader) (t t' : List Interface) (p p' : Packet)
     (number : ℕ) : Type 0 where
   pub found : Found

@@ -3,12 +3,12 @@ use Rattle.std.specs.Prelude.{ℕ, Bool, true, false, ◌||◌, Option, Some, No
 use Rattle.std.specs.declared.io.ErrorKind.{ErrorKind}
 use Rattle.std.specs.declared.io.ErrorKind.TheVariants.{BrokenPipe}
 
--- a write failed since the reader of a pipe went away
+-- a write failed because the reader of a pipe went away
 abbrev pub is_broken_pipe : Option ErrorKind → Bool
 is_broken_pipe (Some BrokenPipe) = true
 is_broken_pipe _ = false
 
--- a write of the job failed (`cause`), or the one of what was buffered, after it (`flushed`)
+-- a write of the job failed (`cause`), or the write of what was buffered, after the job (`flushed`)
 abbrev pub has_failed : (cause flushed : Option ErrorKind) → Bool
 has_failed cause flushed = is_some cause || is_some flushed
 

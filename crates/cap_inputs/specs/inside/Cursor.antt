@@ -29,7 +29,8 @@ schedule_after (Turn turn) i (Err fault) = Turn turn
 schedule_after (Merge next last) i (Ok found) = Merge (i + 1) last
 schedule_after (Merge next last) i (Err fault) = Merge next last
 
--- the schedule after a packet of an input was decided: of a merge that input alone is to be read on
+-- the schedule after a packet of an input was decided: of a merge that input alone is to be read
+-- on; in turn nothing changes
 abbrev pub schedule_after_decided : Schedule → ℕ → Schedule
 schedule_after_decided (Turn turn) i = Turn turn
 schedule_after_decided (Merge next last) i = Merge i (i + 1)

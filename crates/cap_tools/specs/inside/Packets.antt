@@ -34,7 +34,7 @@ report_at input h tally =
       tally = tally;
     }
 
--- a packet is written into the output, where its verdict is that it passes
+-- a packet is written into the output, unless its verdict is that it is skipped: then nothing is
 abbrev pub Offers : code.Verdict → Captured → Target → Result (Unit {0}) Fault → Target → Type 0
 Offers code_verdict.Skip p old r new = (r ≡ Ok tt) × (new ≡ old)
 Offers verdict p old r new = PutsIntoOutput p old r new
@@ -115,7 +115,8 @@ pub record Closes (names : List (List ℕ)) (inputs : InputsView) (input : ℕ) 
   pub among : slice_get inputs.cursors input ≡ Some cursor
   pub by : ClosesBy (asks_report inputs.order old.selector.policy) names input cursor old r new
 
--- how a job ends whose current packet was not decided: its output failed, or it is refused
+-- how a job ends whose current packet was not decided: the output failed, or the packet has this
+-- fault (it is refused, or there was no memory for it)
 abbrev pub end_of_failed_write : ℕ → Fault → JobEnd
 end_of_failed_write input WriteFailed = end.OutputFailed
 end_of_failed_write input fault = end.FaultIn input fault
