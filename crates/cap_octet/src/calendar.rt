@@ -12,7 +12,8 @@ pub struct CalendarDay {
     pub day: u8,
 }
 
-/// The day that comes `number` days after 1970-01-01. Times end in 2262; 200,000 days reach 2517.
+/// The day that comes `number` days after 1970-01-01. The bound is past all times: these end in
+/// 2262, and 200,000 days reach 2517.
 pub fn calendar_day(number: u64) -> CalendarDay
     requires { number < 200_000 }
     ensures { ymd result.year result.month result.day ≡ day_from_epoch number }

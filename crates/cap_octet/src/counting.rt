@@ -42,7 +42,7 @@ impl<R: Read> CountingReader<R> {
         self.reader.read(buf)
     }
 
-    /// The bytes that its buffer holds.
+    /// The bytes that were read ahead and not yet taken. Reads nothing.
     #[inline(always)]
     pub(crate) fn buffer(&self) -> &[u8]
         ensures { result.now ≡ reader_buffer self.now.reader }

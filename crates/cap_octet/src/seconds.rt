@@ -1,4 +1,4 @@
-//! Durations: decimal numbers of seconds that are read as nanoseconds.
+//! Durations: decimal numbers of seconds that are read as nanoseconds; and the bound of all times.
 ghost use Rattle.std.specs.Prelude.{◌≡◌, ◌<◌, ◌==◌, IfSome, length, position};
 ghost use Rattle.cap_octet.specs.Seconds.{fraction_nanoseconds, duration_of_parts};
 ghost use Rattle.cap_octet.specs.Seconds.{duration_value, time_below_end};

@@ -1,5 +1,6 @@
-//! Devices for tests, over memory: they move a few bytes a call, fail where a test says, and count
-//! their reads.
+//! Devices for tests, over memory: they move a few bytes a call and fail where a test says, and the
+//! input counts its reads. The clauses of a method are those of its trait with this device's ghost
+//! members put in (`tells`, `failures` and so on).
 ghost use Rattle.std.specs.Prelude.{◌≡◌, ℕ, ◌+◌, ◌-◌, ◌≤◌, ◌<◌, ◌^◌, IsTrue, List, [], length};
 ghost use Rattle.std.proofs.Common.{rules};
 ghost use Rattle.std.specs.Prelude.{Some, None, true, IfOk, IsErr, OnErr, OnOk, min, is_some};

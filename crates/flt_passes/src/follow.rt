@@ -1,6 +1,8 @@
 //! How far on an edge may lead, for the passes `Thread` and `ThreadFar`: from the node where the
 //! edge leads a run is followed, by what is known of it, past nodes without which it would go on
-//! the same.
+//! the same. What a register holds is a *term*, as in `known`. Nothing here is trusted, so no
+//! function has a clause: what a pass makes is taken only where `flt_opt` sees that it returns the
+//! same.
 
 use crate::graph::{Flow, Node};
 use crate::known::{Known, loads_from_packet};

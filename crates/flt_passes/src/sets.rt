@@ -37,7 +37,7 @@ fn piece_count(span: Span) -> usize {
 }
 
 /// The numbers that are in both pieces; where there are none, `low` is greater than `high`.
-/// (`flt_opt` has it too, with a clause.)
+/// (`flt_opt` has one of its own, with a clause: nothing here is trusted.)
 fn overlap(one: Piece, other: Piece) -> Piece {
     Piece {
         low: one.low.max(other.low),

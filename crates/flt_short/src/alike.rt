@@ -319,7 +319,8 @@ fn are_alike(code: &[Wide], old: &[Wide], landings: &[Landing]) -> bool
     true
 }
 
-/// Whether the first instruction of the old code lands where the new code, of this length, begins.
+/// Whether the first instruction of the old code lands where the new code, of this length, begins:
+/// as many instructions from its end as it has. Code without instructions has no beginning.
 fn begins(landings: &[Landing], len: usize) -> bool
     ensures { result ≡ begins landings.now len }
 {

@@ -1,7 +1,8 @@
 //! What is known where runs go on, of a few places at a time. Here a place is the index of an
 //! instruction from the beginning of the code, not a distance to its end as in `shorten.rt`. The
 //! code is read once, so a place before the one that is read is *passed*, and isn't asked for
-//! again.
+//! again. Clauses cite definitions of the same names; that what they give is known to be so in
+//! each run is shown in the proofs.
 
 ghost use Rattle.std.specs.Prelude.{◌≡◌, ◌≤◌, ◌<◌, ◌-◌, ◌^◌, length};
 ghost use Rattle.flt_short.specs.inside.Arrivals.{first_at, first_free, known_at, arrived};
@@ -104,8 +105,8 @@ impl Arrivals {
         }
     }
 
-    /// What is known at a place: nothing where a run found no room for it, and that no run comes
-    /// there where none went on there.
+    /// What is known at a place. Of one that isn't kept: nothing before `unknown_end`, since a run
+    /// may have found no room for it; from there on, that no run comes there.
     pub fn known_at(&self, place: usize) -> Known
         ensures { result ≡ known_at self.now place }
     {
