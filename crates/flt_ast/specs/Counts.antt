@@ -22,8 +22,8 @@ abbrev pub side_tests : Direction → ℕ → ℕ
 side_tests (direction.One s) n = n
 side_tests (direction.Both j) n = n + n
 
--- the tests of a protocol number: the EtherType and the number, without a protocol for IPv4 and for
--- IPv6
+-- the tests of a protocol number: that of IPv4 or of IPv6, and the number; without a protocol for
+-- both of them
 abbrev pub proto_tests : Option Protocol → ℕ
 proto_tests None = (1 + 1) + (1 + 1)
 proto_tests (Some p) = 1 + 1
@@ -85,7 +85,7 @@ typed_tests Proto p d v = proto_tests p
 abbrev pub value_tests : CompleteQualifiers → Value → ℕ
 value_tests q v = typed_tests q.value_type q.protocol q.direction v
 
--- the tests of an accessor: its protocol, or of one above IPv4 the EtherType, its number and that
+-- the tests of an accessor: its protocol, or for one above IPv4 that of IPv4, its number and that
 -- the packet is no later fragment
 abbrev pub accessor_test_count : Protocol → ℕ
 accessor_test_count protocol.Tcp = 1 + 1 + 1
@@ -128,14 +128,15 @@ truth_size (denied a) = truth_size a
 truth_size (joined j a b) = truth_size a + truth_size b
 truth_size _ = 0
 
--- how many words of memory a number needs: for left sides that wait while right sides are computed
+-- how many words of memory a number needs at most: for left sides that wait while right sides are
+-- computed
 abbrev pub number_words : NumberTree → ℕ
 number_words (load p s a) = number_words a
 number_words (negated a) = number_words a
 number_words (applied o a b) = max (number_words a) (1 + number_words b)
 number_words _ = 0
 
--- how many words of memory a truth needs
+-- how many words of memory a truth needs at most
 abbrev pub truth_words : TruthTree → ℕ
 truth_words (sized s n) = max (number_words len) (1 + number_words (literal n))
 truth_words (compared c a b) = max (number_words a) (1 + number_words b)
@@ -143,7 +144,7 @@ truth_words (denied a) = truth_words a
 truth_words (joined j a b) = max (truth_words a) (truth_words b)
 truth_words _ = 0
 
--- how many elementary tests the formulas of an expression's primitives have
+-- how many tests the formulas of an expression's primitives have, by this count
 abbrev pub tests_of : Expression → ℕ
 tests_of empty = 0
 tests_of (truth a) = truth_tests a
@@ -153,7 +154,7 @@ abbrev pub nodes_of : Expression → ℕ
 nodes_of empty = 0
 nodes_of (truth a) = truth_size a
 
--- how many words of memory an expression's program needs
+-- how many words of memory an expression's program needs at most
 abbrev pub words_of : Expression → ℕ
 words_of empty = 0
 words_of (truth a) = truth_words a

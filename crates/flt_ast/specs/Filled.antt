@@ -59,7 +59,7 @@ abbrev pub fill_expression : Expression → Expression
 fill_expression empty = empty
 fill_expression (truth a) = truth (complete (with_inherited only_host a))
 
--- a node with what is left out before its value filled in; others are unchanged
+-- a node whose value has some qualifiers gets those that are left out; others are unchanged
 abbrev pub completed_node : Node → Node
 completed_node (node.Valued q v) = node.Qualified (completed_qualifiers q) v
 completed_node n = n

@@ -17,7 +17,7 @@ has_wrong_size (negated a) = has_wrong_size a
 has_wrong_size (applied o a b) = has_wrong_size a || has_wrong_size b
 has_wrong_size _ = false
 
--- what is written before a primitive's value doesn't go with it (E7)
+-- what stands before a primitive's value, or before `broadcast`, doesn't go with it (E7)
 abbrev pub is_misfit : TruthTree → Bool
 is_misfit (cast p c) = is_cast_misfit p c
 is_misfit (valued q v) =
@@ -83,7 +83,7 @@ pub record IsResolved (e : Expression) : Type 0 where
   pub in_range : some_primitive is_out_of_range e ≡ false
   pub in_mask : some_primitive has_bits_past_mask e ≡ false
 
--- what is written before a node's value doesn't go with it (E7)
+-- what stands before a node's value, or before `broadcast`, doesn't go with it (E7)
 abbrev pub is_misfit_node : Node → Bool
 is_misfit_node (node.Cast p c) = is_misfit (cast p c)
 is_misfit_node (node.Valued q v) = is_misfit (valued q v)

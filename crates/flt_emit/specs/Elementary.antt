@@ -81,7 +81,7 @@ compares_under mask offset width comparison value =
       value = value;
     })
 
--- the field there compares so with this number
+-- the field at a place compares so with this number
 abbrev pub compares_at : Offset → Width → Comparison → ℕ → Elementary
 compares_at offset width comparison value = compares_under None offset width comparison value
 

@@ -73,7 +73,7 @@ reads link (Either a b) p n = either (reads link a p n) (reads link b p n)
 reads link (Except a) p n = negation (reads link a p n)
 reads link (Among f vs) p n = among_reads f vs p
 
--- some tests that all hold, read one after the other; none always do
+-- some tests that all hold, read one after the other; of no tests that is always so
 abbrev pub all_of : List Elementary → Formula
 all_of [] = Single (Outcome true)
 all_of (t ∷ []) = Single t
@@ -101,13 +101,13 @@ sides (direction.Both And) source destination = Both (all_of source) (all_of des
 abbrev pub whole_field : Offset → Width → MaskedField
 whole_field offset width = record { offset = offset; width = width; mask = None }
 
--- the numbers without this one, where it stands first
+-- the numbers, of which the first one that is this number is left out
 abbrev pub without : ℕ → List ℕ → List ℕ
 without a [] = []
 without a (v ∷ vs) = if v == a then vs else v ∷ without a vs
 
--- the numbers without the first of the expression; one that is alone stays, so that one is left at
--- least
+-- the numbers without the one that comes first in the expression; a number that is alone stays, so
+-- that one is left at least
 abbrev pub remaining : ℕ → List ℕ → List ℕ
 remaining first numbers = if nat_lt (length numbers) 2 then numbers else without first numbers
 

@@ -36,7 +36,8 @@ frame_kind network.Ipv6 = frame.Ip6
 frame_kind network.Arp = frame.Arp
 frame_kind network.Rarp = frame.Rarp
 
--- by whether a link's header has an EtherType: raw IP, which has none, has neither ARP nor RARP
+-- packets of a link may have a network header of this kind, by whether the link's header has an
+-- EtherType: raw IP, which has none, has neither ARP nor RARP
 abbrev pub carries_kind : Option ℕ → NetworkKind → Bool
 carries_kind None network.Arp = false
 carries_kind None network.Rarp = false

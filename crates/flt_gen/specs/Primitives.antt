@@ -49,7 +49,7 @@ after t f = Both (Single t) f
 abbrev pub ip_proto : Link → ℕ → Formula
 ip_proto link n = after (kind_test link Ip) (Single (has_ip_proto link n))
 
--- IPv6 with this next header, past which extension headers aren't looked
+-- IPv6 with this next header; extension headers aren't looked past
 abbrev pub ip6_proto : Link → ℕ → Formula
 ip6_proto link n = after (kind_test link Ip6) (Single (has_ip6_proto link n))
 
@@ -124,17 +124,19 @@ partial_mask mask = if mask == 2 ^ 32 - 1 then None else Some mask
 abbrev pub address_test : Option ℕ → ℕ → Offset → Elementary
 address_test mask address offset = compares_under mask offset Word Equal address
 
--- how many bytes past the start of a header of a kind the source address stands
+-- how many bytes past the start of a header of IPv4, or else of ARP or RARP, the IPv4 address of
+-- the source stands
 abbrev pub source_offset : FrameKind → ℕ
 source_offset Ip = 12
 source_offset _ = 14
 
--- how many bytes past the start of a header of a kind the destination address stands
+-- how many bytes past the start of a header of IPv4, or else of ARP or RARP, the IPv4 address of
+-- the destination stands
 abbrev pub destination_offset : FrameKind → ℕ
 destination_offset Ip = 16
 destination_offset _ = 24
 
--- where both addresses of a header of a kind stand
+-- where both IPv4 addresses of a header of IPv4, ARP or RARP stand
 abbrev pub address_places : Link → FrameKind → Sides
 address_places link kind = record {
   width = Word;
@@ -142,13 +144,14 @@ address_places link kind = record {
   destination = Fixed (network_offset link + destination_offset kind);
 }
 
--- the addresses at these places are of a network, as its direction asks for them
+-- the addresses at these places are of a network, as the direction that is with it asks for them
 abbrev pub net_tests : Sides → NetTest → Formula
 net_tests at net =
     sides net.direction (address_test net.mask net.address at.source ∷ [])
     (address_test net.mask net.address at.destination ∷ [])
 
--- the addresses of a header are those of hosts: of a network, or several, which are these numbers
+-- the addresses of a header of a kind, as a direction asks for them, are those of hosts: of all in
+-- a network, or of several, whose addresses are these numbers
 abbrev pub hosts_sides : Link → FrameKind → Hosts → List ℕ → Formula
 hosts_sides link kind (hosts.Net net) numbers = net_tests (address_places link kind) net
 hosts_sides link kind (hosts.Several direction first) numbers =

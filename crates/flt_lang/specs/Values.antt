@@ -17,13 +17,13 @@ use Rattle.flt_ast.specs.declared.value.NetMask.TheVariants as mask
 use Rattle.flt_ast.specs.declared.value.Value.{Value}
 use Rattle.flt_ast.specs.declared.value.Value.TheVariants as value
 
--- the tokens begin with this protocol or none, and these are left after it
+-- the tokens begin with this protocol, or none is read, and these are left then
 pub data ReadsProtocol : List TokenKind → Option Protocol → List TokenKind → Type 0 where
   no_protocol : {ts : List TokenKind} → ReadsProtocol ts None ts
   protocol : {p : Protocol} {ts : List TokenKind}
       → ReadsProtocol (token.Protocol p ∷ ts) (Some p) ts
 
--- the tokens begin with this direction or none, and these are left after it
+-- the tokens begin with this direction, or none is read, and these are left then
 pub data ReadsDirection : List TokenKind → Option Direction → List TokenKind → Type 0 where
   no_direction : {ts : List TokenKind} → ReadsDirection ts None ts
   one_side : {s : Side} {ts : List TokenKind}
@@ -35,7 +35,7 @@ pub data ReadsDirection : List TokenKind → Option Direction → List TokenKind
       → ReadsDirection (token.Side Destination ∷ token.Join j ∷ token.Side Source ∷ ts)
       (Some (direction.Both j)) ts
 
--- the tokens begin with this type or none, and these are left after it
+-- the tokens begin with this type, or none is read, and these are left then
 pub data ReadsType : List TokenKind → Option ValueType → List TokenKind → Type 0 where
   no_type : {ts : List TokenKind} → ReadsType ts None ts
   of_type : {k : ValueType} {ts : List TokenKind} → ReadsType (token.ValueType k ∷ ts) (Some k) ts
@@ -51,7 +51,7 @@ pub data ReadsQualifiers : List TokenKind → Qualifiers → List TokenKind → 
 abbrev pub is_written : Qualifiers → Bool
 is_written q = is_some q.protocol || is_some q.direction || is_some q.value_type
 
--- the tokens begin with this mask or none, and these are left after it
+-- the tokens begin with this mask, or none is read, and these are left then
 pub data ReadsMask : List TokenKind → NetMask → List TokenKind → Type 0 where
   no_mask : {ts : List TokenKind} → ReadsMask ts mask.Unwritten ts
   prefix : {m : ℕ} {ts : List TokenKind}

@@ -47,8 +47,8 @@ IsWritableValue (value.Ip6 a n) = (a < 2 ^ 128) × IsWritablePrefix n
 IsWritableValue (value.Mac a) = a < 2 ^ 48
 IsWritableValue (value.Range a b) = (a < 2 ^ 32) × (b < 2 ^ 32)
 
--- the number is one that some text means: an accessor has a protocol that may stand before a
--- bracket
+-- the numbers, names and protocols of arithmetic are those that some text can give: an accessor has
+-- a protocol that may stand before a bracket
 abbrev pub IsWritableNumber : NumberTree → Type 0
 IsWritableNumber (literal n) = n < 2 ^ 32
 IsWritableNumber len = Unit {0}
@@ -57,8 +57,8 @@ IsWritableNumber (load p s a) = (is_accessor p ≡ true) × (s < 2 ^ 32) × IsWr
 IsWritableNumber (negated a) = IsWritableNumber a
 IsWritableNumber (applied o a b) = IsWritableNumber a × IsWritableNumber b
 
--- the truth is one that some text means: a protocol stands alone, or before `broadcast`, only where
--- it may
+-- the numbers, names, addresses and protocols of a truth are those that some text can give: a
+-- protocol stands alone, or before `broadcast` or `multicast`, only if it may
 abbrev pub IsWritableTruth : TruthTree → Type 0
 IsWritableTruth (check p) = stands_alone p ≡ true
 IsWritableTruth (cast None c) = Unit {0}
@@ -71,7 +71,7 @@ IsWritableTruth (compared c a b) = IsWritableNumber a × IsWritableNumber b
 IsWritableTruth (denied a) = IsWritableTruth a
 IsWritableTruth (joined j a b) = IsWritableTruth a × IsWritableTruth b
 
--- the tree is one that some text can have
+-- the numbers, names, addresses and protocols of a tree are those that some text can give
 abbrev pub IsWritable : Expression → Type 0
 IsWritable empty = Unit {0}
 IsWritable (truth a) = IsWritableTruth a

@@ -32,8 +32,8 @@ later_numbers (w ∷ []) = after (numeral w) (Some [])
 later_numbers ([] ∷ v ∷ ws) = later_numbers (v ∷ ws)
 later_numbers ((b ∷ bs) ∷ v ∷ ws) = after (numeral (b ∷ bs)) (later_numbers (v ∷ ws))
 
--- the numbers of a line's pieces between blanks, of which the first may not be empty: a line begins
--- with a number; none where a piece is no number
+-- the numbers of a line's pieces between blanks, of which the first and the last may not be empty:
+-- a line begins and ends with a number. None where a piece that isn't empty is no number
 abbrev pub numbers_of : List (List ℕ) → Option (List ℕ)
 numbers_of [] = None
 numbers_of (w ∷ []) = after (numeral w) (Some [])
@@ -69,7 +69,8 @@ abbrev pub onto : Insn → Result (List Insn) ℕ → Result (List Insn) ℕ
 onto i (Ok is) = Ok (i ∷ is)
 onto i (Err line) = Err line
 
--- the instruction of a line before those of later lines; none: this line is the first wrong one
+-- the instruction of a line before those of later lines; where the line has none, it is the first
+-- wrong one
 abbrev pub read_insn : Option Insn → Result (List Insn) ℕ → ℕ → Result (List Insn) ℕ
 read_insn None others at = Err at
 read_insn (Some i) others at = onto i others
@@ -83,8 +84,8 @@ read_insns (suc n) [] at = Err at
 read_insns (suc n) (line ∷ lines) at =
     read_insn (insn_of (line_numbers line)) (read_insns n lines (at + 1)) at
 
--- the instructions by the numbers of the first line, which are their count alone, and the other
--- lines
+-- the instructions of the other lines, by the numbers of the first line, which are their count
+-- alone; or the number of the first wrong line
 abbrev pub read_from : Option (List ℕ) → List (List ℕ) → Result (List Insn) ℕ
 read_from (Some (n ∷ [])) lines = if nat_lt MOST_INSTRUCTIONS n then Err 1 else read_insns n lines 2
 read_from _ lines = Err 1

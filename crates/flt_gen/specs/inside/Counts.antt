@@ -3,7 +3,7 @@ use Rattle.std.specs.Prelude.{ℕ, ◌+◌, max, length}
 use Rattle.flt_ast.specs.Counts.{number_words, number_size}
 use Rattle.flt_emit.specs.Formula.{Formula, Single, Compare, Both, Either, Except, Among}
 
--- how many words of memory the code of a formula needs
+-- how many words of memory the code of a formula needs at most
 abbrev pub words : Formula → ℕ
 words (Single t) = 0
 words (Compare c l r) = max (number_words l) (1 + number_words r)
@@ -21,7 +21,8 @@ nodes (Either a b) = nodes a + nodes b
 nodes (Except a) = nodes a
 nodes (Among f vs) = 0
 
--- how many tests the code of a formula has, apart from arithmetic
+-- how many tests are counted of a formula: one of each test and of each comparison, and of several
+-- numbers one of each
 abbrev pub tests : Formula → ℕ
 tests (Single t) = 1
 tests (Compare c l r) = 1

@@ -32,14 +32,14 @@ abbrev pub applied_number : Operator → NumberTree → NumberTree → NumberTre
 applied_number operator a b =
     number_or (applied_constant operator (constant a) (constant b)) (applied operator a b)
 
--- arithmetic in which each part of numbers alone is one number
+-- arithmetic in which each part of numbers alone is one number, if it has a value
 abbrev pub folded_number : NumberTree → NumberTree
 folded_number (load protocol size a) = load protocol size (folded_number a)
 folded_number (negated a) = negated_number (folded_number a)
 folded_number (applied operator a b) = applied_number operator (folded_number a) (folded_number b)
 folded_number a = a
 
--- a truth in whose arithmetic each part of numbers alone is one number
+-- a truth in whose arithmetic each part of numbers alone is one number, if it has a value
 abbrev pub folded_truth : TruthTree → TruthTree
 folded_truth (compared c a b) = compared c (folded_number a) (folded_number b)
 folded_truth (denied a) = denied (folded_truth a)
@@ -84,7 +84,8 @@ with_operator operator ns =
     node_or (applied_constant operator (latest_constant (earlier ns)) (latest_constant ns))
     (earlier (earlier ns)) (node.Apply operator ∷ ns)
 
--- one more node, after its operands; arithmetic of numbers alone becomes one number
+-- one more node, after its operands; arithmetic of numbers alone becomes one number, if it has a
+-- value
 abbrev pub with_folded : List Node → Node → List Node
 with_folded ns node.Negate = with_negation ns
 with_folded ns (node.Apply operator) = with_operator operator ns

@@ -136,7 +136,8 @@ flush_members link w (a ∷ others) =
     let e = emit_formula link (group_formula link w.group) w.to.yes w.to.no w.code in
     record w { code = e.code; to = targets w.to.yes e.entry; group = no_group }
 
--- the code of the group that waits is emitted, if it has members, and the group is empty then
+-- the code of the group that waits is emitted, if it has members, and the group is empty then; if
+-- an or was the last node, its left operand waits
 abbrev pub flush_group : Link → Walk → Walk
 flush_group link w = flush_members link (begin_right w.pending w) w.group.numbers
 
@@ -151,7 +152,8 @@ abbrev pub emit_value : Link → CompleteQualifiers → Value → Walk → Optio
 emit_value link q v w None = finish_formula link (qualified_needed link q v) (flush_group link w)
 emit_value link q v w (Some group) = finish_group link w group w.pending
 
--- `and` or `or`: it sets what its operands go on to
+-- `and` or `or`: its right operand is next. The left one of `and` waits; of `or` it waits only once
+-- the right one is known to be no member of the group
 abbrev pub emit_join : Link → Join → Walk → Walk
 emit_join link Or w = record (begin_right w.pending w) { pending = next.Or }
 emit_join link And w =

@@ -28,8 +28,8 @@ abbrev pub parenthesis_before : Bool → List Pending → List Pending
 parenthesis_before true ps = Front token.Open ∷ ps
 parenthesis_before false ps = ps
 
--- a node with operands, which are written next: what stands before or between them waits, and
--- around it the parentheses of an operand
+-- a node with operands, which are written next: what stands before or between them waits. If the
+-- node is an operand, the `)` after them is written, and the `(` before them waits, too
 abbrev pub around : Bool → Pending → WriterState → WriterState
 around operand p s =
     record { pending = p ∷ parenthesis_before operand s.pending; tokens = close_operand operand s.tokens }

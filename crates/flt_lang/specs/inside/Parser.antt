@@ -134,7 +134,8 @@ fill_frame f x d = node_of f >>= λ w. after_node w.1 w.0 (as_sort (sort_of f) x
 abbrev pub Reduced : Type 0
 Reduced = List Frame × Operand × List Node
 
--- the frames that bind at least as tightly as m are completed, the latest first
+-- the frames are completed, the latest first, as long as they bind at least as tightly as m; none
+-- where one of these can't be
 abbrev pub reduce : ℕ → List Frame → Operand → List Node → Option Reduced
 reduce m [] x d = Some ([], x, d)
 reduce m (f ∷ fs) x d =
@@ -182,12 +183,13 @@ abbrev pub after_sized_load : Option ℕ → List Frame → Operand → List Nod
 after_sized_load (Some n) fs x d = after_load 2 n fs x d
 after_sized_load None fs x d = None
 
--- a parenthesis that waits is closed; none where none waits
+-- the parenthesis that is the latest frame is closed; none where that is another frame
 abbrev pub after_close : List Frame → Operand → List Node → Option Begun
 after_close (frame.Open ∷ fs) x d = Some (0, (fs, Some (enclosed_operand x), d))
 after_close _ x d = None
 
--- the state after a token that follows an operand, by the tokens after it too; none where it can't
+-- the state after a token that follows an operand, by the tokens after that token too; none where
+-- no such token may stand there
 abbrev pub after_token_at : TokenKind → List TokenKind → List Frame → Operand → List Node
     → Option Begun
 after_token_at (token.Operator o) ts fs x d = after_operator (frame.Apply o) fs x d

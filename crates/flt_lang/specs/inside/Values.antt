@@ -32,7 +32,8 @@ abbrev pub both_of : List TokenKind → Option Join
 both_of (token.Side s ∷ token.Join j ∷ token.Side t ∷ ts) = if is_opposite s t then Some j else None
 both_of _ = None
 
--- the direction with which tokens begin, if they do, where the join of both sides is known
+-- the direction with which tokens begin, if they do, and the tokens after it, by the join of both
+-- sides, if they begin with both
 abbrev pub direction_by : Option Join → List TokenKind → Option Direction × List TokenKind
 direction_by (Some j) ts = (Some (direction.Both j), drop 3 ts)
 direction_by None (token.Side s ∷ ts) = (Some (direction.One s), ts)

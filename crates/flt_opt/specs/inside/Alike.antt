@@ -1,5 +1,6 @@
 -- What the rules of `replaces` show. Here `p` is the captured bytes of a packet, `n` its original
--- length, `s` and `t` the states of the new run and of the old one, and `m` a note.
+-- length, `s` and `t` the states of the new run and of the old one, and `m` a note. Both programs
+-- return the same if the new one returns what the old one does, wherever that one returns.
 use Rattle.std.specs.Prelude.{◌≡◌, ℕ, ◌+◌, ◌≤◌, Bool, true, if◌then◌else◌, List, [], Option, Some, None, slice_get, ◌⊎◌}
 use Rattle.flt_bpf.specs.declared.insn.Insn.{Insn}
 use Rattle.flt_bpf.specs.declared.machine.State.{State}
@@ -35,7 +36,8 @@ abbrev pub IsGood : List Insn → List Insn → List Fact → List Piece → Lis
 IsGood new old facts pieces p n m =
     Alike new old p n m.new m.old m.registers (part facts m.facts) pieces []
 
--- they do from each note that is for the place `at` of the new program or a later one
+-- both programs return the same from each note that is for the place `at` of the new one or a later
+-- one
 abbrev pub AreGoodFrom : List Insn → List Insn → List Note → List Fact → List Piece → List ℕ → ℕ
     → ℕ → Type 0
 AreGoodFrom new old notes facts pieces p n at =
@@ -75,8 +77,8 @@ pub record Passed (i : Insn) (far : ℕ) (b : Both) (p : List ℕ) (n : ℕ) (ne
   pub goes : step i p n old ≡ Goes far state
   pub agree : Agree p n b new state
 
--- after an instruction the old run goes on with `far` skipped, in all runs of which `b` is known;
--- `after` is known then
+-- after an instruction the old run goes on with `far` skipped, in all runs of which `b`, `facts`
+-- and `learnt` are known; `after` is known then
 abbrev pub Passes : Insn → ℕ → Both → Both → List Fact → List Piece → List Learnt → Type 0
 Passes i far b after facts pieces learnt =
     (p : List ℕ) (n : ℕ) (s t : State) → Agree p n b s t → Known p n facts pieces learnt

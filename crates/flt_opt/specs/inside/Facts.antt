@@ -62,7 +62,7 @@ pub record Known (p : List ℕ) (n : ℕ) (facts : List Fact) (pieces : List Pie
 abbrev pub numbers_below : ℕ → Piece
 numbers_below k = if k == 0 then record { low = 1; high = 0 } else record { low = 0; high = k - 1 }
 
--- the piece of k alone
+-- the piece of k alone; of 2^32 - 1 it has all greater numbers too
 abbrev pub only_number : ℕ → Piece
 only_number k = record { low = k; high = k }
 
@@ -70,11 +70,11 @@ only_number k = record { low = k; high = k }
 abbrev pub numbers_from : ℕ → Piece
 numbers_from k = record { low = k; high = 0xffff_ffff }
 
--- the piece of the numbers above k; of 2^32 - 1 it has that number itself
+-- the piece of the numbers above k; of 2^32 - 1 it has that number itself too
 abbrev pub numbers_above : ℕ → Piece
 numbers_above k = numbers_from (min (k + 1) 0xffff_ffff)
 
--- that a term's value, if it has one, is in one of two pieces
+-- what is learnt from a test: that a term's value, if it has one, is in one of two pieces
 abbrev pub learnt_of : Term → Piece → Piece → Learnt
 learnt_of t below above = record { term = t; below = below; above = above }
 
@@ -95,7 +95,7 @@ NeverIs q t learnt =
     (p : List ℕ) (n number : ℕ) → AllLearnt p n learnt → value p n t ≡ Some number
     → in_piece number q ≡ false
 
--- all numbers of a piece are in some others
+-- each number of a piece is in one of some others
 abbrev pub IsIn : Piece → List Piece → Type 0
 IsIn q numbers = (number : ℕ) → in_piece number q ≡ true → within number numbers ≡ true
 
@@ -124,7 +124,7 @@ NeverAmong qs l learnt =
     (p : List ℕ) (n number : ℕ) → AllLearnt p n learnt → value p n l.term ≡ Some number
     → within number qs ≡ true → in_either number l ≡ false
 
--- a test can't have an outcome, by all that is known
+-- a test can't have an outcome, by all that is known, where its term has a value
 abbrev pub CannotBe : Learnt → List Fact → List Piece → List Learnt → Type 0
 CannotBe l facts pieces learnt =
     (p : List ℕ) (n number : ℕ) → Known p n facts pieces learnt → value p n l.term ≡ Some number

@@ -1,5 +1,5 @@
 -- What the terms of notes mean, and what the registers hold after an instruction. Here `p` is the
--- captured bytes of a packet, `n` its original length, and `k` the number of an instruction.
+-- captured bytes of a packet, `n` its original length, and `k` the constant in an instruction.
 use Rattle.std.specs.Prelude.{◌≡◌, ℕ, ◌+◌, ◌%◌, ◌^◌, Bool, true, false, not, ◌&&◌, ◌||◌, ◌==◌, List, Option, Some, None, bit_and}
 use Rattle.std.specs.Option.{option_map}
 use Rattle.flt_bpf.specs.declared.machine.State.{State}
@@ -61,7 +61,7 @@ abbrev pub is_known : Term → Bool
 is_known Anything = false
 is_known _ = true
 
--- a term has a value on a packet: what it takes is captured
+-- a term has a value on a packet: it isn't `Anything`, and what it takes is captured
 pub record There (p : List ℕ) (n : ℕ) (t : Term) : Type 0 where
   pub number : ℕ
   pub is : value p n t ≡ Some number
@@ -102,7 +102,8 @@ masked (Number x) k = Number (bit_and x k)
 masked (Field l) k = Field (record l { mask = Some (combined_mask l.mask k) })
 masked _ k = Anything
 
--- what A + X is, by the terms of A and X: only of a number and a header's length it is known
+-- what A + X is, by the terms of A and X: it is known only of a number in A and a header's length
+-- in X
 abbrev pub term_of_sum : Term → Term → Term
 term_of_sum (Number k) (HeaderLength at more) = HeaderLength at ((more + k) % 2 ^ 32)
 term_of_sum _ _ = Anything
@@ -172,14 +173,14 @@ after_new op k b = record b {
   same_index = not (sets_index op) && b.same_index;
 }
 
--- the term that an operation puts into A or X; a load doesn't fail on a packet on which that has a
--- value
+-- the term of the header's length that an operation puts into X, or else of what A holds after it;
+-- a load from a packet doesn't fail if this term has a value there
 abbrev pub made_term : Operation → ℕ → Registers → Term
 made_term LoadHeaderLength k r = HeaderLength k 0
 made_term op k r = accumulator_after op k r
 
 -- an operation is sure to lead to the next instruction, and changes no word of memory; of a load
--- `there` says so: that its term has a value
+-- from the packet `there` says so: that its term has a value
 abbrev pub is_sure : Operation → ℕ → Bool → Bool
 is_sure (LoadAbsolute width) k there = there
 is_sure (LoadIndirect width) k there = there

@@ -19,9 +19,9 @@ abbrev pub implies : Bool → Bool → Bool
 implies true b = b
 implies false b = true
 
--- the instruction at a place of the new program, skipping `far` others, leads to a landing, if
--- there is one, and what is read from there on is the same in both programs: a and x are whether A
--- and X are the same
+-- there is a landing, the instruction at a place of the new program, skipping `far` others, leads
+-- to it, and what is read from there on is the same in both programs: a and x are whether A and X
+-- are
 abbrev pub landing_fits_at : Option Landing → ℕ → ℕ → Bool → Bool → Bool
 landing_fits_at None far place a x = false
 landing_fits_at (Some l) far place a x =
@@ -34,7 +34,7 @@ abbrev pub landing_fits : List Landing → ℕ → ℕ → ℕ → Bool → Bool
 landing_fits ls k far place a x = landing_fits_at (slice_get ls k) far place a x
 
 -- both programs go on alike after an instruction that both have, here with this operation: all its
--- ways fit
+-- ways fit, and it isn't `ja`
 abbrev pub goes_on : Operation → Insn → Landing → Insn → List Landing → Bool
 goes_on Jump j l i ls = false
 goes_on (JumpIf test operand) j l i ls =
@@ -45,7 +45,8 @@ goes_on ReturnAccumulator j l i ls = true
 goes_on op j l i ls =
     landing_fits ls 0 0 l.place (sets_accumulator op || l.accumulator) (sets_index op || l.index)
 
--- j is the same instruction as i, what it reads is the same in both programs, and both go on alike
+-- j is the same instruction as i but for the offsets, what it reads is the same in both programs,
+-- and both go on alike
 unfoldable pub same_step : Option Operation → Insn → Landing → Insn → List Landing → Bool
 same_step None j l i ls = false
 same_step (Some op) j l i ls =
@@ -65,8 +66,8 @@ EQUAL = code_of (JumpIf test.Equal Constant)
 abbrev pub ANY_BIT : ℕ
 ANY_BIT = code_of (JumpIf test.AnyBit Constant)
 
--- j is one test of bits for i, which is a mask, and a test of what is left for 0; A isn't read
--- after them
+-- j is one test of bits in place of i, which is a mask, and of the test after it whether 0 is left;
+-- A isn't read after them
 unfoldable pub one_test : Insn → Landing → Insn → List Insn → List Landing → Bool
 one_test j l i [] ls = false
 one_test j l i (t ∷ is) ls =
@@ -85,8 +86,8 @@ abbrev pub is_code : Option ℕ → ℕ → Bool
 is_code None n = false
 is_code (Some m) n = m == n
 
--- j is one load at a fixed place for i, which is a number into A, its copy to X, and a load at X; X
--- isn't read after them
+-- j is one load at a fixed place in place of i, which puts a number into A, its copy to X, and a
+-- load at X; X isn't read after them
 unfoldable pub direct_load : Insn → Landing → Insn → List Insn → List Landing → Bool
 direct_load j l i [] ls = false
 direct_load j l i (t ∷ []) ls = false
@@ -107,13 +108,14 @@ adds_header i t u v =
     (i.code == code_of (Load Accumulator Immediate) && t.code == code_of LoadHeaderLength)
     && (u.code == code_of (Compute Add IndexRegister) && v.code == code_of CopyToIndex)
 
--- two pairs of instructions load the length of the same header, and then equally many bytes at X
+-- t and h are the same instruction, and w and j are loads of equally many bytes at X
 abbrev pub loads_alike : Insn → Insn → Insn → Insn → Bool
 loads_alike t h w j =
     (t.code == h.code && t.k == h.k) && (is_indirect (operation_of w.code) && w.code == j.code)
 
--- the new code has a header's length and a load at X for i, which is a number, the header's length,
--- their sum, its copy to X, and a load at X; X isn't read after them
+-- the new code loads a header's length and then at X, in place of i, which puts a number into A,
+-- the load of the header's length, their sum, its copy to X, and a load at X; X isn't read after
+-- them
 unfoldable pub header_load : List Insn → Landing → Insn → List Insn → List Landing → Bool
 header_load (h ∷ j ∷ js) l i (t ∷ u ∷ v ∷ w ∷ is) ls =
     adds_header i t u v && (loads_alike t h w j

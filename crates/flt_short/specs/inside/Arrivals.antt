@@ -20,8 +20,8 @@ abbrev pub first_at : List Arrival → ℕ → ℕ
 first_at [] place = 0
 first_at (a ∷ seen) place = if a.place == place then 0 else suc (first_at seen place)
 
--- the index of the first entry for a place before this one, which is free, or their number if there
--- is none
+-- the index of the first entry that is free, being for a place before this one, or the number of
+-- entries if none is
 abbrev pub first_free : List Arrival → ℕ → ℕ
 first_free [] from = 0
 first_free (a ∷ seen) from = if nat_lt a.place from then 0 else suc (first_free seen from)
@@ -60,7 +60,8 @@ arrived seen from place k =
     else (if nat_lt place seen.unknown_end then seen
     else arrived_first seen (first_free seen.kept from) place k)
 
--- a run reaches a place where it ends: a place that isn't kept is, with nothing known
+-- a run reaches a place where it ends: one that is kept stays as it is, and another one is noted
+-- with nothing known
 abbrev pub ended : Arrivals → ℕ → ℕ → Arrivals
 ended seen from place =
     if nat_lt (first_at seen.kept place) (length seen.kept) then seen

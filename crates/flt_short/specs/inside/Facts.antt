@@ -1,5 +1,6 @@
--- What is known of a packet, and of A and X, where a run reaches an instruction. `code` and `k` are
--- those of a load: together they say which bytes of the packet it takes. `i` is an instruction.
+-- What is known of a packet, and of A and X, where a run reaches an instruction. `code` and `k`
+-- together are those of a load: they say which bytes of the packet it takes. Elsewhere `k` is what
+-- is known at a place. `i` is an instruction.
 use Rattle.std.specs.Prelude.{ℕ, suc, ◌==◌, not, Bool, true, false, if◌then◌else◌, ◌&&◌, ◌||◌, List, [], ◌∷◌, length, map, replicate, Option, Some, None, slice_set}
 use Rattle.flt_bpf.specs.declared.insn.Insn.{Insn}
 use Rattle.flt_bpf.specs.declared.operation.Operation.{Operation}
@@ -42,12 +43,12 @@ same_optional _ _ = false
 abbrev pub same_field : Field → Field → Bool
 same_field f g = (f.code == g.code && f.k == g.k) && same_optional f.mask g.mask
 
--- a claim is none
+-- a claim is that of nothing
 abbrev pub claims_nothing : Claim → Bool
 claims_nothing Nothing = true
 claims_nothing _ = false
 
--- a number may be what is claimed
+-- a claim holds of a number
 abbrev pub allows : Claim → ℕ → Bool
 allows Nothing n = true
 allows (Is a) n = n == a
@@ -70,7 +71,7 @@ entails_some (IsOneOf a b) d = allows d a && allows d b
 abbrev pub entails : Claim → Claim → Bool
 entails c d = claims_nothing d || entails_some c d
 
--- of two claims each of one number: that it is one of the two
+-- what holds if a number is a, or if it is b: it is one of the two; of other claims nothing
 abbrev pub one_of_two : Claim → Claim → Claim
 one_of_two (Is a) (Is b) = IsOneOf a b
 one_of_two _ _ = Nothing
@@ -93,8 +94,8 @@ joined_with_any x (y ∷ ys) =
 abbrev pub joined_fact : Fact → List Fact → Fact
 joined_fact x ys = if claims_nothing x.claim then x else joined_with_any x ys
 
--- what A holds at a place to which runs come on two ways: what it holds on both, if that is the
--- same
+-- what A holds at a place to which two ways lead: what it holds on both, if that is the same, or on
+-- one of them, if no run comes on the other
 abbrev pub joined_held : Held → Held → Held
 joined_held held.Unreached other = other
 joined_held h held.Unreached = h
@@ -117,8 +118,8 @@ joined_by h k came = record {
   facts = map (λ x. joined_fact x came.facts) k.facts;
 }
 
--- what is known at a place once one more run comes there, of which `came` is known: what both have,
--- or all of `came` where no run came before
+-- what is known at a place once one more run comes there, of which `came` is known: what holds of
+-- all these runs, or all of `came` where no run came before
 abbrev pub joined : Known → Known → Known
 joined k came = joined_by k.held k came
 
@@ -186,16 +187,16 @@ holds_field _ code k = false
 abbrev pub is_captured : Known → ℕ → ℕ → Bool
 is_captured known code k = holds_field known.held code k || any_captures known.facts code k
 
--- a field, which has this mask, with another one: none, if it has one already
+-- a field, which has this mask or none, with one more mask: no field, if it has one already
 abbrev pub masked_by : Option ℕ → Field → ℕ → Option Field
 masked_by None f m = Some (record f { mask = Some m })
 masked_by (Some old) f m = None
 
--- a field with a mask: none, if it has one already
+-- a field with one more mask: no field, if it has one already
 abbrev pub masked_field : Field → ℕ → Option Field
 masked_field f m = masked_by f.mask f m
 
--- A holds a field, if there is one
+-- what A holds: this field, if there is one, and else anything
 abbrev pub held_if_some : Option Field → Held
 held_if_some None = held.Unknown
 held_if_some (Some f) = held.Field f
@@ -205,7 +206,8 @@ abbrev pub masked_held : Held → ℕ → Held
 masked_held (held.Field f) m = held_if_some (masked_field f m)
 masked_held _ m = held.Unknown
 
--- what is known of A once X is another number: what it said of a load at X is no longer known
+-- what is known of A once X is another number: no longer that it is what a load at X would put
+-- there
 abbrev pub held_without_index : Held → Held
 held_without_index (held.AtIndex code k) = held.Unknown
 held_without_index h = h
@@ -238,8 +240,8 @@ known_after op k i = record {
   facts = k.facts;
 }
 
--- what the outcome of the test whether a number is n lets claim of it, where it may be known to be
--- one of two
+-- what may be claimed of a number by the outcome of the test whether it is n; `two` are the numbers
+-- of which it was known to be one, if it was
 abbrev pub claim_after : Bool → ℕ → Option (ℕ × ℕ) → Claim
 claim_after true n two = Is n
 claim_after false n None = IsNot n
@@ -250,8 +252,8 @@ claim_after false n (Some two) =
 abbrev pub known_by : Known → Field → ℕ → Bool → Known
 known_by k f n outcome = with_fact k f (claim_after outcome n (two_numbers_of k.facts f))
 
--- what is known once a test of k had an outcome, where A held h: more only after a test for
--- equality of a field
+-- what is known once a test with the number n had an outcome, where A held h and k was known: more
+-- only after a test for equality of a field
 abbrev pub known_by_test : Option Operation → Held → Known → ℕ → Bool → Known
 known_by_test (Some (JumpIf Equal Constant)) (held.Field f) k n outcome = known_by k f n outcome
 known_by_test _ h k n outcome = k

@@ -21,8 +21,8 @@ use Rattle.flt_short.specs.declared.arrivals.Arrivals.{Arrivals}
 use Rattle.flt_short.specs.inside.Facts.{same_field, decided, two_numbers_of, with_fact, is_captured, masked_field, known_after, known_by_test}
 use Rattle.flt_short.specs.inside.Arrivals.{at_start, known_at, arrived, ended}
 
--- the field that A would hold where a walk is, if it would hold one: another one than where the
--- walk began, or what A holds there
+-- the field that A would hold where a walk is, if it would hold one: the other one of the spot, if
+-- there is one, or else what A holds where the walk began
 abbrev pub field_at : Held → Option Field → Option Field
 field_at h (Some f) = Some f
 field_at (held.Field f) None = Some f
@@ -100,7 +100,7 @@ ignores_accumulator (Some ReturnConstant) = true
 ignores_accumulator (Some CopyToAccumulator) = true
 ignores_accumulator _ = false
 
--- the instruction, if there is one, does
+-- the instruction is there, and puts something into A, or ends the run, without reading A
 abbrev pub ignores_accumulator_if_there : Option Insn → Bool
 ignores_accumulator_if_there None = false
 ignores_accumulator_if_there (Some i) = ignores_accumulator (operation_of i.code)
@@ -154,7 +154,7 @@ FUEL = 128
 abbrev pub walk_from : Known → List Insn → ℕ → Reached
 walk_from k c from = walk FUEL k c (record { spot = spot_at from None; best = from })
 
--- a field with two numbers, if there are these
+-- a field with the two numbers, if there are two
 abbrev pub two_of : Field → Option (ℕ × ℕ) → Option (Field × ℕ × ℕ)
 two_of f None = None
 two_of f (Some two) = Some (f, two.0, two.1)
@@ -184,11 +184,12 @@ abbrev pub two_numbers_at : Known → List Insn → Spot → Option (Field × �
 two_numbers_at k c s =
     if tests_at c s.place then two_at_field k (field_at k.held s.other) else None
 
--- the place where two walks end, if it is one, else another one
+-- the place that two walks reach, if both reach the same, or else the place `best`
 abbrev pub agreed : ℕ → ℕ → ℕ → ℕ
 agreed first second best = if first == second then first else best
 
--- where a run may go on in place of a place, if a field may be one of two numbers
+-- where a run may go on in place of the place `from`: at `best`, or where the walks with either of
+-- the two numbers that a field may be agree
 abbrev pub target_by : Option (Field × ℕ × ℕ) → Known → List Insn → ℕ → ℕ → ℕ
 target_by None k c from best = best
 target_by (Some two) k c from best =
@@ -220,7 +221,8 @@ abbrev pub threaded_by : Option Operation → Known → Insn → List Insn → I
 threaded_by (Some (JumpIf test operand)) k i c = threaded_test (Some (JumpIf test operand)) k i c
 threaded_by _ k i c = i
 
--- an instruction whose targets are so, if a run comes there, by what A holds
+-- an instruction whose targets are as far as what is known decides; what A holds says whether a run
+-- comes there, and if none does, the instruction is unchanged
 abbrev pub threaded_if : Held → Option Operation → Known → Insn → List Insn → Insn
 threaded_if held.Unreached op k i c = i
 threaded_if h op k i c = threaded_by op k i c
@@ -229,22 +231,22 @@ threaded_if h op k i c = threaded_by op k i c
 abbrev pub threaded_insn : Option Operation → Known → Insn → List Insn → Insn
 threaded_insn op k i c = threaded_if k.held op k i c
 
--- an operation ends the run by returning a number
+-- an operation ends the run by returning its constant
 abbrev pub ends : Option Operation → Bool
 ends (Some ReturnConstant) = true
 ends _ = false
 
--- the instruction, if there is one, ends the run by returning a number
+-- the instruction is there, and ends the run by returning its constant
 abbrev pub ends_if_there : Option Insn → Bool
 ends_if_there None = false
 ends_if_there (Some i) = ends (operation_of i.code)
 
--- a run ends at a place, by returning a number
+-- a run ends at a place by returning a constant
 abbrev pub ends_at : List Insn → ℕ → Bool
 ends_at c place = ends_if_there (slice_get c place)
 
--- what is noted once a run goes on with this known after some instructions of the code, which
--- begins at the place `from` of the whole code
+-- what is noted once a run skips some instructions of the code, which begins at the place `from` of
+-- the whole code, and goes on with this known
 abbrev pub came : ℕ → ℕ → Known → List Insn → Arrivals → Arrivals
 came from skipped k c seen =
     if ends_at c skipped then ended seen from (from + skipped)
@@ -265,7 +267,8 @@ with_arrivals_by from (Some ReturnConstant) k i c seen = seen
 with_arrivals_by from (Some ReturnAccumulator) k i c seen = seen
 with_arrivals_by from op k i c seen = arrived seen from from (known_after op k i)
 
--- what is noted once runs go on after an instruction, if a run comes there, by what A holds
+-- what is noted once runs go on after an instruction; what A holds says whether a run comes there,
+-- and if none does, nothing is added
 abbrev pub with_arrivals_if : Held → ℕ → Option Operation → Known → Insn → List Insn → Arrivals → Arrivals
 with_arrivals_if held.Unreached from op k i c seen = seen
 with_arrivals_if h from op k i c seen = with_arrivals_by from op k i c seen
