@@ -1,4 +1,5 @@
-//! The code of the question whether a field is one of some numbers.
+//! The code of the question whether a field is one of some numbers. Numbers without one of them are
+//! two slices, in front of it and after it, so that none is copied.
 
 ghost use Rattle.std.specs.Prelude.{◌≡◌, ◌≤◌, ◌<◌, ◌+◌, ◌++◌, length, take, drop, get_or};
 ghost use Rattle.flt_emit.specs.Formula.{whole_field, without, remaining};

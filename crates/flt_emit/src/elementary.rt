@@ -1,4 +1,5 @@
-//! The tests that primitives are made of: each looks at one field of a packet.
+//! The tests that primitives are made of, as data: each looks at one field of a packet, or the link
+//! type alone decides it. `table.rt` has them for each link, `emit.rt` their code.
 
 use flt_bpf::operation::Width;
 use flt_words::Comparison;

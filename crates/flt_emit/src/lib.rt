@@ -1,5 +1,8 @@
 //! Code for the packet-filter machine, written from its last instruction on: tests of fields, whose
 //! targets may be at any distance.
+//!
+//! `elementary` has the tests as data, `table` those of each link, `code` the code that grows,
+//! `emit` the code of a test, and `among` that of a search.
 #![tactic(auto)]
 
 mod among;

@@ -6,6 +6,7 @@
 //! - `steps` has a primitive's formula as tests and operators. `protocol`, `address` and `port` put
 //!   the rows of the table of primitives (`specs/Primitives.antt`) into steps; `group` puts hosts
 //!   or ports that are looked for together, `value` any other value.
+//! - `stack` is the list in which things wait, and `laws` has laws of the table of primitives.
 #![tactic(auto)]
 
 mod address;

@@ -14,8 +14,7 @@ ghost use Rattle.flt_emit.specs.Formula.{Single, Among, all_of, sides, any_sides
 
 use crate::stack::Stack;
 use flt_ast::Direction;
-use flt_bpf::operation::Width;
-use flt_emit::{Elementary, MaskedField, Offset, Sides, compares_at, whole_field};
+use flt_emit::{Elementary, MaskedField, Sides, compares_at, whole_field};
 use flt_words::{Comparison, Join, Side};
 use std::alloc::{AllocError, Allocator};
 use std::marker::Model;

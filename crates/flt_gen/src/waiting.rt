@@ -71,9 +71,9 @@ fn leave_out<A: Allocator>(
     protocols.push(latest)
 }
 
-/// Puts the protocol of an accessor first. Those that are there are of the accessors on its right:
-/// if one of them has the same protocol, that entry goes, since its tests stand once, where the
-/// leftmost accessor is.
+/// Adds the protocol of an accessor as the latest. Those that are there are of the accessors on its
+/// right: if one of them has the same protocol, that entry goes, since its tests stand once, where
+/// the leftmost accessor is.
 pub fn add_accessor<A: Allocator>(
     protocols: &mut Stack<Protocol, A>,
     protocol: Protocol,

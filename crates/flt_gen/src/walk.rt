@@ -57,7 +57,7 @@ pub struct Walk<A: Allocator> {
     truths: Stack<LeftTruth, A>,
     /// What waits for the number that is next.
     numbers: Stack<Waiting, A>,
-    /// The protocols of the relation's accessors, each once, that of the rightmost one first.
+    /// The protocols of the relation's accessors, each once; that of the leftmost one is the latest.
     accessors: Stack<Protocol, A>,
     /// Hosts or ports that are tested in front of the code, and whose code isn't there yet.
     group: Group<A>,
@@ -325,7 +325,8 @@ impl<A: Allocator + Clone> Walk<A> {
     }
 
     /// Emits the code of the group that waits, if it has members: another operand of an `or` stands
-    /// in front of it.
+    /// in front of it. That waits then, and goes on at the group's code where it doesn't match. An
+    /// `or` that was the last node has its right operand next (`begin_right`).
     fn flush_group(&mut self, link: Link, steps: &mut Steps<A>) -> Result<(), AllocError>
         ensures { OnOk result (self.new ≡ flush_group link self.old) }
     {

@@ -1,7 +1,8 @@
 //! Whether what is known at one place says all that a note claims of another one: terms that have
 //! to be there, facts, and registers. `wanted` is what is claimed. A yes is proved; a no says
 //! nothing. A term *is there* if it has a value on the packet: the bytes that it takes are
-//! captured.
+//! captured. At the end: what holds on both of two ways that meet (`common_both`), which `walk`
+//! asks for.
 //!
 //! In clauses `p` is the captured bytes of a packet, `n` its original length, and `new` and `old`
 //! are the states of the two runs.

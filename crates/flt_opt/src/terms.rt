@@ -209,8 +209,8 @@ pub fn after_new(operation: Operation, k: u32, both: Both) -> Both
     }
 }
 
-/// The term that an operation puts into A or X. Of a load it has a value only where its bytes are
-/// captured, and there the load leads on.
+/// The term that an operation puts into A; that of X for the load of a header's length. Of a load
+/// from the packet it has a value only where its bytes are captured, and there the load leads on.
 pub fn made_term(operation: Operation, k: u32, registers: Registers) -> Term
     ensures { result ≡ made_term operation k registers }
 {
@@ -222,7 +222,7 @@ pub fn made_term(operation: Operation, k: u32, registers: Registers) -> Term
 
 /// Whether an operation is sure to lead to the next instruction and changes no word of memory.
 /// `there` is whether the bytes of the packet that it loads are known to be captured; only loads
-/// depend on it.
+/// depend on it. Of a load of a word of memory it is no: whether there is that word isn't looked at.
 pub fn is_sure(operation: Operation, k: u32, there: bool) -> bool
     ensures { result ≡ is_sure operation k there }
 {

@@ -210,7 +210,9 @@ fn side_leads(
 }
 
 /// Whether both sides of a test of the new run lead to the notes that are named for them. The old
-/// run is at the index `yes` where the test holds, and at `no` where it doesn't.
+/// run is at the index `yes` where the test holds, and at `no` where it doesn't. `both` is what is
+/// known of the registers at the test: the note's, or by `tests_bits` what is left once the old run
+/// is past its mask.
 fn test_leads(
     programs: &Programs,
     note: &Note,

@@ -3,6 +3,7 @@
 //! Instructions are written as assemblers write them: `ld #n` puts n into A, `ld [j]` loads from
 //! byte j, `ldxb 4*([j]&0xf)` puts the length of the IPv4 header at byte j into X, `tax` copies A
 //! to X, `jset k` tests whether A and k have a bit in common.
+//! Nothing here is trusted, so no function has a clause (lib.rt).
 
 use crate::graph::Node;
 use crate::live::{Live, live_at, lives_of_graph};

@@ -1,5 +1,6 @@
 //! How many edges lead to each node of a graph. A node to which one alone leads may be changed for
 //! the runs that come by that edge, since no others reach it.
+//! Nothing here is trusted, so no function has a clause (lib.rt).
 
 use crate::graph::{Flow, Node};
 use std::alloc::{AllocError, Allocator};

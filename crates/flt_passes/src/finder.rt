@@ -3,6 +3,7 @@
 //! each program where both runs may be at a time, with what is known of them there. It is a *draft*
 //! as long as more ways may lead to it: the places of the new program are finished one after the
 //! other, and ways lead only to later ones.
+//! Nothing here is trusted, so no function has a clause (lib.rt).
 
 use crate::graph::place_after;
 use crate::known::{Facts, NO_FACTS, common_facts, facts_after_operation, facts_after_test};

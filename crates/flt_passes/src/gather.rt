@@ -7,6 +7,7 @@
 //!
 //! Tests move only once each field of the chain was loaded, the last one just before: so no field's
 //! first load moves, and where one isn't captured the packet is rejected as it was.
+//! Nothing here is trusted, so no function has a clause (lib.rt).
 
 use crate::edges::{edge_counts, has_one_edge};
 use crate::graph::Node;

@@ -1,6 +1,7 @@
 //! Code as a graph: a node for each instruction that isn't a jump (`ja`), with the nodes where a
 //! run goes on after it. A node is named by its index in a list of all; an edge is one of its `yes`
 //! and `no`. In code, and in a graph that was put in order, a run only goes to later ones.
+//! Nothing here is trusted, so no function has a clause (lib.rt).
 
 use flt_bpf::Wide;
 use flt_bpf::operation::{Operation, Test, decode};

@@ -1,4 +1,5 @@
 //! A search by halves for the range in which A is: tests "at least", which end in tests "equal".
+//! Nothing here is trusted, so no function has a clause (lib.rt).
 
 use crate::graph::Node;
 use crate::ranges::{Range, count_single_numbers};

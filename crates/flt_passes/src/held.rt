@@ -1,5 +1,6 @@
 //! Which load A comes from, where a run reaches a node: the pass `Gather` asks which field a test
 //! compares.
+//! Nothing here is trusted, so no function has a clause (lib.rt).
 
 use crate::graph::{Flow, Node};
 use flt_bpf::operation::Operation;

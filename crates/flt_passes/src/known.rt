@@ -2,6 +2,7 @@
 //! packet. The words are those of `flt_opt`: a *term* says what a register holds (a number, a field
 //! of the packet, a header's length ..), and a *fact* that a term has a value, so that its bytes
 //! are captured, and in which set of numbers that is. A set is a span of a list of pieces (`sets`).
+//! Nothing here is trusted, so no function has a clause (lib.rt).
 
 use crate::graph::Node;
 use crate::live::{Reads, is_of_use};

@@ -1,6 +1,7 @@
 //! What is read from a place on (compilers call it live): registers before something is put into
 //! them, and fields. By it a pass sees whether a register may be changed there, and which knowledge
 //! is of no use any more.
+//! Nothing here is trusted, so no function has a clause (lib.rt).
 
 use crate::graph::{Node, place_after};
 use flt_bpf::operation::{Operation, Source, Width, decode};

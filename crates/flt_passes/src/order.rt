@@ -1,5 +1,6 @@
 //! The nodes of a graph in an order in which all edges lead to later nodes (a topological order):
 //! each pass asks for it, and restores it where it changed the graph.
+//! Nothing here is trusted, so no function has a clause (lib.rt).
 
 use crate::graph::{NOWHERE, Node};
 use std::alloc::{AllocError, Allocator};
@@ -59,7 +60,7 @@ impl<A: Allocator> Search<'_, A> {
     fn search(&mut self, entry: usize) -> Result<(), AllocError> {
         self.work.push(entry)?;
         // Each node is entered once, in one step, which puts two on the stack; and a step takes one
-        // off. So 3 steps for each node and one more are enough.
+        // off. So 3 steps for each node and one more are enough; a few more are no harm.
         let steps = self.nodes.len().saturating_mul(4).saturating_add(1);
         for _ in 0..steps {
             let Some(at) = self.work.last().copied() else {

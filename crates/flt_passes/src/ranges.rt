@@ -1,4 +1,5 @@
 //! Where tests of A lead, as ranges of the numbers of 32 bits that A may be.
+//! Nothing here is trusted, so no function has a clause (lib.rt).
 
 use crate::graph::Node;
 use flt_bpf::operation::Test;

@@ -2,6 +2,7 @@
 //! runs on the same packet reach both (the *new* run and the *old* one). They are those of
 //! `flt_opt::validator`, by the same names: here they find the notes that it then checks. `Both`
 //! has what is known of both runs' registers there.
+//! Nothing here is trusted, so no function has a clause (lib.rt).
 
 use crate::known::loads_from_packet;
 use flt_bpf::operation::{AluOperation, Operand, Operation, Test, decode};

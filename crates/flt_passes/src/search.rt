@@ -2,6 +2,7 @@
 //! tests are a *region*: a first test, its *head*, and those that runs reach from it with nothing
 //! between, each by one edge alone. What leads out of it, for each number that A may be, is found
 //! as ranges of numbers; then other tests that lead out the same are put in its place.
+//! Nothing here is trusted, so no function has a clause (lib.rt).
 
 use crate::edges::{edge_counts, has_one_edge};
 use crate::graph::{NOWHERE, Node};
@@ -11,8 +12,8 @@ use crate::ranges::{Range, count_single_numbers, extend_ranges, side_of_test};
 use flt_bpf::operation::Test;
 use std::alloc::{AllocError, Allocator};
 
-/// The fewest tests of a region that are worth a search; also the fewest numbers that are ranges
-/// alone.
+/// The fewest tests of a region that are worth a search, and the fewest numbers that are ranges
+/// alone: of fewer a chain may be made.
 const LEAST_TESTS: usize = 4;
 
 /// The fewest numbers that are worth a search where they lead to more than two nodes.

@@ -1,6 +1,7 @@
 //! Sets of numbers of 32 bits: those that a term may be. A set is a span of pieces (from a number
 //! to another one) that ascend and don't overlap. All sets are in one list of pieces: a new one is
 //! put at its end, and none is taken out.
+//! Nothing here is trusted, so no function has a clause (lib.rt).
 
 use flt_opt::{Learnt, Piece, Span};
 use std::alloc::{AllocError, Allocator};

@@ -1,5 +1,6 @@
 //! The pass `Share`: one node for those that do the same in several places and lead to the same
 //! nodes. Nodes are taken from the last to the first, so that where they lead is shared already.
+//! Nothing here is trusted, so no function has a clause (lib.rt).
 
 use crate::graph::{NOWHERE, Node};
 use crate::order::{entry_at, order_nodes};

@@ -3,6 +3,7 @@
 //! first test has shown that a packet is TCP, an edge to a second test for that leads on to where
 //! the second one goes. Nodes are taken from the first to the last; a node *waits* from the first
 //! run that is seen to reach it until its turn, when all runs to it have been seen.
+//! Nothing here is trusted, so no function has a clause (lib.rt).
 
 use crate::follow::farthest_node;
 use crate::graph::{Flow, NOWHERE, Node};

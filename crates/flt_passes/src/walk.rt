@@ -1,6 +1,12 @@
-//! The walk of the old run to an instruction that the next one of the new run replaces by a rule,
-//! past instructions whose outcome is known. The new run stays where it is meanwhile. It is the
-//! search for what `flt_opt::walk` then checks.
+//! The walk of the old run to its *goal*: an instruction that the next one of the new run replaces
+//! by a rule. The new run stays where it is meanwhile. It is the search for what `flt_opt::walk`
+//! then checks, and isn't trusted.
+//!
+//! As long as what is known decides, the walk just goes on (`walk_decided`). At a test that isn't
+//! decided a goal is guessed: one way is followed, along sides that a pattern names, to the first
+//! place that may be one (`find_goal`). Then all ways have to lead there (`walk_past_tests`): one
+//! side of each such test is walked to the goal, and the walk goes on along the other. Where they
+//! don't, the next pattern is tried (`walk_to_some_goal`).
 
 use crate::graph::place_after;
 use crate::known::{Facts, common_registers, loads_from_packet};
@@ -16,19 +22,21 @@ use std::alloc::Allocator;
 /// How many instructions one walk passes at most, on all ways together.
 const FUEL: usize = 2048;
 
-/// How deep a walk goes at most into sides of tests that aren't decided: it walks on a side of one
-/// first, on that on a side of a further one, and so on. `flt_opt` goes as deep.
+/// Past how many tests that aren't decided, one on a side of the other, a goal is looked for at
+/// most. `flt_opt` goes as deep.
 const MOST_SPLITS: usize = 12;
 
-/// How deep it goes on the way to a test, which may as well be the new code's own.
+/// The same where the new code's instruction is a test: that may as well be its own, so less is
+/// tried.
 const MOST_SPLITS_TO_TEST: usize = 3;
 
-/// How many instructions are passed at most on the way to a test, once it reaches a test that isn't
-/// decided.
+/// Where the new code's instruction is a test: how many instructions are still passed at most from
+/// the first undecided test of the old code on.
 const FUEL_TO_TEST: usize = 64;
 
-/// On which sides of tests a goal is looked for, one try after the other: the lowest bit is for the
-/// first test, the highest one for the third and all after it. A 1 is the side where a test holds.
+/// The patterns of sides along which `find_goal` guesses a goal, in the order in which they are
+/// tried: the lowest bit is for the first test, the highest one for the third and all after it. A 1
+/// is the side where a test holds.
 const TRIED_SIDES: [u8; 8] = [7, 0, 5, 2, 1, 6, 3, 4];
 
 /// How many bits each of `TRIED_SIDES` has.

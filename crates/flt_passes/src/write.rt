@@ -4,6 +4,7 @@
 //!
 //! A *place* counts the instructions from one to the end, both included, so that it stays the same
 //! while code is put in front. 0 is no place.
+//! Nothing here is trusted, so no function has a clause (lib.rt).
 
 use crate::graph::{Flow, NOWHERE, Node};
 use crate::order::entry_at;

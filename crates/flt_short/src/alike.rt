@@ -2,8 +2,8 @@
 //! `old` is an instruction of the old program, `after` are those after it, `following` the landings
 //! of these, and `new` is the instruction of the new program where that of `old` lands.
 //!
-//! Clauses cite definitions of the same names, which look as the code does; what follows from them
-//! is `Shortens`, the contract of `replaces`.
+//! Clauses cite definitions of the same names (without `is_`), which look as the code does; what
+//! follows from them is `Shortens`, the contract of `replaces`.
 
 ghost use Rattle.std.specs.Prelude.{◌≡◌, ◌≢◌, ◌↔◌, ◌-◌, ◌==◌, ◌&&◌, nat_lt, length, IsTrue, All};
 ghost use Rattle.flt_bpf.specs.Instructions.{operation_of};

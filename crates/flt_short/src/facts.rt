@@ -1,5 +1,6 @@
 //! What is known of a packet, and of A and X, where a run reaches an instruction. Clauses cite
-//! definitions of the same names: the proofs show that what is known by these is so in each run.
+//! definitions of the same names, or of a function that changes what is known, the one that says
+//! what comes of it: the proofs show that what is known by these is so in each run.
 //!
 //! `code` and `k` are those of a load: together they say which bytes of the packet it takes.
 

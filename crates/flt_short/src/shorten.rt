@@ -1,6 +1,7 @@
 //! The same code with fewer instructions: those that no run reaches are left out, a block that
 //! is there already isn't emitted again, and one instruction replaces several that do the same.
-//! `at` is an index of the old code; `place` counts from the end of the new code, 0 is nowhere.
+//! `at` is an index of the old code; `place` counts from the end of the new code, 0 is nowhere. A
+//! *landing* (`alike.rt`) is such a place, and whether A and X are read from there on.
 //!
 //! Nothing here is trusted, so no function but the last two has a clause: `replaces` of `alike.rt`
 //! compares the new code with the old one by the landings that are noted here. Where something is
