@@ -48,4 +48,4 @@ mod write;
 
 pub use best::best_of;
 pub use optimise::{Improved, optimised, optimised_counted};
-pub use pass::{Pass, passed};
+pub use pass::{Pass, code_after_passes};

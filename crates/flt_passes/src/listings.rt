@@ -1,7 +1,7 @@
 //! Tests of what each pass makes of a listing, and of what all of them do.
 
 use crate::optimise::optimised_counted;
-use crate::pass::{Pass, passed};
+use crate::pass::{Pass, code_after_passes};
 use flt_bpf::Wide;
 use std::alloc::{AllocError, Global};
 use std::test::Fail;
@@ -42,7 +42,7 @@ fn rows_of(alloc: Global, code: &[Wide]) -> Result<Vec<Row>, AllocError> {
 /// The rows that a pass makes of others; none if it makes no code.
 fn rows_after_pass(alloc: Global, rows: &[Row], pass: Pass) -> Result<Vec<Row>, AllocError> {
     let code = code_of(alloc, rows)?;
-    let made = passed(alloc, &code, &[pass])?.unwrap_or(Vec::new(alloc));
+    let made = code_after_passes(alloc, &code, &[pass])?.unwrap_or(Vec::new(alloc));
     rows_of(alloc, &made)
 }
 

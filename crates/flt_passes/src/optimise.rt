@@ -6,7 +6,7 @@ ghost use Rattle.flt_opt.specs.Replaces.{Replaces};
 ghost use Rattle.flt_passes.specs.Improves.{Improves};
 
 use crate::finder::find_notes;
-use crate::pass::{Pass, passed};
+use crate::pass::{Pass, code_after_passes};
 use flt_bpf::Wide;
 use flt_opt::replaces;
 use std::alloc::{AllocError, Allocator};
@@ -79,7 +79,7 @@ fn useful_code<A: Allocator + Clone>(
     code: &[Wide],
     passes: &[Pass],
 ) -> Result<Option<Vec<Wide, A>>, AllocError> {
-    let Some(new) = passed(alloc, code, passes)? else {
+    let Some(new) = code_after_passes(alloc, code, passes)? else {
         return Ok(None);
     };
     let is_useful = new.len() <= code.len() && !is_same_code(&new, code);

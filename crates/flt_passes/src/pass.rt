@@ -1,4 +1,5 @@
-//! The passes by name, and the code that some of them make of other code.
+//! The passes by name, and the code that some of them make of other code. Nothing here is trusted,
+//! so no function has a clause (lib.rt).
 
 use crate::bits::join_instructions;
 use crate::gather::gather_tests;
@@ -49,7 +50,7 @@ fn apply_pass<A: Allocator + Clone>(
 
 /// The code that passes make of some code, one after the other. `None`: an instruction has an
 /// unknown code, or the result would be more than twice as long, or without an instruction.
-pub fn passed<A: Allocator + Clone>(
+pub fn code_after_passes<A: Allocator + Clone>(
     alloc: A,
     code: &[Wide],
     passes: &[Pass],
@@ -60,6 +61,7 @@ pub fn passed<A: Allocator + Clone>(
     for pass in passes {
         nodes = apply_pass(alloc.clone()?, nodes, *pass)?;
     }
+    // Writing a graph may repeat nodes. Whoever takes the code asks whether it is longer.
     let most = code.len().saturating_mul(2);
     write_code(alloc, &nodes, most)
 }
