@@ -2,12 +2,12 @@
 use Rattle.std.specs.Prelude.{Bool, List, [], ◌∷◌, Option, Some, None, Result, Ok, Err, if◌then◌else◌}
 use Rattle.cap_octet.specs.declared.fault.Fault.{Fault}
 
--- the fault of the first row that is not met
+-- the fault of the first row that is not met; None where all are
 abbrev pub first_failing : List (Bool × Fault) → Option Fault
 first_failing [] = None
 first_failing (row ∷ rows) = if row.0 then first_failing rows else Some row.1
 
--- the value, unless a check failed
+-- the value; or the fault of the check that failed, if one did
 abbrev pub checked : {X : Type 0} → Option Fault → X → Result X Fault
 checked None value = Ok value
 checked (Some fault) value = Err fault

@@ -16,8 +16,8 @@ HandsOver given (Ok n) (Err fault) = 2 ^ 63 ≤ given + n
 HandsOver given (Err e) (Ok count) = ⊥
 HandsOver given (Err e) (Err fault) = Unit {0}
 
--- The reader was read once in this call; or not at all, and the bytes are the first of those that
--- its own buffer held. So where the device fails the reader was read.
+-- The reader was read once in this call; or not at all, and the device's buffer is filled with the
+-- first bytes that the reader's own held. So where the device fails the reader was read.
 abbrev pub ReadsOnce : (held : List ℕ) (calls : ℕ) → Result ℕ DeviceFault → (buf' : List ℕ)
     (calls' : ℕ) → Type 0
 ReadsOnce held calls (Ok n) buf' calls' =
@@ -51,8 +51,8 @@ TakesOver buf (Ok n) (Err fault) = (n ≡ 0) × (0 < length buf)
 TakesOver buf (Err e) (Ok count) = ⊥
 TakesOver buf (Err e) (Err fault) = Unit {0}
 
--- Why the writer failed last: as its own error says, or since it took nothing of some bytes. A
--- write that succeeds leaves what was known.
+-- Why the writer failed last: as its own error says, or since it took nothing of some bytes; None
+-- where it hasn't failed yet. A write that succeeds leaves what was known.
 abbrev pub cause_after : Option ErrorKind → Result ℕ Error → Result ℕ DeviceFault → Option ErrorKind
 cause_after cause answer (Ok count) = cause
 cause_after cause (Ok n) (Err fault) = Some WriteZero

@@ -18,7 +18,7 @@ day_number year month day =
     Some (unsigned_abs (days_from_civil (pos year) month day))
     else None
 
--- the day's number, if its year, month and day are numbers, and there is such a day; else None
+-- the day's number, if its year, month and day are numbers, and the day has a number; else None
 abbrev pub day_of_parts : Option ℕ → Option ℕ → Option ℕ → Option ℕ
 day_of_parts year month day =
     option_and_then

@@ -3,14 +3,15 @@ use Rattle.std.specs.Prelude.{ℕ, Bool, List, Option}
 use Rattle.cap_octet.specs.declared.device.Input as input
 use Rattle.cap_octet.specs.declared.device.Output as output
 
--- an input of which nothing is read
+-- an input as it is handed over: the bytes that it has left, how many it gave and how often it
+-- failed, and how many bytes in all it gives at least before it fails (None: it never fails)
 pub record FreshInput : Type 0 where
   pub text : List ℕ
   pub given : ℕ
   pub failures : ℕ
   pub sure : Option ℕ
 
--- what a contract sees of an input
+-- what a contract sees of an input before a call
 abbrev pub fresh_input : {I : Type 0} → input.Ghosts I → I → FreshInput
 fresh_input device i =
     record {
