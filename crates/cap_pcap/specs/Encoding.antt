@@ -24,15 +24,15 @@ resolution_of Pcap = Microseconds
 resolution_of NsecPcap = Nanoseconds
 resolution_of Pcapng = Nanoseconds
 
--- the file header: magic number, version 2.4, two reserved numbers, snap length, link type; the snap
--- length is always 262,144, as many bytes as a record may have
+-- the file header, little-endian: magic number, version 2.4, two reserved numbers, snap length,
+-- link type; the snap length is always 262,144, the most captured bytes that a record may have
 abbrev pub file_header : Resolution → ℕ → List ℕ
 file_header resolution link =
     little_bytes 4 (magic resolution) ++ little_bytes 2 2 ++ little_bytes 2 4 ++ little_bytes 4 0
     ++ little_bytes 4 0
     ++ little_bytes 4 most_captured ++ little_bytes 4 link
 
--- what is in front of a packet's data: seconds, the part of a second (cut off to microseconds in
+-- what is in front of a packet's data, little-endian: seconds, the part of a second (cut off to microseconds in
 -- `pcap`), captured length, original length
 abbrev pub record_header : Resolution → Captured → List ℕ
 record_header resolution p =

@@ -16,8 +16,8 @@ abbrev pub magic : Resolution → ℕ
 magic Microseconds = 0xa1b2c3d4
 magic Nanoseconds = 0xa1b23c4d
 
--- the byte order in which the first four bytes read as a magic number, and the resolution which
--- that one tells
+-- the byte order in which the first four bytes read as a magic number, and the resolution that this
+-- number tells; None where they read as one in neither order
 abbrev pub form_in : List ℕ → Option (Order × Resolution)
 form_in text =
     if u32_in Little text 0 == magic Microseconds then Some (Little, Microseconds)

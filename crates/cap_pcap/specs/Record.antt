@@ -26,7 +26,7 @@ abbrev pub nanoseconds_of_part : Resolution → ℕ
 nanoseconds_of_part Microseconds = 1000
 nanoseconds_of_part Nanoseconds = 1
 
--- the captured length that the header says
+-- the captured length that a record's header says
 abbrev pub captured_len : Head → List ℕ → ℕ
 captured_len head text = u32_in head.order text 8
 
@@ -60,7 +60,7 @@ record_time head text =
     u32_in head.order text 0 * NANOS_PER_SECOND
     + u32_in head.order text 4 * nanoseconds_of_part head.resolution
 
--- the original length
+-- the original length that a record's header says
 abbrev pub orig_in : Head → List ℕ → ℕ
 orig_in head text = u32_in head.order text 12
 

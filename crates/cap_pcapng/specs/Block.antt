@@ -40,7 +40,8 @@ body_checks type.SimplePacket order body = (nat_le 4 (length body), BadBody) ∷
 body_checks type.EnhancedPacket order body = (nat_le 20 (length body), BadBody) ∷ []
 body_checks type.Other order body = []
 
--- the checks of a whole block that need no interface, on a text that begins with it
+-- the checks of a whole block, on a text that begins with it, in order: its second total length is
+-- the first, and those of its body; the checks of options and of what was declared aren't here
 abbrev pub block_checks : Frame → List ℕ → List (Bool × Fault)
 block_checks frame text =
     (u32_in frame.order text (frame.length - 4) == frame.length, BadBlockLength)
@@ -54,7 +55,7 @@ size_checks frame text =
 
 -- ---- a packet's data
 
--- the captured length of a simple packet, in an interface of this snap length
+-- the captured length of a simple packet, in an interface of this snap length; 0 is no limit
 abbrev pub simple_captured : (orig snap : ℕ) → ℕ
 simple_captured orig snap = if snap == 0 then orig else min orig snap
 
@@ -64,12 +65,14 @@ data_checks captured rest = (nat_le (padded_length captured) (length rest), BadB
 
 -- ---- the parts
 
--- what a block says. The rest of a packet's body is its padded data, and the options after them.
+-- what a block says. The rest of a packet's body is its padded data, and in an enhanced packet block
+-- the options after them.
 pub data Parts : Type 0 where
   SectionParts : Parts
   InterfaceParts : (link snap : ℕ) → (order : Order) → (options : List ℕ) → Parts
   EnhancedParts : (interface ticks captured orig : ℕ) → (order : Order) → (rest : List ℕ) → Parts
   SimpleParts : (orig : ℕ) → (rest : List ℕ) → Parts
+  -- any other block
   SkippedParts : Parts
 
 -- what the body of a block of this type says
@@ -107,13 +110,13 @@ IsDescribedIfAny block = Unit {0}
 
 -- ---- all checks of a block by itself
 
--- the checks of an interface's options
+-- the checks of an interface's options; none of every other block
 abbrev pub option_checks : Parts → List (Bool × Fault)
 option_checks (InterfaceParts link snap order options) = list_checks [] (options_in order options)
 option_checks parts = []
 
--- The first check that the block fails which a text begins with, after those of its frame. Those
--- that need the interfaces before it are in `Unit`: one of them, of how many there are, comes
+-- The first check that the block fails which a text begins with, after those of its frame; None
+-- where it fails none. Those that need the interfaces before it are in `Unit`: one of them, of how many there are, comes
 -- before those of options.
 abbrev pub block_fault : Frame → List ℕ → Option Fault
 block_fault frame text =

@@ -29,7 +29,8 @@ is_interface parts = false
 abbrev pub section_of : Order → List Described → Section
 section_of order interfaces = record { order = order; interfaces = interfaces }
 
--- what is held of a packet with these data and options, in this byte order
+-- the packet with these data and options, in this byte order, and the interface, time and original
+-- length that its spans tell; None where that interface isn't among these
 abbrev pub held_packet : Order → List Described → PacketSpans → (bytes options : List ℕ)
     → Option Captured
 held_packet order interfaces spans bytes options =
@@ -63,7 +64,8 @@ abbrev pub KnowsIfAny : List Described → Option PacketSpans → Type 0
 KnowsIfAny interfaces None = Unit {0}
 KnowsIfAny interfaces (Some spans) = is_some (slice_get interfaces spans.interface) ≡ true
 
--- a block passed all of its checks, and the table of interfaces is that after it
+-- a block passed all of its checks after those of its frame, and the table of interfaces is that
+-- after it
 pub record Enters (frame : Frame) (interfaces : List Described) (block : List ℕ)
     (spans : Option PacketSpans) (interfaces' : List Described) : Type 0 where
   pub passes : first_failing (block_checks frame block) ≡ None
@@ -74,7 +76,7 @@ pub record Enters (frame : Frame) (interfaces : List Described) (block : List �
   pub fits : FitsIfAny spans frame.length
   pub known : KnowsIfAny interfaces' spans
 
--- where the packet of a block lies, by what the block does
+-- where the packet of a block lies, by what the block does; None where it has none
 abbrev pub packet_in_effect : BlockEffect → Option PacketSpans
 packet_in_effect (effect.Packet spans) = Some spans
 packet_in_effect other = None
@@ -85,12 +87,13 @@ interfaces_after effect.Section interfaces = []
 interfaces_after (effect.Interface i) interfaces = interfaces ++ description_of i ∷ []
 interfaces_after other interfaces = interfaces
 
--- a block passed all of its checks, and does this
+-- a block passed all of its checks after those of its frame, and does this
 abbrev pub HasEffect : Frame → List Described → List ℕ → BlockEffect → Type 0
 HasEffect frame interfaces block does =
     Enters frame interfaces block (packet_in_effect does) (interfaces_after does interfaces)
 
--- the first check that a block fails: of its own, or of those that need the interfaces before it
+-- the first check that a block fails after those of its frame: one of its own, or else one of those
+-- that need the interfaces before it
 abbrev pub IsBlockFault : Frame → List Described → List ℕ → Fault → Type 0
 IsBlockFault frame interfaces block fault =
     (first_failing (block_checks frame block) ≡ Some fault)

@@ -38,11 +38,11 @@ abbrev pub name_text : List ℕ → List ℕ
 name_text [] = []
 name_text (b ∷ bytes) = option_text name_code (b ∷ bytes)
 
--- the resolution of nanoseconds
+-- the option of the resolution: nanoseconds
 abbrev pub resolution_text : List ℕ
 resolution_text = option_text resolution_code (9 ∷ [])
 
--- link type, reserved, snap length, and the options
+-- the body of an interface description block: link type, reserved, snap length, and the options
 abbrev pub interface_body : (link snap : ℕ) → (name : List ℕ) → List ℕ
 interface_body link snap name =
     little_bytes 2 link ++ little_bytes 2 0 ++ little_bytes 4 snap ++ name_text name
@@ -58,12 +58,13 @@ interface_header size link snap =
     little_bytes 4 1 ++ little_bytes 4 size ++ little_bytes 2 link ++ little_bytes 2 0
     ++ little_bytes 4 snap
 
--- a comment and the end of the options; one that is empty isn't written
+-- the option of a comment and the end of the options; neither is written where the comment is empty
 abbrev pub comment_text : List ℕ → List ℕ
 comment_text [] = []
 comment_text (b ∷ bytes) = option_text comment_code (b ∷ bytes) ++ end_text
 
--- interface, time, captured length, original length, the data, and the comment
+-- the body of an enhanced packet block: interface, time, captured length, original length, the data
+-- with its padding, and the comment
 abbrev pub packet_body : (number : ℕ) → Captured → List ℕ
 packet_body number p =
     little_bytes 4 number ++ little_bytes 4 (p.time / 2 ^ 32) ++ little_bytes 4 (p.time % 2 ^ 32)

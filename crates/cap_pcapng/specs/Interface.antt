@@ -39,7 +39,8 @@ pub record FitSection (interfaces : List Described) : Type 0 where
   pub count : length interfaces ≤ most_interfaces
   pub names : All (λ i. length i.name ≤ 255) interfaces
 
--- the interface of this link type and snap length that options describe
+-- the interface of this link type and snap length that options describe; what they don't say is an
+-- empty name, ticks of a microsecond and an offset of 0
 abbrev pub described_by : (link snap : ℕ) → Order → List CodedValue → Described
 described_by link snap order options = record {
   link = link;

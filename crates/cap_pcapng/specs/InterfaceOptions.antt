@@ -41,7 +41,7 @@ first_checks option =
     else (if option.code == offset_code then offset_checks option.value
     else []))
 
--- the value of the first option of a code
+-- the value of the first option of a code; None where there is none
 abbrev pub first_value : ℕ → List CodedValue → Option (List ℕ)
 first_value code [] = None
 first_value code (option ∷ options) =

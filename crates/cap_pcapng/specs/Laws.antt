@@ -29,7 +29,8 @@ written_interface link snap name =
 abbrev pub SectionBack : Type 0
 SectionBack = (before : Option Section) → ReadsAs before section_text (written_section []) []
 
--- an interface that is written gets the next number of its section, where that isn't full
+-- an interface that is written gets the next number of its section, where that isn't full and the
+-- interface's values are in their ranges
 abbrev pub InterfaceBack : Type 0
 InterfaceBack =
     (interfaces : List Described) (link snap : ℕ) (name : List ℕ)
@@ -38,7 +39,8 @@ InterfaceBack =
     → ReadsAs (Some (written_section interfaces)) (interface_text link snap name)
     (written_section (interfaces ++ written_interface link snap name ∷ [])) []
 
--- a packet that is written, of an interface that was written, is the packet of its block
+-- a packet that is written, of an interface that was written, is the packet of its block, where its
+-- values are in their ranges and the block isn't too long
 abbrev pub PacketBack : Type 0
 PacketBack = (interfaces : List Described) (number : ℕ) (p : Captured)
     → slice_get interfaces number ≡ Some (written_interface p.link p.snap p.name)

@@ -31,8 +31,8 @@ ends_at order text = nat_lt (length text) 4 || (u16_in order text 0 == 0)
 abbrev pub fits_at : Order → List ℕ → Bool
 fits_at order text = nat_le (option_size order text) (length text)
 
--- the options of a text, in order, at most a given number of them; one whose value doesn't fit is the
--- last
+-- the options of a text, in order, at most a given number of them; one whose value doesn't fit is a
+-- fault, and the last
 unfoldable pub options_within : ℕ → Order → List ℕ → List (Result CodedValue Fault)
 options_within zero order text = []
 options_within (suc most) order text =

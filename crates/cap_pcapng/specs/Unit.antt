@@ -43,17 +43,17 @@ parts_after before text = parts_in (frame_after before text) text
 
 -- ---- the checks
 
--- the time of these ticks of an interface, if there is one
+-- the time of these ticks of an interface; None where there is no interface, or no such time
 abbrev pub time_of : Option Described → ℕ → Option ℕ
 time_of interface ticks =
     option_and_then (λ (i : Described). representable_time ticks i.units i.offset) interface
 
--- the captured length of a simple packet of an interface
+-- the captured length of a simple packet of an interface; 0 where there is no interface
 abbrev pub captured_of : Option Described → ℕ → ℕ
 captured_of interface orig =
     option_map_or (λ (i : Described). simple_captured orig i.snap) interface 0
 
--- the checks that need the interfaces before the block
+-- the checks that need the interfaces before the block, and those of an interface's options
 abbrev pub checks_among : List Described → Parts → List (Bool × Fault)
 checks_among interfaces (InterfaceParts link snap order options) =
     (nat_lt (length interfaces) most_interfaces, TooManyInterfaces)
@@ -68,7 +68,7 @@ checks_among interfaces (SimpleParts orig rest) =
     ∷ data_checks (captured_of (slice_get interfaces 0) orig) rest
 checks_among interfaces parts = []
 
--- all checks of the block that a text begins with
+-- all checks of the block that a text begins with, in order
 abbrev pub unit_checks : Option Section → List ℕ → List (Bool × Fault)
 unit_checks before text =
     (nat_le 12 (length text), Truncated)

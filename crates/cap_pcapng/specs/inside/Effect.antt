@@ -14,7 +14,7 @@ use Rattle.cap_pcapng.specs.declared.effect.PacketSpans.{PacketSpans}
 use Rattle.cap_pcapng.specs.Effect.{is_interface, held_packet, IsBlockFault}
 
 -- Where the packet of a block of this size lies: its data begin at `start` in the block and are the
--- first bytes of what is left of the body (`rest`); its options are after them.
+-- first bytes of what is left of the body (`rest`), in which its options lie too.
 pub record PacketFound (order : Order) (interfaces : List Described) (parts : Parts)
     (start size : ℕ) (rest : List ℕ) (spans : PacketSpans) : Type 0 where
   pub whole : spans.size ≡ size
@@ -30,14 +30,15 @@ pub record PacketFound (order : Order) (interfaces : List Described) (parts : Pa
   pub options : spans.options.start - spans.bytes.start + spans.options.length ≤ length rest
   pub time : spans.time < 2 ^ 63
 
--- a block that fails no check describes an interface
+-- a block that fails no check after those of its frame describes an interface
 pub record AddsInterface (frame : Frame) (interfaces : List Described)
     (block : List ℕ) : Type 0 where
   pub passes : first_failing (block_checks frame block) ≡ None
   pub among : first_failing (checks_among interfaces (parts_in frame block)) ≡ None
   pub describes : is_interface (parts_in frame block) ≡ true
 
--- the first check that a block fails, or the lack of memory for an interface
+-- the first check that a block fails after those of its frame, or the lack of memory for the
+-- interface that it describes
 abbrev pub IsEntryFault : Frame → List Described → List ℕ → Fault → Type 0
 IsEntryFault frame interfaces block fault =
     IsBlockFault frame interfaces block fault

@@ -29,7 +29,7 @@ pub record Adds (order : Order) (before : FoundOptions) (option : CodedValue)
       ≡ option_or before.offset (option_map (offset_in_value order) (value_for offset_code option))
   pub short : HasShortName before → HasShortName after
 
--- whether an option of this code was found, if it is looked at
+-- whether an option of this code was found; false of a code that isn't looked at
 abbrev pub is_found : FoundOptions → ℕ → Bool
 is_found found code =
     if code == name_code then is_some found.name
