@@ -16,7 +16,7 @@ pub record InputView : Type 0 where
   pub source : SourceView
   -- whether the current packet isn't decided yet
   pub waiting : Bool
-  -- the greatest time of the packets that are decided
+  -- the greatest time of the packets that are decided; 0 of none
   pub greatest : ℕ
 
 -- what a contract sees of the inputs: in which order their packets come, and how far each is
@@ -29,7 +29,7 @@ pub record Future : Type 0 where
   pub items : Items
   pub size : ℕ
 
--- the current packet, if it waits to be decided
+-- the current packet, if it waits to be decided; else none
 abbrev pub waiting_packets : Bool → SourceView → List Placed
 waiting_packets true s = placed_at s.offset (option_to_list s.packet)
 waiting_packets false s = []
@@ -56,8 +56,8 @@ is_open phase = true
 abbrev pub ended_count : List InputView → ℕ
 ended_count cursors = position_or_len (λ (h : InputView). is_open h.source.phase) cursors
 
--- the order of what is left: in turn, of the first input that isn't at its end and of those after
--- it
+-- the order of what is left: in turn, of the first input that isn't at its clean end and of those
+-- after it; by time, of all inputs
 abbrev pub sequence_left : PacketOrder → List InputView → List InputItems → Sequence
 sequence_left InTurn cursors rs =
     sequence_in_turn (ended_count cursors) (drop (ended_count cursors) rs)
@@ -96,7 +96,7 @@ abbrev pub KnowGreatest : List InputPast → List InputView → Type 0
 KnowGreatest (s ∷ ss) (h ∷ hs) = (h.greatest ≡ greatest_of s.packets) × KnowGreatest ss hs
 KnowGreatest ss hs = Unit {0}
 
--- an input at its clean end has no other future than that
+-- the future of an input at its clean end: no packet, and the end
 abbrev pub no_future : SourceView → Future
 no_future s =
     record { items = record { packets = []; declared = s.declared; ending = End }; size = s.offset }
@@ -170,8 +170,8 @@ steps_owed true phase = 2
 steps_owed false Ended = 0
 steps_owed false phase = 1
 
--- Each step makes this less: each byte pays for two, since a packet is read once, and then decided
--- once.
+-- How many steps an input takes at most. Each step makes this less, but one that fails: each byte
+-- pays for two, since a packet is read once, and then decided once.
 abbrev pub input_steps_left : InputView → ℕ
 input_steps_left h =
     2 * (2 ^ 63 - h.source.given) + steps_owed h.waiting h.source.phase
@@ -192,21 +192,21 @@ key_of h = max h.greatest (packet_time h.source.packet)
 
 -- ---- what is next
 
--- whether it is to be read on before any packet is decided by time: it isn't at its clean end, and
--- no packet of it waits
+-- whether an input is to be read on before any packet is decided by time: it isn't at its clean
+-- end, and no packet of it waits
 abbrev pub is_unready : InputView → Bool
 is_unready h = is_open h.source.phase && not h.waiting
 
--- whether its packet waits, and no packet that waits has a lower key
+-- whether an input's packet waits, and no packet that waits has a lower key
 abbrev pub has_least_key : List InputView → InputView → Bool
 has_least_key cursors h =
     h.waiting
     && list_all
     (λ (other : InputView). not other.waiting || nat_le (key_of h) (key_of other)) cursors
 
--- The place of the input that is next, or how many inputs there are where all are at their ends: in
--- turn, the first that isn't at its clean end; by time, the first that is to be read on, or where
--- none is, the first whose packet has the least key.
+-- The place of the input that is next, or how many inputs there are where all are at their clean
+-- ends: in turn, the first that isn't at its clean end; by time, the first that is to be read on,
+-- or where none is, the first whose packet has the least key.
 abbrev pub place_next : PacketOrder → List InputView → ℕ
 place_next InTurn cursors = ended_count cursors
 place_next ByTime cursors =
@@ -214,7 +214,8 @@ place_next ByTime cursors =
     then position_or_len is_unready cursors
     else position_or_len (has_least_key cursors) cursors
 
--- the input that is next is read on, or its packet that waits is decided
+-- the input that is next is read on, or its packet that waits is decided; where there is none, all
+-- are at their clean ends
 abbrev pub next_at : ℕ → Option InputView → Next
 next_at place None = next.Finish
 next_at place (Some h) = if h.waiting then next.Decide place else next.Read place
@@ -240,8 +241,8 @@ abbrev pub offset_at : List InputView → ℕ → ℕ
 offset_at cursors i =
     unwrap_or (option_map (λ (h : InputView). h.source.offset) (slice_get cursors i)) 0
 
--- What no step changes of an input's device: how many bytes it gives at least before it fails, and
--- how many in all.
+-- What no step changes of an input's device: how many bytes it gives at least before it fails
+-- (None: it never fails), and how many in all, if no read fails.
 pub record DeviceLimits : Type 0 where
   pub sure : Option ℕ
   pub in_all : ℕ

@@ -118,8 +118,8 @@ front_of (PcapngFile first section) text =
 
 -- ---- items
 
--- the clean end, or the fault of the first check that fails and the offset of the unit in whose
--- place it stands
+-- the clean end; or a fault and the offset at which the unit would begin that it is in place of: in
+-- `items` the fault of the first check that fails
 pub data Ending : Type 0 where
   End : Ending
   FaultAt : (fault : Fault) → (offset : ℕ) → Ending
@@ -151,14 +151,15 @@ items_with (NoUnit why) declared offset following = no_items declared why offset
 items_with (Whole size packets after) declared offset following =
     after_packets (placed_at offset packets) (following size after)
 
--- from a place on; the number is fuel that isn't used up, since a unit has a byte at least
+-- the items of a text from a place on; the number is fuel, which isn't used up where it is greater
+-- than the length of the text, since a unit has a byte at least
 unfoldable pub items_within : ℕ → Declared → ℕ → List ℕ → Items
 items_within zero declared offset text = no_items declared None offset
 items_within (suc most) declared offset text =
     items_with (front_of declared text) declared offset
     (λ size after. items_within most after (offset + size) (drop size text))
 
--- from a place on
+-- the items of a text from a place on: what is declared there, its offset, and the text
 unfoldable pub items_from : Declared → ℕ → List ℕ → Items
 items_from declared offset text = items_within (length text + 1) declared offset text
 

@@ -7,7 +7,8 @@ use Rattle.cap_io.specs.Capture.{Declared, Nothing, IsUnit, Placed, AreUnits, It
 use Rattle.cap_io.specs.Reading.{FitUnits, TakesMemory, decisive_length}
 use Rattle.cap_io.specs.Source.{SourceView, Reading, Ended, Failed}
 
--- the bytes that were read and aren't decided yet, where the current packet waits
+-- the bytes that were read and aren't decided yet: those of the current unit, where its packet
+-- waits, else none
 abbrev pub pending : Bool → List ℕ → List ℕ
 pending true block = block
 pending false block = []
@@ -34,7 +35,7 @@ pub record IsAt (text done : List ℕ) (packets : List Placed) (waiting : Bool)
   pub whole : text ≡ done ++ (pending waiting s.block ++ s.unread)
   -- what is done is whole units with these packets
   pub units : AreUnits Nothing 0 done packets s.declared
-  -- the source counts the done bytes
+  -- the source counts the done bytes and the pending ones
   pub place : s.offset + length s.block ≡ length (done ++ pending waiting s.block)
   pub waits : waiting ≡ true → HasPacket s
   pub ended : s.phase ≡ Ended → IsOver s

@@ -27,7 +27,8 @@ abbrev pub read_failures : {X : Type 0} → Result X Fault → ℕ
 read_failures (Err ReadFailed) = 1
 read_failures result = 0
 
--- how many bytes are taken at most of a text that begins so: no more than its unit
+-- how many bytes are taken at most of a text that begins so: no more than its unit, or where none
+-- begins, than the longest unit
 abbrev pub most_taken : Front → ℕ
 most_taken (Whole size packets declared) = size
 most_taken (NoUnit why) = most_in_unit

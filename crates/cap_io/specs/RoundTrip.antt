@@ -8,7 +8,7 @@ use Rattle.cap_pcapng.specs.Interface.{most_interfaces}
 use Rattle.cap_io.specs.Capture.{Placed, End, items}
 use Rattle.cap_io.specs.Text.{kept_interfaces, refusal_of, text}
 
--- each field of a packet is in its range
+-- each field of a packet but its bytes, whose number `refusal_of` checks, is in its range
 pub record InRange (p : Captured) : Type 0 where
   pub link : p.link < 2 ^ 16
   pub snap : p.snap < 2 ^ 32
@@ -17,8 +17,8 @@ pub record InRange (p : Captured) : Type 0 where
   pub orig : p.orig < 2 ^ 32
   pub comment : length p.comment ≤ 65535
 
--- what a pcap form tells of each packet beside its time, lengths and bytes: the snap length of the
--- file header, no name, and no comment
+-- what a pcap form tells of each packet beside its link type, time, original length and bytes: the
+-- snap length of the file header, no name, and no comment
 pub record IsPlain (p : Captured) : Type 0 where
   pub snap : p.snap ≡ most_captured
   pub name : p.name ≡ []
@@ -30,13 +30,13 @@ IsLossless Pcap p = IsPlain p × (p.time % 1000 ≡ 0)
 IsLossless NsecPcap p = IsPlain p
 IsLossless Pcapng p = Unit {0}
 
--- a packet that comes after these
+-- a packet that comes after these is carried: in range, kept whole by the format, and not refused
 pub record IsCarried (format : Format) (earlier : List Captured) (p : Captured) : Type 0 where
   pub in_range : InRange p
   pub kept : IsLossless format p
   pub taken : refusal_of format earlier p ≡ None
 
--- as many interfaces as are read of a section
+-- no more interfaces than are read of a section
 abbrev pub HasFewInterfaces : Format → List Captured → Type 0
 HasFewInterfaces Pcap ps = Unit {0}
 HasFewInterfaces NsecPcap ps = Unit {0}
@@ -53,7 +53,7 @@ pub record ReadsBack (text : List ℕ) (ps : List Captured) : Type 0 where
   pub packets : map (λ (q : Placed). q.packet) (items text).packets ≡ ps
   pub ending : (items text).ending ≡ End
 
--- what a format carries reads back
+-- what is written of one packet or more that this format carries reads back as these packets
 abbrev pub Back : Format → Type 0
 Back format =
     (p : Captured) (ps : List Captured) → Carries format (p ∷ ps)

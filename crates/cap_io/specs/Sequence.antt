@@ -46,7 +46,8 @@ whole_input text = record { greatest = 0; items = items text; size = length text
 abbrev pub packet_events : ℕ → List Placed → List Event
 packet_events input ps = map (Packet input) ps
 
--- an input's packets, and the others where it ends cleanly
+-- an input's packets; and where it ends cleanly, its end and what comes of the inputs after it;
+-- else the order ends by its fault
 abbrev pub input_sequence : ℕ → InputItems → Ending → Sequence → Sequence
 input_sequence input r End more =
     with_front
@@ -64,7 +65,7 @@ sequence_in_turn input (r ∷ rs) =
 -- ---- by time
 
 -- A packet of an input, the greatest time in its own input up to and with it, and how the order
--- ends after it: by a fault where it is the last of an input that does.
+-- ends after it: by a fault where it is the last of an input that ends by one, else `Complete`.
 pub record Entry : Type 0 where
   pub key : ℕ
   pub input : ℕ
@@ -76,7 +77,8 @@ abbrev pub end_of : ℕ → Ending → SequenceEnd
 end_of input End = Complete
 end_of input (FaultAt fault offset) = FaultIn input fault offset
 
--- how the order ends after a packet that is followed by these in its input
+-- how the order ends after a packet that is followed by these in its input: `Complete` where there
+-- is one of these
 abbrev pub end_after : ℕ → Ending → List Placed → SequenceEnd
 end_after input ending [] = end_of input ending
 end_after input ending (p ∷ ps) = Complete
@@ -131,14 +133,14 @@ abbrev pub first_end : SequenceEnd → SequenceEnd → SequenceEnd
 first_end Complete later = later
 first_end (FaultIn input fault offset) later = FaultIn input fault offset
 
--- the fault of the first input that ends by one and has no packet
+-- the fault of the first input that ends by one and has no packet; `Complete` where there is none
 abbrev pub fault_without_packets : ℕ → List InputItems → SequenceEnd
 fault_without_packets input [] = Complete
 fault_without_packets input (r ∷ rs) =
     first_end (end_after input r.items.ending r.items.packets) (fault_without_packets (input + 1) rs)
 
 -- Where an input has no packet and ends by a fault, no packet of any input comes; else all packets
--- in the order.
+-- in the order, up to the first that is the last of an input that ends by a fault.
 abbrev pub sequence_by_time : List InputItems → Sequence
 sequence_by_time rs =
     unless_fault (fault_without_packets 0 rs) (sequence_of_entries (sort_entries (all_entries 0 rs)))

@@ -35,17 +35,17 @@ sink_at format written failures room =
       room = room;
     }
 
--- These packets were put, and no other.
+-- What the sink keeps is what it keeps where these packets were put, and no other.
 pub record HasPut (sink : SinkView) (packets : List Captured) : Type 0 where
   pub state : sink.state ≡ state_after packets
   pub interfaces : sink.interfaces ≡ kept_interfaces sink.format packets
 
--- Their text was written after what the output held before.
+-- These packets were put, and their text was written after what the output held before.
 pub record HasPackets (before : List ℕ) (sink : SinkView) (packets : List Captured) : Type 0 where
   pub written : sink.written ≡ before ++ text sink.format packets
   pub put : HasPut sink packets
 
--- why a packet isn't written
+-- why a packet isn't written; None where no check fails
 abbrev pub refusal_in : SinkView → Captured → Option Fault
 refusal_in sink p = first_failing (checks_in sink.format sink.state sink.interfaces p)
 
@@ -88,7 +88,7 @@ pub record AddsPacket (old : SinkView) (p : Captured) (r : Result (Unit {0}) Fau
   pub filled : r ≡ Err WriteFailed → old.room ≤ length new.written
 
 -- what is written where a call ends by a fault: nothing where there was no memory, else a
--- beginning, not the whole
+-- beginning, not the whole, or nothing
 abbrev pub BreaksOff : Fault → List ℕ → List ℕ → List ℕ → Type 0
 BreaksOff NoMemory bytes written written' = written' ≡ written
 BreaksOff fault bytes written written' = Stops written bytes written'

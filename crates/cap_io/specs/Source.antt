@@ -64,7 +64,7 @@ abbrev pub block_at : Stage → PacketSpans → List ℕ → List ℕ
 block_at stage.Current spans buffer = take spans.size buffer
 block_at other spans buffer = []
 
--- the current packet
+-- the current packet; None where none is current
 abbrev pub packet_at : Stage → PacketSpans → Declared → List ℕ → Option Captured
 packet_at stage.Current spans declared buffer =
     packet_in_unit declared spans (take spans.size buffer)
@@ -114,8 +114,8 @@ pub record FindsEnd (old new : SourceView) : Type 0 where
   pub packet : new.packet ≡ None
   pub phase : new.phase ≡ Ended
 
--- Units without packets were skipped, and then this fault was met: no unit is current. Why, when
--- memory may run out, and how many bytes were taken.
+-- Units without packets were skipped, and then this fault was met: no unit is current. The fields
+-- say why, when memory may run out, and how many bytes were taken.
 pub record IsBroken (old new : SourceView) (fault : Fault) : Type 0 where
   pub rest : List ℕ
   pub passes : SkipsUnits old new rest

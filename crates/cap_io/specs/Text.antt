@@ -54,7 +54,7 @@ pub record FitFile (interfaces : List Interface) : Type 0 where
 
 -- ---- texts
 
--- what a file begins with: a file header with this link type, or a section
+-- what a file begins with: a file header with this link type, or a section header
 abbrev pub file_start : Format → ℕ → List ℕ
 file_start Pcap link = pcap.file_header Microseconds link
 file_start NsecPcap link = pcap.file_header Nanoseconds link
@@ -66,7 +66,7 @@ record_text resolution p = pcap.record_header resolution p ++ p.bytes
 
 -- ---- one packet more, by what a file keeps of those before it
 
--- the state after one packet more
+-- the state after one packet more; that of a sink that failed stays
 abbrev pub state_after_packet : SinkState → Captured → SinkState
 state_after_packet Empty p = Started p.link
 state_after_packet state p = state
@@ -123,7 +123,7 @@ state_after (p ∷ ps) = Started p.link
 abbrev pub kept_interfaces : Format → List Captured → List Interface
 kept_interfaces format packets = fold (interfaces_after_packet format) [] packets
 
--- why a packet that comes after these isn't written
+-- why a packet that comes after these isn't written; None where no check fails
 abbrev pub refusal_of : Format → List Captured → Captured → Option Fault
 refusal_of format earlier p =
     first_failing (checks_in format (state_after earlier) (kept_interfaces format earlier) p)
@@ -144,6 +144,7 @@ packets_text format earlier [] = []
 packets_text format earlier (p ∷ ps) =
     added_text format earlier p ++ packets_text format (earlier ++ p ∷ []) ps
 
--- the text of a file: where there are no packets, nothing is written
+-- the text of a file with these packets; of none it is empty, without the header that a finish
+-- writes then
 abbrev pub text : Format → List Captured → List ℕ
 text format packets = packets_text format [] packets

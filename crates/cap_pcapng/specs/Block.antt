@@ -65,8 +65,8 @@ data_checks captured rest = (nat_le (padded_length captured) (length rest), BadB
 
 -- ---- the parts
 
--- what a block says. The rest of a packet's body is its padded data, and in an enhanced packet block
--- the options after them.
+-- what a block says. The rest of a packet's body is its padded data, and in an enhanced packet
+-- block the options after them.
 pub data Parts : Type 0 where
   SectionParts : Parts
   InterfaceParts : (link snap : ℕ) → (order : Order) → (options : List ℕ) → Parts

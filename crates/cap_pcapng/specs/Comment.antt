@@ -9,8 +9,8 @@ abbrev pub comment_code : ℕ
 comment_code = 1
 
 -- The comment in a packet's options: the value of the first option of its code, or empty. The
--- options end at code 0, at the end of their bytes and at a value that doesn't fit, none of which is
--- a fault.
+-- options end at code 0, at the end of their bytes and at a value that doesn't fit, none of which
+-- is a fault.
 abbrev pub comment_in : Order → List ℕ → List ℕ
 comment_in order options =
     unwrap_or (first_value comment_code (fitting_options (options_in order options))) []

@@ -79,7 +79,7 @@ header_end V6 l p = addresses_end V6 l
 abbrev pub has_ports : ℕ → Bool
 has_ports n = (n == IPPROTO_TCP) || (n == IPPROTO_UDP)
 
--- the two ports from a place, where they are captured
+-- the two ports from a place, if this protocol has some and they are captured; else None
 abbrev pub ports_at : ℕ → ℕ → List ℕ → Option (ℕ × ℕ)
 ports_at n at p =
     if has_ports n

@@ -35,7 +35,7 @@ abbrev pub schedule_after_decided : Schedule → ℕ → Schedule
 schedule_after_decided (Turn turn) i = Turn turn
 schedule_after_decided (Merge next last) i = Merge i (i + 1)
 
--- the first n inputs are at their clean ends, and the others aren't
+-- the first `turn` inputs, or all of fewer, are at their clean ends, and the others aren't
 abbrev pub IsTurnOf : ℕ → List InputView → Type 0
 IsTurnOf turn [] = Unit {0}
 IsTurnOf zero (h ∷ hs) = NoneEnded (h ∷ hs)
@@ -87,7 +87,7 @@ is_merge (Merge next last) = true
 abbrev pub HasPlaceFor : Queue → ℕ → Type 0
 HasPlaceFor q input = (length q.waiting < q.room) × All (λ w. w.input ≢ input) q.waiting
 
--- an entry was added to the others (true), or nothing changed (false)
+-- an entry was added to the others, and there is no less room (true); or nothing changed (false)
 abbrev pub EntersQueue : Bool → Waiting → Queue → Queue → Type 0
 EntersQueue true entry old new =
     IsPermutation (entry ∷ old.waiting) new.waiting × (old.room ≤ new.room)
@@ -124,7 +124,7 @@ pub record IsReadOn (cursors : List InputView) (next last i : ℕ) : Type 0 wher
   pub among : IsInput cursors i cursor
 
 -- what is next of a merge: an input is read on, where some are to be; else the packet with the
--- least key is decided
+-- least key is decided, where one waits; else nothing is
 abbrev pub IsNextOfMerge : List InputView → ℕ → ℕ → Next → Type 0
 IsNextOfMerge cursors first last (next.Read i) = IsReadOn cursors first last i
 IsNextOfMerge cursors first last (next.Decide i) =

@@ -13,7 +13,7 @@ abbrev pub is_in_turn : PacketOrder → Bool
 is_in_turn InTurn = true
 is_in_turn ByTime = false
 
--- what its device has left
+-- what comes after a source's current packet, by what its device has left
 abbrev pub actual_future : SourceView → Future
 actual_future s = record {
   items = items_from s.declared (s.offset + length s.block) s.unread;
@@ -106,7 +106,8 @@ pub record IsFirstUnready (cursors : List InputView) (i : ℕ) : Type 0 where
   pub unended : IsOpen cursor
   pub front : AllReady among.front
 
--- by time, every input is read on to its next packet first; then that with the least key is decided
+-- by time, every input is read on to its next packet or its clean end first; then the packet with
+-- the least key is decided
 abbrev pub IsNextByTime : List InputView → Next → Type 0
 IsNextByTime cursors (next.Read i) = IsFirstUnready cursors i
 IsNextByTime cursors (next.Decide i) = AllReady cursors × IsLeast cursors i
@@ -127,7 +128,7 @@ IsNext inputs r = IsNextIn inputs.order inputs.cursors r
 abbrev pub owed_by : InputView → ℕ
 owed_by h = steps_owed h.waiting h.source.phase
 
--- how many steps there are at most
+-- how many steps are left at most
 abbrev pub steps_left : InputsView → ℕ
 steps_left f = steps_left_in f.cursors
 

@@ -11,11 +11,11 @@ Precedes a b = (a.time < b.time) ⊎ ((a.time ≡ b.time) × (a.input < b.input)
 abbrev pub NotAfter : Waiting → Waiting → Type 0
 NotAfter a b = (a.time < b.time) ⊎ ((a.time ≡ b.time) × (a.input ≤ b.input))
 
--- whether an input waits with this time
+-- whether this input waits with this time
 abbrev pub is_entered : List Waiting → ℕ → ℕ → Bool
 is_entered ws time input = list_any (λ w. (w.time == time) && (w.input == input)) ws
 
--- this one waits, and no other comes before it
+-- this entry waits, and no other comes before it
 abbrev pub IsFirstWaiting : Waiting → List Waiting → Type 0
 IsFirstWaiting w ws = IsTrue (is_entered ws w.time w.input) × All (NotAfter w) ws
 

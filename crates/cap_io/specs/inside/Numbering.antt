@@ -12,7 +12,8 @@ pub record HasNumber (old : List Interface) (i : Interface) (given : InterfaceNu
   pub is_new : given.is_new ≡ not (is_among old i)
   pub interfaces : new ≡ old ++ new_among old i
 
--- the interface that has this number is the first of its like, and so its number is this one
+-- the interface with this index, if there is one, is the first of its like, and so its number is
+-- this one
 abbrev pub IsFirst : ℕ → List Interface → Type 0
 IsFirst number interfaces =
     (i : Interface) → slice_get interfaces number ≡ Some i → number_among interfaces i ≡ number

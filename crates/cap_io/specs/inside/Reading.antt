@@ -86,7 +86,7 @@ known_first_link (state.Pcap head) = Some head.link
 known_first_link (state.Pcapng order first) = first
 
 -- Before anything is read there is no interface. A section has no more than may be, and the first
--- link type of a file is known once its section has one.
+-- link type of a file is known once its section has an interface.
 abbrev pub IsConsistent : FileState → List Described → Type 0
 IsConsistent state.Unknown interfaces = interfaces ≡ []
 IsConsistent (state.Pcap head) interfaces = Unit {0}
@@ -116,7 +116,7 @@ HasInterfaceIfAny declared spans (next_unit.Other size) = Unit {0}
 HasInterfaceIfAny declared spans next_unit.Packet = HasInterface declared spans
 HasInterfaceIfAny declared spans next_unit.End = Unit {0}
 
--- where the packet of a record lies
+-- where the packet of a record lies, which has no options
 abbrev pub record_spans : RecordHead → PacketSpans
 record_spans found = record {
   size = 16 + found.captured;
@@ -168,7 +168,7 @@ pub record PacketCame (declared : Declared) (unread buffer : List ℕ) (spans : 
   pub same : declared' ≡ declared
   pub splits : unread ≡ take spans.size buffer ++ unread'
 
--- nothing is left after a unit
+-- nothing is left where a unit could begin: the clean end
 pub record EndCame (declared : Declared) (unread : List ℕ) (declared' : Declared)
     (unread' : List ℕ) : Type 0 where
   pub ends : front_of declared [] ≡ NoUnit None
@@ -187,7 +187,7 @@ UnitCame declared unread buffer spans next_unit.Packet declared' unread' =
 UnitCame declared unread buffer spans next_unit.End declared' unread' =
     EndCame declared unread declared' unread'
 
--- how many bytes the unit that came has
+-- how many bytes the unit that came has; 0 at the end
 abbrev pub unit_size : PacketSpans → NextUnit → ℕ
 unit_size spans (next_unit.Other size) = size
 unit_size spans next_unit.Packet = spans.size

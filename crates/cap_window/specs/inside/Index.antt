@@ -7,7 +7,8 @@ use Rattle.cap_window.specs.Marks.{is_same_mark}
 use Rattle.cap_window.specs.declared.links.Links.{Links}
 use Rattle.cap_window.specs.declared.mark.Mark.{Mark}
 
--- the bit of a mark at a depth: of its digest, from the last byte on, and then of its length
+-- the bit of a mark at a depth: of its digest, from its last byte to its first, and then of its
+-- length; in each byte and in the length from the lowest bit on
 unfoldable pub mark_bit : Mark → ℕ → Bool
 mark_bit m depth =
     if nat_lt depth 128 then slice_index m.digest (15 - depth / 8) / 2 ^ (depth % 8) % 2 == 1
@@ -18,7 +19,7 @@ abbrev pub link_by_bit : Links → Bool → ℕ
 link_by_bit links true = links.ones
 link_by_bit links false = links.zeros
 
--- the marks of a class that have this bit
+-- the marks of a class that have this bit at a depth
 abbrev pub marks_with_bit : (Mark → Bool) → ℕ → Bool → Mark → Bool
 marks_with_bit class depth true m = class m && mark_bit m depth
 marks_with_bit class depth false m = class m && not (mark_bit m depth)
@@ -46,9 +47,9 @@ HasNoMark marks class wanted low limit =
     → IsTrue (wanted (mark_at marks j)) → ⊥
 
 -- A tree has the marks below `limit` that belong to a class and are wanted. Its top is d places
--- below `limit`, is the newest of them and may be one that isn't wanted. The others hang below it
--- by one bit of theirs; those equal to the top are left out. There are none where d is above
--- `limit`.
+-- below `limit` and belongs to the class: none of them is newer, but it may be one that isn't
+-- wanted. The others hang below it by one bit of theirs; those equal to the top are left out. There
+-- are none where d is above `limit`.
 pub data IsMarkTree (marks : List Mark) (links : List Links) : (class wanted : Mark → Bool)
     → (depth limit d : ℕ) → Type 0 where
   Empty : (class wanted : Mark → Bool) (depth limit d : ℕ) → limit < d
@@ -62,7 +63,8 @@ pub data IsMarkTree (marks : List Mark) (links : List Links) : (class wanted : M
       (depth + 1) top (link_by_bit (links_at links top) bit))
       → IsMarkTree marks links class wanted depth limit d
 
--- below a mark hang those of the class that come before it and are wanted
+-- below a mark hang those of the class that come before it and are wanted, but for those equal to
+-- it
 abbrev pub IsOnTop : List Mark → List Links → (class wanted : Mark → Bool) → (depth place : ℕ)
     → Type 0
 IsOnTop marks links class wanted depth place =
@@ -70,14 +72,15 @@ IsOnTop marks links class wanted depth place =
     → IsMarkTree marks links (marks_with_bit class depth bit) (but wanted (mark_at marks place))
     (depth + 1) place (link_by_bit (links_at links place) bit)
 
--- a mark of a class, and the tree of those of its class that come before it
+-- a mark of a class, and the tree of those of its class that come before it, but for those equal to
+-- it
 pub record IsHung (marks : List Mark) (links : List Links) (class : Mark → Bool)
     (place d : ℕ) : Type 0 where
   pub belongs : IsTrue (class (mark_at marks place))
   pub tree : IsMarkTree marks links class (but every (mark_at marks place)) 0 place d
 
--- the mark at this place was put on top of all others of its class, and the links of marks of other
--- classes didn't change
+-- the mark at this place was put on top of all of its class before it, and the links of marks that
+-- aren't of the class didn't change
 pub record IsPutOnTop (marks : List Mark) (old new : List Links) (class : Mark → Bool)
     (place : ℕ) : Type 0 where
   pub below : IsOnTop marks new class every 0 place
