@@ -52,8 +52,9 @@ stated_length (PcapFile head) text =
     length_by_header 16 text (field_checks head text) (record_size head text)
 stated_length (PcapngFile first section) text = block_length (Some section) text
 
--- How many bytes are a unit's header: the first 12 of a block, those in front of a record's data, all
--- of the file header of pcap. Where a file begins with no header, its first four bytes tell that.
+-- How many bytes are a unit's header: the first 12 of a block, those in front of a record's data,
+-- all of the file header of pcap. Where a file begins with no header, its first four bytes tell
+-- that.
 abbrev pub unit_header_length : Declared → List ℕ → ℕ
 unit_header_length Nothing text =
     if is_pcapng text then 12 else (if is_some (form_in text) then 24 else 4)

@@ -4,7 +4,7 @@ use Rattle.std.specs.Prelude.{◌≡◌, ℕ, ◌≤◌, Some}
 use Rattle.cap_octet.specs.Calendar.{ymd, day_from_epoch}
 use Rattle.cap_octet.specs.Timestamp.{day_number}
 
--- the day that comes n days after 1970-01-01 has the number n, for n up to 200,000 (the year 2517)
+-- the day that comes n days after 1970-01-01 has the number n, for n up to 200,000
 abbrev pub DayHasItsNumber : Type 0
 DayHasItsNumber =
     (n : ℕ) → n ≤ 200_000

@@ -34,8 +34,8 @@ output_view written failures = record { written = written; failures = failures }
 abbrev pub device_view : {O : Type 0} → output.Ghosts O → O → OutputView
 device_view device o = output_view (device.written o) (device.failures o)
 
--- an output that a call is to write to, with how many bytes in all it takes at least before it fails,
--- and whether it tells its bytes
+-- an output that a call is to write to, with how many bytes in all it takes at least before it
+-- fails, and whether it tells its bytes
 pub record FreshOutput : Type 0 where
   pub view : OutputView
   pub room : ℕ

@@ -32,8 +32,8 @@ file_header resolution link =
     ++ little_bytes 4 0
     ++ little_bytes 4 most_captured ++ little_bytes 4 link
 
--- what is in front of a packet's data, little-endian: seconds, the part of a second (cut off to microseconds in
--- `pcap`), captured length, original length
+-- what is in front of a packet's data, little-endian: seconds, the part of a second (cut off to
+-- microseconds in `pcap`), captured length, original length
 abbrev pub record_header : Resolution → Captured → List ℕ
 record_header resolution p =
     little_bytes 4 (p.time / NANOS_PER_SECOND)

@@ -116,8 +116,8 @@ option_checks (InterfaceParts link snap order options) = list_checks [] (options
 option_checks parts = []
 
 -- The first check that the block fails which a text begins with, after those of its frame; None
--- where it fails none. Those that need the interfaces before it are in `Unit`: one of them, of how many there are, comes
--- before those of options.
+-- where it fails none. Those that need the interfaces before it are in `Unit`: one of them, of how
+-- many there are, comes before those of options.
 abbrev pub block_fault : Frame → List ℕ → Option Fault
 block_fault frame text =
     first_failing

@@ -22,8 +22,8 @@ abbrev pub option_at : Order → List ℕ → CodedValue
 option_at order text =
     record { code = u16_in order text 0; value = take (u16_in order text 2) (drop 4 text) }
 
--- whether a list of options ends here: fewer than four bytes are left, or the code is 0, whose length
--- isn't looked at
+-- whether a list of options ends here: fewer than four bytes are left, or the code is 0, whose
+-- length isn't looked at
 abbrev pub ends_at : Order → List ℕ → Bool
 ends_at order text = nat_lt (length text) 4 || (u16_in order text 0 == 0)
 
