@@ -77,8 +77,8 @@ pub record IsCut (text done rest : List ℕ) (packets : List Placed)
 
 -- ---- what a text begins with
 
--- a unit of this size, its packets, and what is declared after it; or no unit, by the end or by
--- a fault
+-- a unit of this size, its packets, and what is declared after it; or no unit, by the clean end
+-- (None) or by a fault
 pub data Front : Type 0 where
   Whole : (size : ℕ) → (packets : List Captured) → (declared : Declared) → Front
   NoUnit : (why : Option Fault) → Front
@@ -118,7 +118,7 @@ front_of (PcapngFile first section) text =
 
 -- ---- items
 
--- the clean end; or a fault and the offset at which the unit would begin that it is in place of: in
+-- the clean end; or a fault, and the offset at which the unit would begin in whose place it is: in
 -- `items` the fault of the first check that fails
 pub data Ending : Type 0 where
   End : Ending

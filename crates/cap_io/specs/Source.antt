@@ -92,7 +92,8 @@ pub record SkipsUnits (old new : SourceView) (rest : List ℕ) : Type 0 where
   pub splits : old.unread ≡ passed ++ rest
   pub units : AreUnits old.declared (old.offset + length old.block) passed [] new.declared
   pub offset : new.offset ≡ old.offset + length old.block + length passed
-  -- the buffer, which never has less room than before, has room for each of them
+  -- the buffer, which never has less room than before, has room for each of them, but for the file
+  -- header of pcap
   pub room : old.room ≤ new.room
   pub fit : FitUnits new.room old.declared passed new.declared
 

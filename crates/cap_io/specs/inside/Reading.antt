@@ -230,7 +230,8 @@ pub record ReadsUnit {I A : Type 0} (device : Ghosts I) (old : UnitReader I A) (
       → NoUnitCame (declared_by old.file old.table) (front ++ device.unread old.input)
       (device.unread new.input) fault)
   pub kept : OnErr r ((new.file ≡ old.file) × (new.table ≡ old.table))
-  -- the buffer has room for the unit, and never less; it has no more than a unit may need
+  -- the buffer has room for the unit, but for the file header of pcap, and never less than before;
+  -- it has no more than a unit may need, if it had no more before
   pub grown : length old.buffer.items ≤ length new.buffer.items
   pub bounded : length old.buffer.items ≤ most_in_unit → length new.buffer.items ≤ most_in_unit
   pub fits : IfOk r

@@ -100,7 +100,8 @@ pub record TakesNext (tells : Bool) (old new : SourceView) : Type 0 where
   pub packet : IsTrue tells → FindsPacket old new
   pub bounds : NextBounds old (Ok next_unit.Packet) new
 
--- nothing is taken: the source is between units as before, though the buffer may have changed
+-- nothing is taken: the source is between units as before, though the bytes in its buffer may have
+-- changed
 pub record TakesNothing (tells : Bool) (old new : SourceView) : Type 0 where
   pub between : IsBetween new
   pub declared : new.declared ≡ old.declared
