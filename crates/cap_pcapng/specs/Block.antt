@@ -40,8 +40,8 @@ body_checks type.SimplePacket order body = (nat_le 4 (length body), BadBody) ∷
 body_checks type.EnhancedPacket order body = (nat_le 20 (length body), BadBody) ∷ []
 body_checks type.Other order body = []
 
--- the checks of a whole block, on a text that begins with it, in order: that its second total length
--- is the first, and those of its body; not those of options or of the interfaces before it
+-- the checks of a whole block, on a text that begins with it, in order: that its second total
+-- length is the first, and those of its body; not those of options or of the interfaces before it
 abbrev pub block_checks : Frame → List ℕ → List (Bool × Fault)
 block_checks frame text =
     (u32_in frame.order text (frame.length - 4) == frame.length, BadBlockLength)
