@@ -7,7 +7,7 @@ use Rattle.cap_io.specs.Capture.{Placed, Items, Ending, End, FaultAt, kind_of, i
 -- ---- what comes
 
 -- a packet of an input; or an input, which is of this kind and has this size, was read to its
--- clean end
+-- clean end, which is an event in turn alone
 pub data Event : Type 0 where
   Packet : (input : ℕ) → (p : Placed) → Event
   InputEnd : (input : ℕ) → (kind : Option Kind) → (size : ℕ) → Event
