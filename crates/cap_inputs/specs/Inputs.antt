@@ -236,7 +236,8 @@ pub record MarksDecided (old : InputsView) (i : ℕ) (new : InputsView) : Type 0
   pub among : IsInput old.cursors i cursor
   pub is : new ≡ with_cursor old i (input_after_decided cursor)
 
--- where the current unit of an input begins; 0 where there is no such input
+-- where the current unit of an input begins, or the next one where no packet is current; 0 where
+-- there is no such input
 abbrev pub offset_at : List InputView → ℕ → ℕ
 offset_at cursors i =
     unwrap_or (option_map (λ (h : InputView). h.source.offset) (slice_get cursors i)) 0

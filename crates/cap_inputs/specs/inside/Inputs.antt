@@ -132,6 +132,7 @@ owed_by h = steps_owed h.waiting h.source.phase
 abbrev pub steps_left : InputsView → ℕ
 steps_left f = steps_left_in f.cursors
 
--- where the current unit of an input begins; 0 of no input
+-- where the current unit of an input begins, or the next one where no packet is current; 0 of no
+-- input
 abbrev pub offset_of : Option InputView → ℕ
 offset_of o = unwrap_or (option_map (λ (h : InputView). h.source.offset) o) 0
