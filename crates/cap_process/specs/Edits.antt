@@ -6,26 +6,27 @@ use Rattle.cap_window.specs.Marks.{mark_of, has_same, last}
 use Rattle.cap_io.specs.Sequence.{Event, Packet}
 use Rattle.cap_process.specs.Verdict.{EditRule, edited_packet_with, is_selected, shifted_time}
 
--- a selected packet at its moved time, before the rest; where it has no such time, nothing follows
+-- a selected packet at its moved time, before the rest; where it has no such time, neither it nor
+-- the rest
 abbrev pub selected_at : EditRule → Captured → Option ℕ → List Captured → List Captured
 selected_at s p None rest = []
 selected_at s p (Some time) rest = edited_packet_with s p time ∷ rest
 
--- the packets that are selected, the first with this number, as they are changed; up to the first
--- whose time leaves its range
+-- of packets that are numbered on from `number` those that are selected, as the edit changes them;
+-- up to the first selected one whose moved time is out of range
 abbrev pub packets_selected : EditRule → ℕ → List Captured → List Captured
 packets_selected s number [] = []
 packets_selected s number (p ∷ ps) =
     if is_selected s number p then selected_at s p (shifted_time s.shift p.time)
     (packets_selected s (number + 1) ps) else packets_selected s (number + 1) ps
 
--- whether one of the n - 1 marks just before is the same
+-- whether one of the n - 1 marks just before is the same; without an n none is looked up
 abbrev pub is_repeated : Option ℕ → List Mark → Mark → Bool
 is_repeated None before m = false
 is_repeated (Some n) before m = has_same (last (n - 1) before) m
 
 -- the packets whose mark (length and digest) none of the n - 1 just before them has, where these
--- marks came before
+-- marks came before the first; all packets without an n
 abbrev pub unique_after : Option ℕ → List Mark → List Captured → List Captured
 unique_after n before [] = []
 unique_after n before (p ∷ ps) =
@@ -33,7 +34,7 @@ unique_after n before (p ∷ ps) =
     (before ++ mark_of p.bytes ∷ []) ps else p
     ∷ unique_after n (before ++ mark_of p.bytes ∷ []) ps
 
--- packets that come one after another
+-- packets of input 0 as events one after another, all with the place 0
 abbrev pub coming : List Captured → List Event
 coming [] = []
 coming (p ∷ ps) = Packet 0 (record { offset = 0; packet = p }) ∷ coming ps

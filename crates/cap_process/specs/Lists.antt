@@ -44,7 +44,8 @@ ascends [] = true
 ascends (a ∷ []) = true
 ascends (a ∷ b ∷ ns) = nat_le a b && ascends (b ∷ ns)
 
--- how many packets there are, the sums of their lengths, and their times
+-- how many packets there are; the sums of their original and of their captured lengths; the least,
+-- the greatest and the last of their times, and whether these ascend
 abbrev pub tally_of : List Captured → Tally
 tally_of ps = record {
   count = length ps;
@@ -64,7 +65,8 @@ CountsAll =
 
 -- ---- what a filter keeps
 
--- by the decision on the packet, before these
+-- by the decision on a packet: it and the rest where it is kept; the rest where it is skipped; none
+-- where it is refused
 abbrev pub kept_by : Decision → Captured → List Captured → List Captured
 kept_by Keep p rest = p ∷ rest
 kept_by Skip p rest = rest
@@ -75,13 +77,13 @@ abbrev pub packets_kept : Rule → List Captured → List Captured
 packets_kept rule [] = []
 packets_kept rule (p ∷ ps) = kept_by (rule_decides rule p) p (packets_kept rule ps)
 
--- the first n, or all
+-- the first n packets, or all of fewer; all without an n
 abbrev pub at_most : Option ℕ → List Captured → List Captured
 at_most None ps = ps
 at_most (Some n) ps = take n ps
 
--- of fewer than 2^63 packets those pass that the rule keeps, the first of them where a count is
--- given
+-- of fewer than 2^63 packets those pass that the rule keeps, up to the first that it refuses; the
+-- first of them where a count, which is at least 1, is given
 abbrev pub PassesFiltered : Type 0
 PassesFiltered =
     (rule : Rule) (count : Option ℕ) (ps : List Captured) → IfSome count (λ (n : ℕ). 0 < n)
@@ -95,7 +97,8 @@ PassesFiltered =
 abbrev pub marks : List Captured → List Mark
 marks ps = map (λ (p : Captured). mark_of p.bytes) ps
 
--- after fewer than 2^63 packets the window has the marks of the last n - 1 that were selected
+-- after fewer than 2^63 packets the window has the marks of the last n - 1 that were selected, with
+-- their bytes as they were cut, up to the first whose moved time is out of range
 abbrev pub HasLastMarks : Type 0
 HasLastMarks = (s : EditRule) (n : ℕ) (ps : List Captured) → s.window ≡ Some n → length ps < 2 ^ 63
     → (apply_events (Edit s) (AsReports []) no_progress (coming ps)).state.window
@@ -103,7 +106,7 @@ HasLastMarks = (s : EditRule) (n : ℕ) (ps : List Captured) → s.window ≡ So
 
 -- ---- how an edit ends
 
--- packets with places of their own come one after another
+-- packets of input 0, each with its place, as events one after another
 abbrev pub arriving : List Placed → List Event
 arriving [] = []
 arriving (p ∷ ps) = Packet 0 p ∷ arriving ps
@@ -112,25 +115,27 @@ arriving (p ∷ ps) = Packet 0 p ∷ arriving ps
 abbrev pub packets_of : List Placed → List Captured
 packets_of ps = map (λ (p : Placed). p.packet) ps
 
--- whether the packet with this number is selected, and its moved time isn't from 0 to 2^63 - 1
--- nanoseconds
+-- whether the packet with this number is selected, and the shift moves its time below 0, or to 2^63
+-- nanoseconds or later
 abbrev pub has_no_time_after_shift : EditRule → ℕ → Captured → Bool
 has_no_time_after_shift s number p = is_selected s number p && is_none (shifted_time s.shift p.time)
 
--- where the first lies that does, the first of all having this number
+-- the place of the first packet that is selected and has no time after the shift, or None; the
+-- packets are numbered on from `number`
 abbrev pub first_without_time : EditRule → ℕ → List Placed → Option ℕ
 first_without_time s number [] = None
 first_without_time s number (p ∷ ps) =
     if has_no_time_after_shift s number p.packet then Some p.offset else first_without_time s (number + 1) ps
 
--- the job goes on where there is none, and else it ends there, for its time
+-- how a job ends by the place of such a packet: by the fault of its time there; without one it goes
+-- on
 abbrev pub end_at_time : Option ℕ → Option SequenceEnd
 end_at_time None = None
 end_at_time (Some offset) = Some (FaultIn 0 TimeOutOfRange offset)
 
--- The selection of an edit of fewer than 2^63 packets ends at the first that is selected and whose
--- moved time is below 0 or above 2^63 - 1 nanoseconds; what passes is what is unique of what is
--- selected before it.
+-- An edit of fewer than 2^63 packets ends by a fault at the first that is selected and whose moved
+-- time is below 0 or above 2^63 - 1 nanoseconds, and goes on where there is none; what passes is
+-- what is unique of what is selected before it.
 abbrev pub EndsWithoutTime : Type 0
 EndsWithoutTime = (s : EditRule) (ps : List Placed) → length ps < 2 ^ 63
     → ((apply_events (Edit s) (AsReports []) no_progress (arriving ps)).end

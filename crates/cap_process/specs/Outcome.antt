@@ -26,7 +26,8 @@ pub data Form : Type 0 where
   -- a line for each packet, and its bytes where they are asked for
   AsLines : (options : Options) → Form
 
--- why a packet that comes after these isn't written
+-- why a packet that comes after these is refused when it is to be written; only a capture refuses
+-- any
 abbrev pub form_refuses : Form → List Captured → Captured → Option Fault
 form_refuses (AsCapture format) ps p = refusal_of format ps p
 form_refuses form ps p = None
@@ -78,7 +79,7 @@ apply_verdict form w input p (PassLast q) state =
 apply_verdict form w input p Skip state = decide w state [] None
 apply_verdict form w input p (Refuse fault) state = end_with w (FaultIn input fault p.offset)
 
--- an input that was read to its end is reported, where reports are asked
+-- an input that was read to its end is reported, where reports are asked, and the tally begins anew
 abbrev pub end_input : Policy → JobProgress → ℕ → Option Kind → ℕ → JobProgress
 end_input Count w input kind size = record w {
   state = record w.state { tally = nothing_counted };
@@ -103,7 +104,7 @@ unless_ended (Some close) w next = w
 abbrev pub next_progress : Policy → Form → JobProgress → Event → JobProgress
 next_progress policy form w e = unless_ended w.end w (apply_event policy form w e)
 
--- and after events
+-- how far a job is after these events, one after another
 abbrev pub apply_events : Policy → Form → JobProgress → List Event → JobProgress
 apply_events policy form w [] = w
 apply_events policy form w (e ∷ es) = apply_events policy form (next_progress policy form w e) es
@@ -209,7 +210,7 @@ pub record ComeFirst (order : Sequence) (es : List Event) : Type 0 where
   pub later : Sequence
   pub is : order ≡ with_front es later
 
--- how far a job with this work is after these events, and what is written then
+-- how far a job with this work is after these events
 abbrev pub job_progress_after : Work → List Event → JobProgress
 job_progress_after work es = apply_events work.policy work.form no_progress es
 

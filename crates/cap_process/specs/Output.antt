@@ -27,7 +27,7 @@ target_of written failures room (device.Text output) =
 target_of written failures room (device.Lines options line output) =
     Lines options (written output) (failures output) (room output)
 
--- a target to which nothing is written yet
+-- a target as a job begins with it, over an output that took these bytes before
 abbrev pub target_at : Writing → List ℕ → ℕ → ℕ → Target
 target_at (writing.Capture format) written failures room =
     Capture (sink_at format written failures room)

@@ -79,7 +79,8 @@ abbrev pub lines : List (List ℕ × List ℕ) → List ℕ → List ℕ
 lines [] following = following
 lines ((label, value) ∷ more) following = label ++ (58 ∷ 32 ∷ (value ++ 10 ∷ lines more following))
 
--- labels and values on a file's format, its size and the sizes of its packets
+-- labels and values on a file's format, how many packets it has, its size and the sizes of its
+-- packets
 abbrev pub size_lines : Option Kind → ℕ → Tally → List (List ℕ × List ℕ)
 size_lines kind size t =
     (codes "Type", kind_name kind)

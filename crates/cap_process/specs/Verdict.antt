@@ -43,8 +43,8 @@ pub data Policy : Type 0 where
 
 -- ---- what was met
 
--- how many packets passed, the marks of those that came last to the search for duplicates, the last
--- of all after, and the tally of the current input
+-- how many packets passed; the marks of those that came last to the search for duplicates, from the
+-- oldest on; and the tally of the current input
 pub record SelectorState : Type 0 where
   pub passed : ℕ
   pub window : List Mark
@@ -116,7 +116,8 @@ abbrev pub edited_packet_with : EditRule → Captured → ℕ → Captured
 edited_packet_with s p time =
     record p { time = time; bytes = bytes_within_snap s.snap (bytes_after_chop s p.bytes) }
 
--- a time that a shift moves; none where it isn't from 0 to 2^63 - 1 nanoseconds then
+-- a time as a shift moves it; None where a later one would be 2^63 nanoseconds or more, or an
+-- earlier one below 0
 abbrev pub shifted_time : Shift → ℕ → Option ℕ
 shifted_time shift.None time = Some time
 shifted_time (shift.Later by) time = if nat_lt (time + by) TIME_END then Some (time + by) else None
@@ -127,8 +128,9 @@ abbrev pub with_mark : ℕ → Mark → SelectorState → SelectorState
 with_mark most mark s = record s { window = last most (s.window ++ mark ∷ []) }
 
 -- A packet is skipped whose mark, the length and digest of its bytes as they are cut, is that of
--- one of the last n - 1 that were selected, those that were skipped too. Times, original lengths,
--- link types and interfaces aren't compared. Its mark enters the window all the same.
+-- one of the last n - 1 that were selected, those that were skipped as duplicates too. Times,
+-- original lengths, link types and interfaces aren't compared. The mark enters the window all the
+-- same. Without an n every packet passes.
 abbrev pub unique : Option ℕ → SelectorState → Captured → Judgement
 unique None s p = passes s p
 unique (Some n) s p =
@@ -149,7 +151,7 @@ selects s state number p =
 
 -- ---- filters
 
--- whether the packet that passed as number `passed` is the last that may
+-- whether the packet that passed as number `passed` is the last that may; none is without a count
 abbrev pub is_last : Option ℕ → ℕ → Bool
 is_last None passed = false
 is_last (Some count) passed = passed == count
@@ -188,7 +190,7 @@ judge policy state number p =
     if is_too_many policy number then refuses state TooManyPackets
     else judge_by policy state number p
 
--- a packet passes, maybe changed
+-- the packet passes by this verdict, and as `q`
 abbrev pub PassesAs : Verdict → Captured → Type 0
 PassesAs (Pass p) q = p ≡ q
 PassesAs (PassLast p) q = p ≡ q

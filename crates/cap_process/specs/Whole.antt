@@ -37,7 +37,8 @@ packets_written form before [] = []
 packets_written form before (p ∷ ps) =
     written_unless (form_refuses form before p) p (packets_written form (before ++ p ∷ []) ps)
 
--- a command with status 0 ends cleanly
+-- what the end of a command adds that ends with this status: with 0, which is a clean end, what
+-- that adds; else nothing
 abbrev pub closing_if : (status : ℕ) → Form → Option ℕ → List Captured → List ℕ
 closing_if zero form link ps = closing_text form link ps
 closing_if (suc n) form link ps = []
@@ -78,8 +79,8 @@ abbrev pub print_work : Rule → Option ℕ → Form → Work
 print_work rule count form = record { order = InTurn; policy = Filter rule count; form = form }
 
 -- A print of a file with fewer than 2^63 packets as a capture writes those that the rule keeps, the
--- first of them where a count is given, up to the first that the rule or the format refuses; of
--- none, where it ends with status 0, the start of a file.
+-- first of them where a count, which is at least 1, is given, up to the first that the rule or the
+-- format refuses; of none, where it ends with status 0, the start of a file.
 abbrev pub PrintWrites : Type 0
 PrintWrites =
     (rule : Rule) (count : Option ℕ) (format : Format) (names : List (List ℕ)) (file : List ℕ)
@@ -90,7 +91,8 @@ PrintWrites =
     (first_link (whole_input file ∷ []))
     (packets_written (AsCapture format) [] (at_most count (packets_kept rule (file_packets file))))
 
--- A print of lines writes those of the same packets.
+-- A print of such a file as lines writes those of the packets that the rule keeps, the first of
+-- them where a count, which is at least 1, is given, up to the first that the rule refuses.
 abbrev pub PrintLines : Type 0
 PrintLines =
     (rule : Rule) (count : Option ℕ) (options : Options) (names : List (List ℕ)) (file : List ℕ)
@@ -115,7 +117,8 @@ abbrev pub packets_in_order : PacketOrder → List InputItems → List Captured
 packets_in_order order rs = event_packets (sequence_of order rs).events
 
 -- A merge of inputs of which fewer than 2^63 packets come before the first fault writes these in
--- its order, up to the first that its format refuses.
+-- its order, up to the first that its format refuses; of none, where it ends with status 0, the
+-- start of a file.
 abbrev pub MergeWrites : Type 0
 MergeWrites =
     (order : PacketOrder) (format : Format) (names : List (List ℕ)) (rs : List InputItems)
@@ -148,7 +151,7 @@ reports_of input (r ∷ rs) =
     })
     (reports_of (input + 1) rs)
 
--- A report is that of each input in turn, up to the first that ends by a fault.
+-- What `infos` writes is the report of each input in turn, up to the first that ends by a fault.
 abbrev pub InfosReports : Type 0
 InfosReports =
     (names : List (List ℕ)) (rs : List InputItems)
@@ -170,14 +173,14 @@ no_options = record {
   window = None;
 }
 
--- A merge of one file is its edit without options.
+-- A merge of one file has the outcome of its edit without options.
 abbrev pub MergesOne : Type 0
 MergesOne =
     (order : PacketOrder) (format : Format) (names : List (List ℕ)) (file : List ℕ)
     → outcome (merge_work order format) names (whole_input file ∷ [])
     ≡ outcome (edit_work no_options format) names (whole_input file ∷ [])
 
--- A file's packets are these, one and more, fewer than 2^63, and the format carries them.
+-- A file's packets are these, one or more and fewer than 2^63, and the format carries them.
 pub record HasCarried (format : Format) (file : List ℕ) (p : Captured) (ps : List Captured) : Type 0 where
   pub packets : file_packets file ≡ p ∷ ps
   pub few : length (p ∷ ps) < 2 ^ 63
@@ -187,14 +190,15 @@ pub record HasCarried (format : Format) (file : List ℕ) (p : Captured) (ps : L
 abbrev pub copy_of : Format → List (List ℕ) → List ℕ → List ℕ
 copy_of format names file = (outcome (edit_work no_options format) names (whole_input file ∷ [])).output
 
--- Where the format carries all packets of a file, which has some, an edit without options keeps
--- them, as they are.
+-- Where the format carries all packets of a file, one or more and fewer than 2^63, an edit without
+-- options writes a file of the same packets.
 abbrev pub EditKeeps : Type 0
 EditKeeps =
     (format : Format) (names : List (List ℕ)) (file : List ℕ) (p : Captured) (ps : List Captured)
     → HasCarried format file p ps → file_packets (copy_of format names file) ≡ file_packets file
 
--- There an edit without options of what such an edit wrote writes the same bytes.
+-- Of such a file an edit without options, and such an edit of what that wrote, write the same
+-- bytes.
 abbrev pub EditsAlike : Type 0
 EditsAlike =
     (format : Format) (names : List (List ℕ)) (file : List ℕ) (p : Captured) (ps : List Captured)
@@ -208,7 +212,8 @@ abbrev pub is_rejection : MatchResult → Bool
 is_rejection Rejected = true
 is_rejection r = false
 
--- whether a packet has too few bytes for what is asked of it
+-- whether an expression rejects a packet on a link: it needs a byte that isn't captured, or divides
+-- by 0; never without a link
 abbrev pub is_rejected_on : TruthTree → Option Link → Captured → Bool
 is_rejected_on a None p = false
 is_rejected_on a (Some link) p = is_rejection (holds (truth a) link p.bytes p.orig)
@@ -225,8 +230,9 @@ abbrev pub AreRead : List Captured → Type 0
 AreRead [] = Unit {0}
 AreRead (p ∷ ps) = (is_some (link_of p.link) ≡ true) × AreRead ps
 
--- Of packets with link types that expressions are read on, an expression, its negation and
--- rejection make three lists; each packet is in one of them, once, whatever is summed of it.
+-- Of packets with link types that expressions are read on there are three lists: those that an
+-- expression keeps, those that its negation keeps, and those that it rejects. Whatever is summed of
+-- packets, the sums of the three are that of all: each packet is in one list, once.
 abbrev pub NegationParts : Type 0
 NegationParts =
     (a : TruthTree) (ps : List Captured) (f : Captured → ℕ) → AreRead ps

@@ -10,7 +10,7 @@ use Rattle.cap_io.specs.Sink as sinks
 use Rattle.cap_io.specs.Sink.{SinkView, PutWrites, FinishWrites}
 use Rattle.cap_process.specs.Output.{Target, Capture, Text, Lines}
 
--- a packet is put into a capture
+-- a packet is put into a capture, or is refused, or the put fails
 pub record PutsInto (p : Captured) (old : SinkView) (r : Result (Unit {0}) Fault)
     (new : Target) : Type 0 where
   pub sink : SinkView
@@ -54,7 +54,7 @@ Reports bytes (Text written failures room) r new = AppendsText bytes written fai
 Reports bytes (Lines options written failures room) r new =
     (r ≡ Ok tt) × (new ≡ Lines options written failures room)
 
--- a capture is finished
+-- a capture is finished, or that fails
 pub record FinishesInto (first : Option ℕ) (old : SinkView) (r : Result (Unit {0}) Fault)
     (new : Target) : Type 0 where
   pub sink : SinkView
@@ -62,7 +62,8 @@ pub record FinishesInto (first : Option ℕ) (old : SinkView) (r : Result (Unit 
   pub finishes : sinks.Finishes old.state old first r sink
   pub writes : FinishWrites old.state old first r sink
 
--- the output is ended: a capture without packets gets its file header; or the device failed
+-- the output is ended: a capture without packets gets its file header or section header, any other
+-- nothing; or it fails
 abbrev pub EndsOutput : Option ℕ → Target → Result (Unit {0}) DeviceFault → Target → Type 0
 EndsOutput first (Capture sink) (Ok done) new = FinishesInto first sink (Ok done) new
 EndsOutput first (Capture sink) (Err failed) new =

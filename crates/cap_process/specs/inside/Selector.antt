@@ -25,7 +25,7 @@ abbrev pub count_limit : Policy → Option ℕ
 count_limit (Filter rule count) = count
 count_limit policy = None
 
--- a verdict on a packet that is to be written so, where it passes
+-- a verdict of the code, with the packet as it is to be written where it passes
 abbrev pub verdict_of : code.Verdict → Captured → Verdict
 verdict_of code_verdict.Pass p = Pass p
 verdict_of code_verdict.PassLast p = PassLast p
@@ -36,13 +36,14 @@ abbrev pub verdict_if : Captured → Bool → Verdict
 verdict_if p true = PassLast p
 verdict_if p false = Pass p
 
--- what is returned of a packet, and what is made of it: what it is to be, or its refusal
+-- What a call returns of a packet with this judgement: the verdict, with the packet as it passes
+-- and the state after it; or its refusal, where nothing is said of the state.
 abbrev pub IsVerdict : Judgement → Result code.Verdict Fault → Captured → SelectorState → Type 0
 IsVerdict j (Ok v) p state = (verdict_of v p ≡ j.verdict) × (state ≡ j.state)
 IsVerdict j (Err fault) p state = j.verdict ≡ Refuse fault
 
 -- What is returned of a packet where `count` may pass: whether it passes, the packet as it does,
--- and the state beside those that passed; or its refusal.
+-- and the state in which it isn't counted yet among those that passed; or its refusal.
 abbrev pub ReturnsVerdict : Option ℕ → Judgement → Result Bool Fault → Captured → SelectorState
     → Type 0
 ReturnsVerdict count j (Ok false) p state = (j.verdict ≡ judged.Skip) × (j.state ≡ state)
@@ -60,7 +61,7 @@ IsWindowFor (Some n) (Some w) = (w.capacity ≡ n - 1) × (length w.marks ≤ n 
 abbrev pub HasFewMarks : Policy → SelectorState → Type 0
 HasFewMarks policy state = length state.window ≤ places (window_of policy)
 
--- no more was added to a tally than one packet has
+-- no more was added to the sums of a tally than one packet may have
 abbrev pub GrowsByOne : Tally → Tally → Type 0
 GrowsByOne old new =
     (new.count ≤ old.count + 1) × (new.data_size ≤ old.data_size + 2 ^ 32)
@@ -70,7 +71,8 @@ GrowsByOne old new =
 abbrev pub with_empty_tally : SelectorState → SelectorState
 with_empty_tally s = record { passed = s.passed; window = s.window; tally = nothing_counted }
 
--- what was counted is taken, where reports are asked
+-- what was counted is taken, and the tally begins anew, where reports are asked; else there is
+-- none, and nothing changes
 abbrev pub TakesTally : Bool → PolicyState → Option Tally → PolicyState → Type 0
 TakesTally false old r new = (r ≡ None) × (new ≡ old)
 TakesTally true old r new =
