@@ -16,8 +16,9 @@ use Rattle.cap_process.specs.Selector.{most_spent, places, spent_by_verdict, win
 use Rattle.cap_tools.specs.Packets.{JobState, asks_report}
 use Rattle.cap_tools.specs.Jobs.{JobView}
 
--- The input that is next was read on, to its next packet and no further. No packet is decided, and
--- nothing is written unless the input was read to its end and is to be reported.
+-- The input that is next was read on, to its next packet, its end or a fault, and no further. No
+-- packet is decided, and nothing is written unless the input was read to its end and is to be
+-- reported.
 pub record ReadsOn (tells : Bool) (old : JobView) (input : ℕ) (answer : Result Bool Fault)
     (new : JobView) : Type 0 where
   pub next : next_of old.state.inputs ≡ next.Read input
@@ -52,15 +53,16 @@ abbrev pub is_fault : Result Bool Fault → Bool
 is_fault (Ok found) = false
 is_fault (Err fault) = true
 
--- A step reads one input on, or decides one packet, or can't decide it, or does neither. It goes on
--- after an input that gave no fault, or a packet that is decided, and not otherwise.
+-- A step reads one input on, or decides one packet, or can't decide it, or does neither. The job
+-- goes on only after an input that gave no fault, or a packet that is decided; it may end after
+-- these too.
 pub data StepReads (tells goes : Bool) (old new : JobView) : Type 0 where
   reads_on : (input : ℕ) → (answer : Result Bool Fault) → (goes ≡ true → is_fault answer ≡ false)
       → ReadsOn tells old input answer new → StepReads tells goes old new
   decides_one : (input : ℕ) → JudgesOne old input new
       → MarksDecided old.state.inputs input new.state.inputs
       → new.state.decided ≡ old.state.decided + 1 → StepReads tells goes old new
-  -- it is refused, or wasn't written
+  -- the packet is refused, or wasn't written
   leaves_one : (input : ℕ) → goes ≡ false → JudgesOne old input new
       → new.state.inputs ≡ old.state.inputs
       → new.state.decided ≡ old.state.decided → StepReads tells goes old new
@@ -113,8 +115,8 @@ abbrev pub most_weight : ℕ → ℕ → ℕ
 most_weight inputs marks =
     inputs * most_in_unit + (256 * inputs + most_output_interfaces) * 280 + 20 * marks + 128
 
--- of an input at most one unit is held, in a block that has room for no more than one, and few
--- interfaces
+-- of an input no more bytes are held than its block has room for, that room is at most the length
+-- of the longest unit, and its interfaces are few
 pub record IsSmall (h : InputView) : Type 0 where
   pub held : length h.source.block ≤ h.source.room
   pub block : h.source.room ≤ most_in_unit
@@ -124,8 +126,8 @@ pub record IsSmall (h : InputView) : Type 0 where
 abbrev pub IsBounded : InputsView → Target → Type 0
 IsBounded inputs target = All IsSmall inputs.cursors × HasFewOutputInterfaces target
 
--- What a job holds of each input is bounded, and of all of them; a window of n packets has n - 1
--- marks, and there is none where no duplicates are searched for.
+-- What a job holds of each input is bounded, and what it holds in all; a window for n packets is
+-- counted with n - 1 marks, and with none where no duplicates are searched for.
 pub record IsLight (m : JobState) : Type 0 where
   pub each : IsBounded m.inputs m.output
   pub all : weight m ≤ most_weight (length m.inputs.cursors) (places (window_of m.policy))

@@ -63,7 +63,8 @@ CompileGives words link tells old turn.More new = ⊥
 CompileGives words link tells old (turn.Done status) new =
     ListsSome words link tells old status new ⊎ RefusesExpression words tells old status new
 
--- what is prepared first, of any device; a listing is told where the output tells its bytes
+-- what a step does that prepares: a filter is read on any device; of a compilation this is stated
+-- only where the output tells its bytes
 abbrev pub PreparesBy : Option Preparing → (output_tells tells : Bool) → JobView → Turn → JobView
     → Type 0
 PreparesBy None output_tells tells old r new = Unit {0}
@@ -96,10 +97,10 @@ pub record StepKeeps (old : JobView) (r : Turn) (new : JobView) : Type 0 where
   pub room : room_by new.state ≡ room_by old.state
   -- a step that goes on sends no message
   pub quiet : r ≡ turn.More → new.err ≡ old.err
-  -- a filter changes what is asked
+  -- where nothing was prepared, the policy stays; a filter that is read becomes it
   pub policy : old.preparing ≡ None → new.state.policy ≡ old.state.policy
 
--- Nothing is read before the filter is there, and no packet is decided; no program has run.
+-- A step that prepares reads no input and decides no packet, and no program runs.
 pub record PreparesOnly (old new : JobView) : Type 0 where
   pub inputs : new.state.inputs ≡ old.state.inputs
   pub decided : new.state.decided ≡ old.state.decided
@@ -110,7 +111,8 @@ abbrev pub StepReadsBy : Option Preparing → (tells goes : Bool) → JobView �
 StepReadsBy None tells goes old new = StepReads tells goes old new
 StepReadsBy (Some preparing) tells goes old new = PreparesOnly old new
 
--- what is decided of the inputs, whatever the filter will be and its programs
+-- what is decided of the inputs: before a filter is read, whatever it and its programs will be; of
+-- a compilation nothing is said
 abbrev pub DecidedBy : Option Preparing → List InputPast → List ℕ → JobView → Type 0
 DecidedBy None ss before j = Decided ss before j
 DecidedBy (Some (ReadsFilter asked)) ss before j =

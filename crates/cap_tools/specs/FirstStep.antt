@@ -23,8 +23,8 @@ filtering rule count programs j = record j {
   done = None;
 }
 
--- It is refused, or there was no memory for it, and nothing is read or written. A message that
--- can't be written is lost.
+-- The filter or the expression is refused, or there was no memory for it, and nothing is read or
+-- written but the message. A message that can't be written is lost.
 pub record RefusesStart (refusal : Refusal) (tells : Bool) (old : JobView) (status : ℕ)
     (new : JobView) : Type 0 where
   pub status_is : status ≡ refusal_status refusal

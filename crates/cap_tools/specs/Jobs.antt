@@ -62,9 +62,9 @@ first_job a call = record {
   done = None;
 }
 
--- What holds of a job between its steps: of each input some bytes are done, and their packets are
--- decided and written; and each program that judges is one for its expression and its link, or the
--- listing's.
+-- What holds of a job between its steps: of each input some bytes are done, their packets are
+-- decided, and what comes of them is written; and each program that judges is one for its
+-- expression and its link, or the listing's.
 pub record Decided (ss : List InputPast) (before : List ℕ) (j : JobView) : Type 0 where
   pub packets : PacketsDecided ss before j.state
   pub programs : HavePrograms j.state.policy j.programs
@@ -92,13 +92,14 @@ pub record EndsJob (tells : Bool) (old : JobView) (status : ℕ) (new : JobView)
   pub quiet : status ≡ 0 → new.err ≡ old.err
   pub status_is : status ≡ end_status end
 
--- it goes on, and what held of it holds again, its programs included
+-- a job goes on, and what held of it holds again, of its programs too
 pub record StaysDecided {ss : List InputPast} {before : List ℕ} {old : JobView}
     (d : Decided ss before old) (new : JobView) : Type 0 where
   pub goes : GoesOn d.packets new.state
   pub programs : HavePrograms new.state.policy new.programs
 
--- what a step over packets gives: a job that goes on reports nothing; else it ends in one way
+-- what a step over packets gives: a job that goes on reports nothing, and what held of it holds
+-- again; else it ends in one way
 abbrev pub JobGives : Bool → JobView → Turn → JobView → Type 0
 JobGives tells old turn.More new =
     (new.err ≡ old.err)
@@ -110,7 +111,7 @@ abbrev pub turn_goes_on : Turn → Bool
 turn_goes_on turn.More = true
 turn_goes_on (turn.Done status) = false
 
--- the status of a job that ended is 0, 1 (a fault) or 2 (a refusal)
+-- the status of a job that ended is 0, 1 (a fault, a failed write, or no memory) or 2 (a refusal)
 abbrev pub IsStatus : Turn → Type 0
 IsStatus turn.More = Unit {0}
 IsStatus (turn.Done status) = status ≤ 2

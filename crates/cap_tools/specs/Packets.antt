@@ -123,7 +123,7 @@ abbrev pub progress_of : {ss : List InputPast} {before : List ℕ} {m : JobState
     → PacketsDecided ss before m → JobProgress
 progress_of {ss} {before} {m} d = progress_at m d.packets d.reports
 
--- it goes on, and finished some bytes of one input
+-- a job goes on, and finished some bytes of one input
 pub record GoesOn {ss : List InputPast} {before : List ℕ} {old : JobState}
     (d : PacketsDecided ss before old) (new : JobState) : Type 0 where
   pub input : ℕ
@@ -145,7 +145,7 @@ pub record GoesOn {ss : List InputPast} {before : List ℕ} {old : JobState}
 abbrev pub progress_over : JobState → List InputItems → JobProgress
 progress_over m rs = final_progress m.policy (output_form m) (sequence_of m.inputs.order rs)
 
--- the output is all that the job writes of inputs with these items, and they end so
+-- the output is all that the job writes of inputs with these items, over which it ends so
 pub record CompletesOutput {ss : List InputPast} {before : List ℕ} {old : JobState}
     (rs : List InputItems) (d : PacketsDecided ss before old) (new : JobState)
     (close : SequenceEnd) : Type 0 where

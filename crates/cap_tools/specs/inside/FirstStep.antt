@@ -47,6 +47,6 @@ output_by m = output_view (written_by m) (failures_by m)
 abbrev pub output_of : JobView → OutputView
 output_of j = output_by j.state
 
--- the name of its output
+-- the name of a job's output
 abbrev pub output_name : JobView → List ℕ
 output_name j = name_at j.state.names (length j.state.inputs.cursors)

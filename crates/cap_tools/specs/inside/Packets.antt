@@ -57,7 +57,7 @@ pub record Judges (p : Captured) (number : ℕ) (old : Sieve) (verdict : code.Ve
       (Ok verdict) packet new.selector.state
   pub offers : Offers verdict packet old.output put new.output
 
--- it is refused, and nothing is written
+-- a packet is refused, and nothing is written
 pub record Rejects (p : Captured) (number : ℕ) (old : Sieve) (fault : Fault)
     (new : Sieve) : Type 0 where
   pub exact : selecting_inside.IsVerdict (judge old.selector.policy old.selector.state number p)
