@@ -14,7 +14,7 @@ use Rattle.cap_command.specs.declared.command.Shift.TheVariants as shift
 abbrev pub PACKET_NUMBER_END : ℕ
 PACKET_NUMBER_END = 2 ^ 63
 
--- the numbers of a range: from 1 on, in order, below 2^63
+-- whether two numbers are those of a range: from 1 on, in order, below 2^63
 abbrev pub is_range : ℕ → ℕ → Bool
 is_range first last = nat_le 1 first && nat_le first last && nat_lt last PACKET_NUMBER_END
 
@@ -22,7 +22,7 @@ is_range first last = nat_le 1 first && nat_le first last && nat_lt last PACKET_
 abbrev pub most_ranges : ℕ
 most_ranges = 512
 
--- not too many, and each is a range
+-- whether ranges are not too many, and each is a range
 abbrev pub has_proper_ranges : List (ℕ × ℕ) → Bool
 has_proper_ranges ranges =
     nat_le (length ranges) most_ranges && list_all (λ range. is_range range.0 range.1) ranges
@@ -31,7 +31,7 @@ has_proper_ranges ranges =
 abbrev pub most_inputs : ℕ
 most_inputs = 256
 
--- how many inputs a merge or a report may have
+-- whether a merge or a report may have this number of inputs
 abbrev pub is_input_count : ℕ → Bool
 is_input_count inputs = nat_le 1 inputs && nat_le inputs most_inputs
 

@@ -11,7 +11,7 @@ use Rattle.flt_ast.specs.Filled.{fill_expression}
 use Rattle.flt_ast.specs.Resolved.{fill_fault}
 use Rattle.flt_ast.specs.Checks.{check_fault}
 
--- the text has these tokens, and they have this tree
+-- the text has tokens that aren't nested too deep, and they have this tree
 pub record HasTree (text : List ℕ) (tree : Expression) : Type 0 where
   pub tokens : List Token
   pub lexed : Tokens text (Ok tokens)
@@ -50,7 +50,7 @@ pub data IsTextRefused (text : List ℕ) : ExprFault → Type 0 where
   by_tree : {tree : Expression} {refusal : ExprFault} → HasTree text tree → HasFault tree refusal
       → IsTextRefused text refusal
 
--- Why there is no tree of a text: it is refused; memory may be refused whatever the text is.
+-- Why no expression is made of a text: it is refused; memory may be refused whatever the text is.
 abbrev pub IsTextFault : List ℕ → ExprFault → Type 0
 IsTextFault text fault.Memory = Unit {0}
 IsTextFault text refusal = IsTextRefused text refusal

@@ -45,7 +45,7 @@ abbrev pub answering : Progress → Decision
 answering (Answered answer count) = keep_if (not (answer == 0))
 answering _ = Skip
 
--- what a rule decides of a packet; a program ends within as many steps as it has instructions
+-- what a rule decides of a packet; a valid program ends within as many steps as it has instructions
 abbrev pub rule_decides : Rule → Captured → Decision
 rule_decides (by_reading e) p = expression_decides e p
 rule_decides (by_answer prog) p = answering (machine prog p.bytes p.orig (length prog))

@@ -19,7 +19,8 @@ rule_of filter.All = by_reading empty
 rule_of (filter.Expression compiled) = by_reading compiled.tree
 rule_of (filter.Listing program) = by_answer program.insns
 
--- its programs: of an expression one for each link, in their order; or the listing's
+-- the programs of a filter: of an expression one for each link, in their order; the listing's; or
+-- none
 abbrev pub programs_of : {Z : Type 0} → Filter Z → List Content
 programs_of filter.All = []
 programs_of (filter.Expression compiled) = compiled.programs
@@ -37,7 +38,8 @@ AreNew (by_answer prog) programs = programs ≡ record { insns = prog; spent = 0
 abbrev pub program_place : ℕ → Option ℕ
 program_place n = position (λ link. link_type link == n) all_links
 
--- the place of the program that decides the packets of a link type, if one is needed
+-- the place of the program that decides the packets of a link type; None of the empty expression,
+-- which needs none, and of a link type that expressions aren't read on
 abbrev pub place_by : Rule → ℕ → Option ℕ
 place_by (by_reading empty) n = None
 place_by (by_reading (truth a)) n = program_place n
@@ -50,6 +52,6 @@ most_cost (by_reading empty) = 0
 most_cost (by_reading (truth a)) = bound_of (truth a)
 most_cost (by_answer prog) = length prog
 
--- the programs after a packet was decided: one of them ran once, or none where none is needed
+-- the programs after a packet was decided: the one that decides it ran once, if there is one
 abbrev pub spent_on : Rule → Captured → List Content → List Content
 spent_on rule p programs = ran_if (place_by rule p.link) p programs

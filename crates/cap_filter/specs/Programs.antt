@@ -27,7 +27,7 @@ AreMade e [] (program ∷ programs) = ⊥
 AreMade e (link ∷ links) [] = ⊥
 AreMade e (link ∷ links) (program ∷ programs) = IsMade program e link × AreMade e links programs
 
--- how many instructions a run met that reached an answer
+-- how many instructions a run met that reached an answer; 0 of any other run
 abbrev pub steps_of_run : Progress → ℕ
 steps_of_run (Answered answer count) = count
 steps_of_run _ = 0
@@ -36,7 +36,8 @@ steps_of_run _ = 0
 abbrev pub met_on : Captured → List Insn → Progress
 met_on p prog = machine prog p.bytes p.orig (length prog)
 
--- a program after a run on a packet: what it spent rose by the instructions that it met
+-- a program after a run on a packet: what it spent rose by the instructions that the run met, to
+-- 2^128 - 1 at most
 abbrev pub ran_on : Captured → Content → Content
 ran_on p program =
     record {

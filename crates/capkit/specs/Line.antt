@@ -68,11 +68,12 @@ abbrev pub argument_number : (least most : ℕ) → Text → List Row → Option
 argument_number least most id matches =
     option_and_then (number_between least most) (one_of id matches)
 
--- the time that an argument names, in nanoseconds since 1970-01-01 00:00:00 UTC
+-- the time that an argument names, in nanoseconds since 1970-01-01 00:00:00 UTC; None where it
+-- isn't given, or names none
 abbrev pub time_in : Text → List Row → Option ℕ
 time_in id matches = option_and_then time_value (first_of id matches)
 
--- the nanoseconds of an argument's number of seconds
+-- the nanoseconds of an argument's number of seconds; None where it isn't given, or names none
 abbrev pub duration_in : Text → List Row → Option ℕ
 duration_in id matches = option_and_then duration_value (first_of id matches)
 
@@ -315,7 +316,7 @@ SaysFault words usage =
 
 -- ---- what may be run
 
--- the command has an expression that is not empty
+-- the command is a print with an expression that is not empty
 abbrev pub has_expression : {Z : Type 0} → Command Z → Bool
 has_expression (command.Print print) = nat_lt 0 (length (string_bytes print.expr))
 has_expression _ = false

@@ -8,7 +8,8 @@ use Rattle.std.specs.Str.{bytes_eq}
 abbrev pub is_standard : List ℕ → Bool
 is_standard name = bytes_eq name (codes "-")
 
--- the output, unless it is standard output, is an input too; or standard input is two inputs
+-- the output, unless it is standard output, is an input too; or standard input is more than one
+-- input
 abbrev pub uses_name_twice : List (List ℕ) → Option (List ℕ) → Bool
 uses_name_twice inputs output =
     option_map_or

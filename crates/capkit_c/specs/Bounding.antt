@@ -30,7 +30,7 @@ pub record HasNoBound (text : List ℕ) (number status : ℕ) : Type 0 where
   pub exact : status ≡ failure_status failure
   pub where_at : number ≡ failure_number failure
 
--- 0 and the bound, or another status and where the text is wrong
+-- 0 and the bound, or another status and where the text is wrong (0 where that has no place)
 pub data BoundLeaves (text : List ℕ) (number : ℕ) : ℕ → Type 0 where
   is_bounded : IsBound text number → BoundLeaves text number 0
   has_none : {status : ℕ} → HasNoBound text number status → BoundLeaves text number status

@@ -16,7 +16,7 @@ use Rattle.capkit_c.specs.declared.compiling.Failure.TheVariants.{Text, NotUtf8,
 abbrev pub DLT_RAW : ℕ
 DLT_RAW = 12
 
--- the link type as files have it: that of raw IP is libpcap's too
+-- the link type that files have; for raw IP libpcap's own number may be given in its place
 abbrev pub file_link_type : ℕ → ℕ
 file_link_type n = if n == DLT_RAW then LINKTYPE_RAW else n
 

@@ -29,7 +29,7 @@ pub record HasNoMeaning (text old new : List ℕ) (number status : ℕ) : Type 0
   pub where_at : number ≡ failure_number failure
   pub kept : new ≡ old
 
--- 0 and the meaning, or another status and where the text is wrong
+-- 0 and the meaning, or another status and where the text is wrong (0 where that has no place)
 pub data ExplainLeaves (text old new : List ℕ) (number : ℕ) : ℕ → Type 0 where
   is_explained : PutsMeaning text old new number → ExplainLeaves text old new number 0
   has_none : {status : ℕ} → HasNoMeaning text old new number status

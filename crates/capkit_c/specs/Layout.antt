@@ -42,7 +42,7 @@ reader_form r =
 abbrev pub most_known : Reader → ℕ → ℕ
 most_known r room = min (min r.interfaces room) 256
 
--- an interface of the table
+-- an interface of the table; 0 units are taken as 1
 abbrev pub described_of : Interface → Described
 described_of i =
     record {

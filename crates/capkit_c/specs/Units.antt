@@ -15,13 +15,14 @@ use Rattle.capkit_c.specs.declared.memory.layout.Reader.{Reader}
 use Rattle.capkit_c.specs.declared.memory.reader.Found.{Found}
 use Rattle.capkit_c.specs.declared.memory.reader.Found.TheVariants as found
 
--- the comment in options, where a file has some
+-- the comment in a packet's options; empty where it has none, and where the file isn't pcapng
 abbrev pub comment_by : Declared → List ℕ → List ℕ
 comment_by Nothing options = []
 comment_by (PcapFile head) options = []
 comment_by (PcapngFile first section) options = comment_in section.order options
 
--- the name of an interface, where a file has some
+-- the name of the interface with this number; None where there is none in a pcapng file, and empty
+-- where the file isn't pcapng
 abbrev pub name_by : Declared → ℕ → Option (List ℕ)
 name_by Nothing number = Some []
 name_by (PcapFile head) number = Some []

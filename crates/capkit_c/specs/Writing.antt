@@ -12,7 +12,7 @@ written_number (written.Whole count) = 0
 written_number (written.NoRoom count) = 225
 written_number (written.Refused fault) = fault_number fault
 
--- how many bytes they are; 0 where they are refused
+-- how many bytes are written, or would be if there were room; 0 where they are refused
 abbrev pub written_length : Written → ℕ
 written_length (written.Whole count) = count
 written_length (written.NoRoom count) = count

@@ -60,13 +60,14 @@ pub record EntersTable (frame : Frame) (interfaces : List Described) (block : Li
 
 -- ---- a block that a text begins with
 
--- given the section before it, as its byte order and its interfaces
+-- P holds of each section before a block (or of none before it) that has this byte order and these
+-- interfaces
 abbrev pub Following : Option Order → List Described → (Option Section → Type 0) → Type 0
 Following section interfaces P =
     (before : Option Section) → order_before before ≡ section
     → interfaces_before before ≡ interfaces → P before
 
--- its packet, as its parts lie in it
+-- a block has one packet, whose parts lie in the block as `held` says
 pub record BlockPacket (order : Order) (before : Option Section) (block : List ℕ)
     (held : PacketSpans) : Type 0 where
   pub packet : Captured
@@ -74,12 +75,13 @@ pub record BlockPacket (order : Order) (before : Option Section) (block : List �
   pub lies : held_packet order (interfaces_before before) held (span_bytes held.bytes block)
       (span_bytes held.options block) ≡ Some packet
 
--- a block has this packet, as its parts lie in it, or none
+-- a block has one packet, whose parts lie in it at these places; without places it has none
 abbrev pub BlockPacketIfAny : Order → Option Section → List ℕ → Option PacketSpans → Type 0
 BlockPacketIfAny order before block None = packets_in before block ≡ []
 BlockPacketIfAny order before block (Some held) = BlockPacket order before block held
 
--- it passes all of its checks; after it these are the interfaces, and this is its packet
+-- a text begins with a block of `size` bytes that passes all of its checks; after it these are the
+-- interfaces, and this is its packet
 pub record BlockStands (before : Option Section) (text : List ℕ) (order : Order) (size : ℕ)
     (interfaces' : List Described) (packet : Option UnitPacket) : Type 0 where
   pub is_block : IsBlock before (take size text)

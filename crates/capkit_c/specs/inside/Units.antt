@@ -59,7 +59,8 @@ IsNoUnit form interfaces text room (refusal.Fault fault) =
 IsNoUnit form interfaces text room refusal.NoRoom =
     (room ≤ length interfaces) × DeclaresOne (declared_by form interfaces) text interfaces
 
--- a block may begin here: its section before it is this one
+-- a block may begin here: these are the byte order of the section before it, if there is one, and
+-- the file's first link type
 abbrev pub Begins : FileState → Option Order → Option ℕ → List Described → List ℕ → Type 0
 Begins form.Unknown section first interfaces text =
     (section ≡ None) × (first ≡ None) × (interfaces ≡ []) × (is_pcapng text ≡ true)
