@@ -179,7 +179,7 @@ judge_by KeepAll state number p = passes state p
 judge_by Count state number p =
     skip_judgement (record state { tally = tally_with state.tally p })
 
--- whether a number is too great for a packet; where packets are counted alone none is
+-- whether a number is too great for a packet; where packets are only counted none is
 abbrev pub is_too_many : Policy → ℕ → Bool
 is_too_many Count number = false
 is_too_many policy number = nat_le PACKET_NUMBER_END number

@@ -30,8 +30,8 @@ pub record ReadsOn (tells : Bool) (old : JobView) (input : ℕ) (answer : Result
       ≡ false → new.state.output ≡ old.state.output
   pub programs : new.programs ≡ old.programs
 
--- The packet that waits of the input that is next was judged, and nothing is read. It cost one run
--- of a program at most.
+-- The packet that waits of the input that is next was judged, which cost one run of a program at
+-- most.
 pub record JudgesOne (old : JobView) (input : ℕ) (new : JobView) : Type 0 where
   pub next : next_of old.state.inputs ≡ next.Decide input
   pub cursor : InputView

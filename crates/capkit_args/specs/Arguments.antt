@@ -192,7 +192,8 @@ pub record TakesWords (words : List Text) (entered : Option (Text × List Row)) 
   pub no_fault : fault_of (line_app formats links) words ≡ []
   pub enters : subcommand_of (line_app formats links) words ≡ entered
 
--- clap refuses the words with this error, which is out of memory where it takes them
+-- clap gives this error for the words: it has one of the kinds of their faults, or memory ran out,
+-- which is so where clap takes the words
 pub record RefusesWords (words : List Text) (error : Error) : Type 0 where
   pub formats : ValueParser
   pub links : ValueParser

@@ -15,18 +15,19 @@ use Rattle.flt_bpf.specs.declared.operation.Source.TheVariants.{Immediate, Memor
 abbrev pub sign_bit : ℕ
 sign_bit = 2 ^ 31
 
--- X, the index register, is below 2^31 after an operation if it is before it
+-- whether X, the index register, is surely below 2^31 after an operation if it is before it
 abbrev pub operation_keeps : Option Operation → ℕ → Bool
 operation_keeps (Some (Load Index Immediate)) k = nat_lt k sign_bit
 operation_keeps (Some (Load Index _)) k = false
 operation_keeps (Some CopyToIndex) k = false
 operation_keeps _ k = true
 
--- X, the index register, is below 2^31 after an instruction if it is before it
+-- whether X, the index register, is surely below 2^31 after an instruction if it is before it
 abbrev pub keeps_x_small : Insn → Bool
 keeps_x_small i = operation_keeps (operation_of i.code) i.k
 
--- an operation does the same on libpcap's and Linux's machines; `small` says that X is below 2^31
+-- whether an operation surely does the same on libpcap's and Linux's machines; `small` says that X
+-- is below 2^31
 abbrev pub operation_alike : Option Operation → ℕ → Bool → Bool
 operation_alike (Some (LoadAbsolute width)) k small = nat_lt k sign_bit
 operation_alike (Some LoadHeaderLength) k small = nat_lt k sign_bit
@@ -36,7 +37,8 @@ operation_alike (Some (Compute ShiftLeft IndexRegister)) k small = false
 operation_alike (Some (Compute ShiftRight IndexRegister)) k small = false
 operation_alike _ k small = true
 
--- an instruction does the same on libpcap's and Linux's machines; `small` says that X is below 2^31
+-- whether an instruction surely does the same on libpcap's and Linux's machines; `small` says that
+-- X is below 2^31
 abbrev pub runs_alike : Bool → Insn → Bool
 runs_alike small i = operation_alike (operation_of i.code) i.k small
 
@@ -76,7 +78,8 @@ none_read_unwritten (suc n) insns = none_read_unwritten n insns && not (is_live_
 abbrev pub most_attached : ℕ
 most_attached = 4096
 
--- 1 where a program that is valid runs alike elsewhere, as far as its instructions tell; else 0
+-- 1 where a program that is valid surely runs alike on libpcap's and Linux's machines, as far as
+-- its instructions tell, and has at most 4,096; else 0
 abbrev pub is_portable : List Insn → ℕ
 is_portable insns =
     if nat_le (length insns) most_attached
