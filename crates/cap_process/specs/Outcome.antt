@@ -26,8 +26,8 @@ pub data Form : Type 0 where
   -- a line for each packet, and its bytes where they are asked for
   AsLines : (options : Options) → Form
 
--- why a packet that comes after these is refused when it is to be written; only a capture refuses
--- any
+-- why a packet that comes after these is refused when it is to be written, if it is; only a capture
+-- refuses any
 abbrev pub form_refuses : Form → List Captured → Captured → Option Fault
 form_refuses (AsCapture format) ps p = refusal_of format ps p
 form_refuses form ps p = None

@@ -63,8 +63,8 @@ CompileGives words link tells old turn.More new = ⊥
 CompileGives words link tells old (turn.Done status) new =
     ListsSome words link tells old status new ⊎ RefusesExpression words tells old status new
 
--- what a step does that prepares: a filter is read on any device; of a compilation this is stated
--- only where the output tells its bytes
+-- what the step does that prepares, if there is something to prepare: of a filter on any device, of
+-- a compilation only where the output tells its bytes
 abbrev pub PreparesBy : Option Preparing → (output_tells tells : Bool) → JobView → Turn → JobView
     → Type 0
 PreparesBy None output_tells tells old r new = Unit {0}

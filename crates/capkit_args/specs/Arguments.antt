@@ -72,7 +72,8 @@ name_of sub.Infos = codes "infos"
 name_of sub.Print = codes "print"
 name_of sub.Compile = codes "compile"
 
--- the arguments of `edit`, in the order in which its help lists them
+-- the arguments of `edit`: its options, and then those by place, each in the order in which its
+-- help lists them
 abbrev pub edit_rules : (formats : ValueParser) → List Rule
 edit_rules formats =
     flag (by_letter (codes "r") ids.KEEP.now)
@@ -90,7 +91,7 @@ edit_rules formats =
     ∷ many (by_place ids.RANGE.now)
     ∷ []
 
--- the arguments of `merge`, in that order
+-- the arguments of `merge`, in such an order
 abbrev pub merge_rules : (formats : ValueParser) → List Rule
 merge_rules formats =
     flag (by_letter (codes "a") ids.APPEND.now)
@@ -100,11 +101,11 @@ merge_rules formats =
     ∷ many (by_place ids.MORE.now)
     ∷ []
 
--- the arguments of `infos`, in that order
+-- the arguments of `infos`, in such an order
 abbrev pub infos_rules : List Rule
 infos_rules = as_required (by_place ids.FILE.now) ∷ many (by_place ids.MORE.now) ∷ []
 
--- the arguments of `print`, in that order
+-- the arguments of `print`, in such an order
 abbrev pub print_rules : (formats : ValueParser) → List Rule
 print_rules formats =
     with_wide_bounds 1 most_64 (by_letter (codes "c") ids.COUNT.now)
@@ -117,7 +118,7 @@ print_rules formats =
     ∷ many (by_place ids.WORD.now)
     ∷ []
 
--- the arguments of `compile`, in that order
+-- the arguments of `compile`, in such an order
 abbrev pub compile_rules : (links : ValueParser) → List Rule
 compile_rules links =
     with_choices links (by_name (codes "link") ids.LINK.now) ∷ many (by_place ids.WORD.now) ∷ []
