@@ -232,7 +232,7 @@ AreRead (p ∷ ps) = (is_some (link_of p.link) ≡ true) × AreRead ps
 
 -- Of packets with link types that expressions are read on there are three lists: those that an
 -- expression keeps, those that its negation keeps, and those that it rejects. Whatever is summed of
--- packets, the sums of the three are that of all: each packet is in one list, once.
+-- packets, the sums over the three add up to that over all: each packet is in one list, once.
 abbrev pub NegationParts : Type 0
 NegationParts =
     (a : TruthTree) (ps : List Captured) (f : Captured → ℕ) → AreRead ps
