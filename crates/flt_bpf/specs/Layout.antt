@@ -10,7 +10,7 @@ abbrev pub is_branch : Option Operation → Bool
 is_branch (Some (JumpIf test operand)) = true
 is_branch _ = false
 
--- the code of a jump
+-- the code of a jump without a condition. Below, a jump is one of these
 abbrev pub JUMP : ℕ
 JUMP = 5
 
@@ -37,7 +37,7 @@ pub record JumpsAreNeeded (prog : List Insn) : Type 0 where
 abbrev pub HasNoJump : List Insn → Type 0
 HasNoJump prog = All (λ i. i.code ≢ JUMP) prog
 
--- there is no jump, and the program is short
+-- there is no jump, and the program has at most `most` instructions
 pub record IsShort (prog : List Insn) (most : ℕ) : Type 0 where
   pub no_jump : HasNoJump prog
   pub short : length prog ≤ most

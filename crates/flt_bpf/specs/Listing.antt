@@ -47,8 +47,8 @@ pub record BeginsWith (line : List ℕ) (n : ℕ) (Rest : List ℕ → Type 0) :
   pub number : IsWrittenNumber digits n
   pub rest_is : Rest rest
 
--- a line of these numbers, with one or more blanks between each two, and none before the first or
--- after the last
+-- a line of these numbers, of which there is one at least, with one or more blanks between each
+-- two, and none before the first or after the last
 abbrev pub AreNumbers : List ℕ → List ℕ → Type 0
 AreNumbers line [] = ⊥
 AreNumbers line (n ∷ []) = IsWrittenNumber line n

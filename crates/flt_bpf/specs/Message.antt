@@ -23,22 +23,22 @@ has_index TooLong = false
 has_index NoReturn = false
 has_index _ = true
 
--- the message on a broken rule and the index of the instruction that breaks it
+-- the message on a broken rule, with the index of the instruction where one instruction breaks it
 abbrev pub check_message : CheckFault → ℕ → List ℕ
 check_message fault index =
     check_text fault ++ (if has_index fault then codes " at " ++ decimal index else [])
 
--- what a text that was not read is called
+-- why a text was not read, without the line
 abbrev pub listing_text : ListingFault → List ℕ
 listing_text (listing.NotListing line) = codes "not a listing"
 listing_text listing.Memory = codes "no memory"
 
--- the number of the first wrong line
+-- the number, from 1, of the line at which a text is refused, or none where memory ran out
 abbrev pub wrong_line : ListingFault → Option ℕ
 wrong_line (listing.NotListing line) = Some line
 wrong_line listing.Memory = None
 
--- the number of a line, where there is one
+-- where a message says that a line is wrong: nothing, if there is no number of one
 abbrev pub at_line : Option ℕ → List ℕ
 at_line None = []
 at_line (Some line) = codes " at line " ++ decimal line

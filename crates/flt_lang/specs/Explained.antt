@@ -1,5 +1,5 @@
 -- What an expression means, as an expression: its tree with all qualifiers, and parentheses around
--- each operand that is more than one word or an accessor.
+-- each operand but one word and an accessor.
 use Rattle.std.specs.Prelude.{ℕ, Bool, true, false, List, [], ◌∷◌, Option, Some, None}
 use Rattle.flt_words.specs.declared.token.Operator.TheVariants.{Subtract, Divide}
 use Rattle.flt_words.specs.declared.token.Protocol.{Protocol}
@@ -20,7 +20,8 @@ use Rattle.flt_ast.specs.Tree.{NumberTree, literal, len, named, load, negated, a
 use Rattle.flt_lang.specs.declared.spelling.Following.TheVariants.{Other}
 use Rattle.flt_lang.specs.Texts.{tokens_text}
 
--- what is written after a number or an IPv4 address of a network, and then the rest
+-- the mask that is written after a number or an IPv4 address of a network, if one is, and then the
+-- rest
 abbrev pub mask_tokens : NetMask → List TokenKind → List TokenKind
 mask_tokens mask.Unwritten rest = rest
 mask_tokens (mask.Prefix n) rest = token.Operator Divide ∷ token.Number n ∷ rest
@@ -88,12 +89,12 @@ number_tokens (negated a) rest =
 number_tokens (applied o a b) rest =
     token.Open ∷ number_tokens a (token.Operator o ∷ number_tokens b (token.Close ∷ rest))
 
--- the `)` after a node that is an operand, and then the rest
+-- the `)` after a node, if it is an operand, and then the rest
 abbrev pub close_operand : Bool → List TokenKind → List TokenKind
 close_operand true rest = token.Close ∷ rest
 close_operand false rest = rest
 
--- the `(` before a node that is an operand, and then the rest
+-- the `(` before a node, if it is an operand, and then the rest
 abbrev pub open_operand : Bool → List TokenKind → List TokenKind
 open_operand true rest = token.Open ∷ rest
 open_operand false rest = rest

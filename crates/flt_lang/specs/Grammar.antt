@@ -48,8 +48,10 @@ has_casts protocol.Ip = true
 has_casts protocol.Ip6 = true
 has_casts _ = false
 
--- a number of level 0 is a unary, of level 1 a product, of level 2 a sum, of level 3 a shift, of
--- level 4 any; a chain associates to the left
+-- the tokens begin with this number, of a level, and these are left after it. Level 0 is a literal,
+-- `len`, a name, an accessor, a number in parentheses, or one of level 0 after `-`; level 1 is also
+-- a product, a quotient or a remainder, level 2 a sum or a difference, level 3 a shift, level 4 any
+-- number. A chain associates to the left
 pub data Number : ℕ → List TokenKind → NumberTree → List TokenKind → Type 0 where
   of_literal : {n : ℕ} {rest : List TokenKind} → Number 0 (token.Number n ∷ rest) (literal n) rest
   of_len : {rest : List TokenKind} → Number 0 (token.Len ∷ rest) len rest
@@ -71,7 +73,8 @@ pub data Number : ℕ → List TokenKind → NumberTree → List TokenKind → T
       → Number (suc k) ts a (token.Operator o ∷ mid) → level o ≡ k → Number k mid b rest
       → Number (suc k) ts (applied o a b) rest
 
--- a truth of level 0 is a term, of level 1 a chain of terms, which associates to the left
+-- the tokens begin with this truth, of a level, and these are left after it. Level 0 is a term,
+-- level 1 a chain of one term or more, which associates to the left
 pub data Truth : ℕ → List TokenKind → TruthTree → List TokenKind → Type 0 where
   of_check : {p : Protocol} {rest : List TokenKind} → stands_alone p ≡ true
       → Truth 0 (token.Protocol p ∷ rest) (check p) rest

@@ -41,7 +41,7 @@ abbrev pub HasDeepFront : List Token → Type 0
 HasDeepFront ts =
     (n : ℕ) × (count_by is_closing (take n ts) + 100 < count_by is_opening (take n ts))
 
--- 101 tokens `not` and `-` follow one another
+-- 101 tokens, each of them `not` or `-`, follow one another
 abbrev pub HasLongPrefix : List Token → Type 0
 HasLongPrefix ts =
     (i : ℕ) × (i + 101 ≤ length ts) × (list_all is_prefix_operator (take 101 (drop i ts)) ≡ true)

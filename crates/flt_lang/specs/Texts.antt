@@ -204,7 +204,7 @@ joins_previous token.Colon = true
 joins_previous (token.Operator operator.Divide) = true
 joins_previous _ = false
 
--- the blank between a token and the next one, where neither joins the other
+-- the blank between a token and the next one, if there is a next one and neither joins the other
 abbrev pub gap : TokenKind → List TokenKind → List ℕ
 gap t [] = []
 gap t (u ∷ rest) = if joins_next t || joins_previous u then [] else codes " "

@@ -13,7 +13,8 @@ separator_of group.Octet = 46
 separator_of group.Byte = 58
 separator_of group.Quad = 58
 
--- digits of a group's form: decimal up to 255, one or two hexadecimal, one to four hexadecimal
+-- digits of a group's form: decimal up to 255 without leading zeros, one or two hexadecimal, one to
+-- four hexadecimal
 abbrev pub IsGroup : Group → List ℕ → Type 0
 IsGroup group.Octet digits = (n : ℕ) × WritesDecimal digits n × (n ≤ 255)
 IsGroup group.Byte digits = IsNumeral 16 digits × (length digits ≤ 2)
@@ -29,7 +30,7 @@ group_value group.Quad digits = digits_value 16 digits
 abbrev pub group_values : Group → List (List ℕ) → List ℕ
 group_values form groups = map (group_value form) groups
 
--- the text is these groups, joined
+-- the text is these groups, joined by their form's separator; the empty text is no groups
 pub record AreGroups (form : Group) (text : List ℕ) (groups : List (List ℕ)) : Type 0 where
   pub joined : text ≡ join_with_byte (separator_of form) groups
   pub each : AllByRecursion (IsGroup form) groups

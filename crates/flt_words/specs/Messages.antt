@@ -4,7 +4,7 @@ use Rattle.std.specs.Fmt.{decimal}
 use Rattle.flt_words.specs.declared.fault.ExprFault.{ExprFault}
 use Rattle.flt_words.specs.declared.fault.ExprFault.TheVariants as fault
 
--- what is wrong with a text, without the place
+-- why a text is refused, without the place
 abbrev pub text_of : ExprFault → List ℕ
 text_of fault.TooLong = codes "longer than 65536 bytes"
 text_of (fault.UnknownCharacter place) = codes "unknown character"
@@ -20,7 +20,7 @@ text_of fault.TooManyWords = codes "more than 16 words"
 text_of fault.ProgramTooLong = codes "program too long"
 text_of fault.Memory = codes "no memory"
 
--- where a text is wrong, in bytes from 1, if the refusal has a place
+-- where a text is wrong, in bytes from 1, or none where the refusal has no place
 abbrev pub place_of : ExprFault → Option ℕ
 place_of (fault.UnknownCharacter place) = Some place
 place_of (fault.UnknownWord place) = Some place

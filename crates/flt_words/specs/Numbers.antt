@@ -12,7 +12,8 @@ pub record WritesDecimal (digits : List ℕ) (n : ℕ) : Type 0 where
   pub writes : WritesNumber 10 digits n
   pub no_leading_zero : slice_index digits 0 ≡ 48 → length digits ≡ 1
 
--- the word is a number as C spells it
+-- the word is a number as C spells it, without a suffix: decimal, octal after `0`, or hexadecimal
+-- after `0x` or `0X`
 pub data IsNumber : List ℕ → ℕ → Type 0 where
   decimal : {word : List ℕ} {n : ℕ} → WritesDecimal word n → IsNumber word n
   octal : {digits : List ℕ} {n : ℕ} → WritesNumber 8 digits n → IsNumber (codes "0" ++ digits) n
@@ -21,11 +22,12 @@ pub data IsNumber : List ℕ → ℕ → Type 0 where
   capital_hexadecimal : {digits : List ℕ} {n : ℕ} → WritesNumber 16 digits n
       → IsNumber (codes "0X" ++ digits) n
 
--- the word is two numbers joined by a dash
+-- the word is two decimal numbers without leading zeros, joined by a dash; either may be the
+-- greater
 pub data IsRange : List ℕ → ℕ → ℕ → Type 0 where
   joined : {front back : List ℕ} {first last : ℕ} → WritesDecimal front first
       → WritesDecimal back last → IsRange (front ++ (codes "-" ++ back)) first last
 
--- a number that a token may have: below 2^32
+-- a number that a token of a number or a range may have: below 2^32
 abbrev pub is_word_sized : ℕ → Bool
 is_word_sized n = nat_lt n (2 ^ 32)

@@ -89,11 +89,12 @@ symbols =
     ∷ (codes "^", token.Operator operator.ExclusiveOr)
     ∷ []
 
--- the keyword or name that a word is
+-- the token of the keyword or name that a word is, or none where it is neither
 abbrev pub keyword_of : List ℕ → Option TokenKind
 keyword_of word = look_up keywords word
 
--- the symbol that these bytes are; the colon is a token of its own inside brackets alone
+-- the token of the symbol that these bytes are, or none where they are no symbol; the colon is a
+-- token of its own inside brackets alone
 abbrev pub symbol_of : Bool → List ℕ → Option TokenKind
 symbol_of inside piece =
     if inside && bytes_eq piece (codes ":") then Some token.Colon else look_up symbols piece

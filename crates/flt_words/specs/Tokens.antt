@@ -8,7 +8,8 @@ use Rattle.flt_words.specs.Characters.{is_blank, is_inside, starts_word, within_
 use Rattle.flt_words.specs.Spellings.{symbol_of}
 use Rattle.flt_words.specs.Words.{WordMeans}
 
--- the piece could be a word: it begins and ends as words do, and has nothing else between
+-- the piece could be a word: it begins and ends as words do, and has only bytes that a word may
+-- have
 pub record IsWordPiece (inside : Bool) (piece : List ℕ) : Type 0 where
   pub begins : starts_word inside (slice_index piece 0) ≡ true
   pub within : (i : ℕ) → i < length piece → within_word inside (slice_index piece i) ≡ true
@@ -33,13 +34,13 @@ pub record IsLongest (inside : Bool) (rest : List ℕ) (n : ℕ) : Type 0 where
   pub piece : IsPiece inside (take n rest)
   pub longest : (m : ℕ) → m ≤ length rest → IsPiece inside (take m rest) → m ≤ n
 
--- the start of a text that goes on at a place is a token, and this long
+-- what is left of a text from a place on begins with a token of this kind, n bytes long
 pub record IsToken (inside : Bool) (place : ℕ) (rest : List ℕ) (kind : TokenKind)
     (n : ℕ) : Type 0 where
   pub longest : IsLongest inside rest n
   pub means : PieceMeans inside place (take n rest) (Ok kind)
 
--- the start of a text that goes on at a place is refused: a character begins no token, or the
+-- what is left of a text from a place on is refused where it begins: no token begins so, or the
 -- longest piece is a word of no kind or has too large a number
 pub data IsRefused (inside : Bool) (place : ℕ) (rest : List ℕ) : ExprFault → Type 0 where
   no_piece : ((n : ℕ) → n ≤ length rest → IsPiece inside (take n rest) → ⊥)
@@ -47,13 +48,13 @@ pub data IsRefused (inside : Bool) (place : ℕ) (rest : List ℕ) : ExprFault �
   bad_piece : {n : ℕ} {refusal : ExprFault} → IsLongest inside rest n
       → PieceMeans inside place (take n rest) (Err refusal) → IsRefused inside place rest refusal
 
--- a token in front of others
+-- a token in front of others, or the refusal in their place
 abbrev pub before : Token → Result (List Token) ExprFault → Result (List Token) ExprFault
 before token (Ok tokens) = Ok (token ∷ tokens)
 before token (Err refusal) = Err refusal
 
--- from a byte on, a text has these tokens, blanks between them, or this is the leftmost refusal;
--- places count from 1
+-- from the byte at an index on, a text has these tokens, with or without blanks between them, or
+-- this is the leftmost refusal; indices count from 0, places in tokens and refusals from 1
 pub data TokensFrom (text : List ℕ) : ℕ → Result (List Token) ExprFault → Type 0 where
   at_end : {at : ℕ} → at ≡ length text → TokensFrom text at (Ok [])
   blank : {at : ℕ} {answer : Result (List Token) ExprFault} → is_blank (slice_index text at) ≡ true

@@ -19,7 +19,7 @@ pub data Spells : List ℕ → TokenKind → Type 0 where
   mac : {word : List ℕ} {address : ℕ} → IsMac word address → Spells word (token.Mac address)
   ip6 : {word : List ℕ} {address : ℕ} → IsIp6 word address → Spells word (token.Ip6 address)
 
--- a number that a token has is below 2 ^ 32, and so are both of a range
+-- a number is below 2 ^ 32, and so are both of a range; other tokens fit always
 abbrev pub fits : TokenKind → Bool
 fits (token.Number n) = is_word_sized n
 fits (token.Range first last) = is_word_sized first && is_word_sized last

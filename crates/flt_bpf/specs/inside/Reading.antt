@@ -9,23 +9,25 @@ use Rattle.flt_bpf.specs.declared.fault.ListingFault.TheVariants.{NotListing, Me
 use Rattle.flt_bpf.specs.Listing.{BLANK, MOST_BYTES, lines_of}
 use Rattle.flt_bpf.specs.Valid.{MOST_INSTRUCTIONS}
 
--- the pieces of a text after the first
+-- the pieces of what is left of a text after its first piece; where nothing is left, not even an
+-- empty piece, there are none
 abbrev pub pieces_after : ℕ → Option (Bor (List ℕ)) → List (List ℕ)
 pieces_after stop None = []
 pieces_after stop (Some rest) = slice_split (λ b. b == stop) rest.now
 
--- the number that 1 to 10 digits write
+-- the number that 1 to 10 digits write, or none where the bytes are other ones
 abbrev pub numeral : List ℕ → Option ℕ
 numeral ds = if nat_lt 10 (length ds) then None else decimal_value ds
 
--- a number before others
+-- a number before others, or none where it or they are missing
 abbrev pub after : Option ℕ → Option (List ℕ) → Option (List ℕ)
 after None others = None
 after (Some n) None = None
 after (Some n) (Some ns) = Some (n ∷ ns)
 
 -- the numbers of the pieces between blanks after a line's first number, of which all but the last
--- may be empty: several blanks are as one
+-- may be empty: several blanks are as one. None where a piece that isn't empty is no number, or the
+-- last one is empty
 abbrev pub later_numbers : List (List ℕ) → Option (List ℕ)
 later_numbers [] = None
 later_numbers (w ∷ []) = after (numeral w) (Some [])
@@ -43,12 +45,12 @@ numbers_of (w ∷ v ∷ ws) = after (numeral w) (later_numbers (v ∷ ws))
 abbrev pub line_numbers : List ℕ → Option (List ℕ)
 line_numbers line = numbers_of (slice_split (λ b. b == BLANK) line)
 
--- the number of a list with one number
+-- the number of a list with one number, or none for any other list
 abbrev pub only_of : Option (List ℕ) → Option ℕ
 only_of (Some (n ∷ [])) = Some n
 only_of _ = None
 
--- at most one number, or none at all
+-- a list of at most one number, or no list
 abbrev pub HasAtMostOne : Option (List ℕ) → Type 0
 HasAtMostOne None = Unit {0}
 HasAtMostOne (Some ns) = length ns ≤ 1
@@ -59,12 +61,12 @@ insn_from code jt jf k =
     if nat_lt code (2 ^ 16) && (nat_lt jt (2 ^ 8) && (nat_lt jf (2 ^ 8) && nat_lt k (2 ^ 32)))
     then Some (record { code = code; jt = jt; jf = jf; k = k }) else None
 
--- the instruction that four numbers make
+-- the instruction that four numbers make, or none where they aren't four or one isn't in range
 abbrev pub insn_of : Option (List ℕ) → Option Insn
 insn_of (Some (code ∷ jt ∷ jf ∷ k ∷ [])) = insn_from code jt jf k
 insn_of _ = None
 
--- an instruction before others
+-- an instruction before others, or the number of the wrong line among theirs
 abbrev pub onto : Insn → Result (List Insn) ℕ → Result (List Insn) ℕ
 onto i (Ok is) = Ok (i ∷ is)
 onto i (Err line) = Err line
@@ -75,8 +77,8 @@ abbrev pub read_insn : Option Insn → Result (List Insn) ℕ → ℕ → Result
 read_insn None others at = Err at
 read_insn (Some i) others at = onto i others
 
--- instructions from lines, the first of which has the number `at`; else the number of the
--- first wrong line
+-- n instructions from as many lines, the first of which has the number `at`; or the number of the
+-- first line that is wrong, missing, or one too many
 abbrev pub read_insns : ℕ → List (List ℕ) → ℕ → Result (List Insn) ℕ
 read_insns zero [] at = Ok []
 read_insns zero (line ∷ lines) at = Err at
@@ -99,7 +101,8 @@ read_lines (first ∷ lines) = read_from (line_numbers first) lines
 abbrev pub read : List ℕ → Result (List Insn) ℕ
 read text = if nat_lt MOST_BYTES (length text) then Err 1 else read_lines (lines_of text)
 
--- what reading ended with: memory may be refused whatever the text is
+-- a fault of a reading that this is the result of: the line is the one that the result has; memory
+-- may be refused whatever the text is
 abbrev pub IsFaultOf : ListingFault → Result (List Insn) ℕ → Type 0
 IsFaultOf (NotListing line) r = r ≡ Err line
 IsFaultOf Memory r = Unit {0}

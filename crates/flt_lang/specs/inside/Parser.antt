@@ -44,8 +44,8 @@ precedence (frame.Join j) = 7
 precedence frame.Open = 9
 precedence (frame.Load p) = 9
 
--- the precedence of the loosest operand that the latest frame takes; of a whole expression without
--- one
+-- the precedence of the loosest operand that the latest frame takes; without a frame, of the
+-- loosest one that a whole expression is
 abbrev pub operand_precedence : List Frame → ℕ
 operand_precedence [] = 7
 operand_precedence (frame.Negate ∷ fs) = 0
@@ -56,7 +56,8 @@ operand_precedence (frame.Join j ∷ fs) = 6
 operand_precedence (frame.Open ∷ fs) = 7
 operand_precedence (frame.Load p ∷ fs) = 4
 
--- how loosely the next token binds the operand before it
+-- how loosely the next token binds the operand before it; 1 for a token that no operand may have
+-- after it
 abbrev pub token_precedence : TokenKind → ℕ
 token_precedence (token.Operator o) = level o + 1
 token_precedence (token.Comparison c) = 5
@@ -101,11 +102,11 @@ as_sort sort.Number x d = as_number x d
 abbrev pub Read : Type 0
 Read = Operand × List Node
 
--- a node after its operand; the two are an operand of another sort
+-- a node after those of its operands, which with it are the operand `y`; none where there are none
 abbrev pub after_node : Operand → Node → Option (List Node) → Option Read
 after_node y n o = o >>= λ e. Some (y, n ∷ e)
 
--- of which sort the operands of a frame are
+-- of which sort the operands of a frame are; `(` has either sort in it, and isn't asked
 abbrev pub sort_of : Frame → Sort
 sort_of frame.Negate = sort.Number
 sort_of (frame.Apply o) = sort.Number
@@ -115,7 +116,7 @@ sort_of (frame.Join j) = sort.Truth
 sort_of frame.Open = sort.Truth
 sort_of (frame.Load p) = sort.Number
 
--- the node of a frame that no token closes, and the operand that it makes
+-- the node of a frame and the operand that it makes, or none where a token closes the frame
 abbrev pub node_of : Frame → Option (Node × Operand)
 node_of frame.Negate = Some (node.Negate, operand.Number)
 node_of (frame.Apply o) = Some (node.Apply o, operand.Number)
@@ -142,12 +143,12 @@ reduce m (f ∷ fs) x d =
     if nat_le (precedence f) m then (fill_frame f x d >>= λ r. reduce m fs r.0 r.1)
     else Some (f ∷ fs, x, d)
 
--- the latest frame binds more loosely than m
+-- the latest frame, if there is one, binds more loosely than m
 abbrev pub IsLoose : ℕ → List Frame → Type 0
 IsLoose m [] = Unit {0}
 IsLoose m (f ∷ fs) = m < precedence f
 
--- the frames, the operand that is read, and the nodes
+-- the frames, the operand that was read, or none where one is to begin, and the nodes
 abbrev pub State : Type 0
 State = List Frame × Option Operand × List Node
 
@@ -155,25 +156,26 @@ State = List Frame × Option Operand × List Node
 abbrev pub Begun : Type 0
 Begun = ℕ × State
 
--- an operand in parentheses
+-- an operand once it has parentheses around it
 abbrev pub enclosed_operand : Operand → Operand
 enclosed_operand (operand.Plain n) = operand.Either n None
 enclosed_operand x = x
 
--- a frame that waits for its right operand, after its left one of the same sort
+-- a frame that waits for its right operand, after its left one of the same sort; none where the
+-- left one is of the other sort, or the latest frame takes no operand that binds this loosely
 abbrev pub after_operator : Frame → List Frame → Operand → List Node → Option Begun
 after_operator f fs x d =
     if nat_le (precedence f) (operand_precedence fs) then
     (as_sort (sort_of f) x d >>= λ e. Some (0, (f ∷ fs, None, e))) else None
 
--- the load that waits takes its index and reads `size` bytes; `more` tokens more than one are
--- used up
+-- the load that is the latest frame takes its index and reads `size` bytes; `more` tokens more than
+-- one are used up. None where that is another frame, or the index is no number
 abbrev pub after_load : ℕ → ℕ → List Frame → Operand → List Node → Option Begun
 after_load more size (frame.Load p ∷ fs) x d =
     as_number x d >>= λ e. Some (more, (fs, Some operand.Number, node.Load p size ∷ e))
 after_load more size _ x d = None
 
--- the size of an accessor after its colon
+-- the size of an accessor after its colon, or none where no number with `]` after it is there
 abbrev pub accessor_size : List TokenKind → Option ℕ
 accessor_size (token.Number n ∷ token.CloseBracket ∷ ts) = Some n
 accessor_size _ = None
@@ -209,13 +211,14 @@ after_token (t ∷ ts) fs x d = after_token_at t ts fs x d
 abbrev pub Primitive : Type 0
 Primitive = ℕ × Option Operand × List Node
 
--- a value with what stands before it, and how many tokens more than one they are
+-- a value with its qualifiers, and how many tokens more than one they are; none where no value
+-- comes after the qualifiers
 abbrev pub valued_of : List TokenKind → Option (Qualifiers × Value × ℕ)
 valued_of ts =
     let q = qualifiers_of ts in
     value_of q.1 >>= λ r. Some (q.0, r.0, length ts - length r.1 - 1)
 
--- a protocol alone
+-- a protocol alone, or none where it may not stand alone or there is none
 abbrev pub check_of : List TokenKind → List Node → Option Primitive
 check_of (token.Protocol p ∷ ts) d =
     if stands_alone p then Some (0, Some operand.Truth, node.Check p ∷ d) else None
@@ -231,7 +234,7 @@ valued_or None ts d = check_of ts d
 abbrev pub primitive : List TokenKind → List Node → Option Primitive
 primitive ts d = valued_or (valued_of ts) ts d
 
--- a value with nothing before it
+-- a value without qualifiers, or none where the tokens begin with none
 abbrev pub bare_of : List TokenKind → List Node → Option Primitive
 bare_of ts d =
     value_of ts >>= λ r. Some (length ts - length r.1 - 1, Some operand.Truth, node.Bare r.0 ∷ d)
@@ -251,7 +254,7 @@ protocol_role (t ∷ token.OpenBracket ∷ ts) = role.Bracket
 protocol_role (t ∷ token.Cast c ∷ ts) = role.Cast c
 protocol_role _ = role.Other
 
--- a protocol begins an operand: an accessor, a cast, or another primitive
+-- a protocol begins an operand: an accessor, a cast, or another primitive; none where it may not
 abbrev pub protocol_begins : Protocol → ProtocolRole → List TokenKind → List Frame → List Node
     → Option Begun
 protocol_begins p role.Bracket ts fs d =
@@ -293,21 +296,23 @@ begin_at (token.Operator Subtract) ts fs d = Some (0, (frame.Negate ∷ fs, None
 begin_at token.Open ts fs d = Some (0, (frame.Open ∷ fs, None, d))
 begin_at _ ts fs d = None
 
--- the state after the tokens where an operand begins
+-- the state after the tokens where an operand begins, or none where none begins
 abbrev pub begin : List TokenKind → List Frame → List Node → Option Begun
 begin [] fs d = None
 begin (t ∷ ts) fs d = begin_at t (t ∷ ts) fs d
 
--- a plain number, and the length of a prefix that is written after it
+-- a plain number, and the length of a prefix that is written after it, or none where one is missing
 abbrev pub number_with_prefix : Operand → List TokenKind → Option (ℕ × ℕ)
 number_with_prefix (operand.Plain n) (token.Operator Divide ∷ token.Number m ∷ ts) = Some (n, m)
 number_with_prefix _ _ = None
 
--- the tokens after an operand, once the tight frames have taken it
+-- the state after the token that follows an operand, once the frames that bind at least as tightly
+-- as that token have taken the operand
 abbrev pub next_of : List TokenKind → List Frame → Operand → List Node → Option Begun
 next_of ts fs x d = reduce (next_precedence ts) fs x d >>= λ r. after_token ts r.0 r.1 r.2
 
--- a number takes the length of a prefix, if the latest frame takes a quotient; else as any operand
+-- a number takes the length of a prefix, if the latest frame takes a quotient; else the state is as
+-- after any operand
 abbrev pub with_prefix : Option (ℕ × ℕ) → List TokenKind → List Frame → Operand → List Node
     → Option Begun
 with_prefix (Some p) ts fs x d =
@@ -315,22 +320,24 @@ with_prefix (Some p) ts fs x d =
     else next_of ts fs x d
 with_prefix None ts fs x d = next_of ts fs x d
 
--- the tokens after an operand, where a plain number may still get the length of a prefix
+-- the state after the tokens that follow an operand: one token, or the length of a prefix after a
+-- plain number
 abbrev pub after_operand : List TokenKind → List Frame → Operand → List Node → Option Begun
 after_operand ts fs x d = with_prefix (number_with_prefix x ts) ts fs x d
 
--- the nodes of an operand that is a truth, and that no frame waits for
+-- the nodes of the operand, if it can be taken for a truth and no frame waits for it, or none
 abbrev pub whole : List Frame → Operand → List Node → Option (List Node)
 whole [] x d = as_truth x d
 whole (f ∷ fs) x d = None
 
--- the nodes of the whole after the last token
+-- the nodes of the whole after the last token, or none where the tokens end too early or are no
+-- truth
 abbrev pub finish : Option Operand → List Frame → List Node → Option (List Node)
 finish None fs d = None
 finish (Some x) fs d = reduce 8 fs x d >>= λ r. whole r.0 r.1 r.2
 
--- the nodes of the whole, if the tokens that are left can be read from this state; k of them are
--- used up already
+-- the nodes of the whole, if the tokens that are left can be read from this state, or none; the
+-- first k of them are used up already
 abbrev pub run : List TokenKind → ℕ → List Frame → Option Operand → List Node → Option (List Node)
 run [] k fs x d = finish x fs d
 run (t ∷ ts) (suc k) fs x d = run ts k fs x d
