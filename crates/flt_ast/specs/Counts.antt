@@ -52,7 +52,7 @@ abbrev pub ip4_tests : Option Protocol → Direction → ℕ
 ip4_tests None d = (1 + side_tests d 1) + (1 + side_tests d 1) + (1 + side_tests d 1)
 ip4_tests (Some p) d = 1 + side_tests d 1
 
--- an IPv6 address is tested as four words
+-- the tests of an IPv6 address: the protocol, and each side as four words
 abbrev pub ip6_test_count : Direction → ℕ
 ip6_test_count d = 1 + side_tests d 4
 

@@ -12,7 +12,8 @@ height_after h (node.Apply o) = h - 1
 height_after h (node.Compare c) = h - 2
 height_after h _ = h
 
--- the most that wait at once for a node; `less` and `greater` have two numbers of their own
+-- how many numbers wait after a node, or in it: `less` and `greater` have two of their own, which
+-- wait only there
 abbrev pub peak_height : ℕ → Node → ℕ
 peak_height h (node.Sized s n) = h + 2
 peak_height h n = height_after h n

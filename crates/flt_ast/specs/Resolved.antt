@@ -41,7 +41,7 @@ has_bits_past_mask (valued q v) = is_net (type_or_host q) && is_past_mask v
 has_bits_past_mask (qualified q v) = is_net q.value_type && is_past_mask v
 has_bits_past_mask _ = false
 
--- a value still lacks qualifiers
+-- the qualifiers of a value aren't filled in yet
 abbrev pub is_unfilled : TruthTree → Bool
 is_unfilled (bare v) = true
 is_unfilled (valued q v) = true

@@ -10,7 +10,7 @@ use Rattle.flt_ast.specs.declared.value.Value.{Value}
 use Rattle.flt_ast.specs.declared.qualifiers.Qualifiers.{Qualifiers}
 use Rattle.flt_ast.specs.declared.qualifiers.CompleteQualifiers.{CompleteQualifiers}
 
--- an accessor has its size in bytes and its place
+-- an accessor, `load`, has its protocol, its size in bytes and its place
 pub data NumberTree : Type 0 where
   literal : ℕ → NumberTree
   len : NumberTree
@@ -19,7 +19,7 @@ pub data NumberTree : Type 0 where
   negated : NumberTree → NumberTree
   applied : Operator → NumberTree → NumberTree → NumberTree
 
--- a value stands alone, with what is written before it, or with all its qualifiers
+-- a value is alone, has what is written before it, or has all its qualifiers
 pub data TruthTree : Type 0 where
   check : Protocol → TruthTree
   cast : Option Protocol → Cast → TruthTree

@@ -29,7 +29,7 @@ reading_of None = Rejected
 reading_of (Some true) = Yes
 reading_of (Some false) = No
 
--- goes on with a value, if there is one
+-- goes on with a value, if there is one; else there is none
 abbrev pub with : {A B : Type 0} → Option A → (A → Option B) → Option B
 with None f = None
 with (Some a) f = f a
@@ -43,11 +43,13 @@ compares AtMost a b = nat_le a b
 compares Greater a b = nat_lt b a
 compares AtLeast a b = nat_le b a
 
--- the length in bytes of the header that begins at a place
+-- the length in bytes of the IPv4 header that begins at a place, or none where its first byte isn't
+-- captured
 abbrev pub header_at : List ℕ → ℕ → Option ℕ
 header_at p at = with (field p at Byte) (λ byte. Some (header_length byte))
 
--- a field of a packet, or none where it isn't all captured; places are taken modulo 2^32
+-- a field of a packet, or none where it isn't all captured, or the first byte of the header before
+-- it isn't; a place after a header is taken modulo 2^32
 abbrev pub field_at : Offset → Width → List ℕ → Option ℕ
 field_at (Fixed k) width p = field p k width
 field_at (AfterHeader header k) width p =
@@ -65,7 +67,7 @@ field_reads t p =
     (with (field_at t.offset t.width p)
     (λ v. Some (compares t.comparison (under_mask t.mask v) t.value)))
 
--- what an elementary test reads; what the link type alone decides is the same of all packets
+-- what an elementary test reads; what the link decides alone is the same for all packets
 abbrev pub elementary_reads : Elementary → List ℕ → MatchResult
 elementary_reads (Outcome b) p = reading_of (Some b)
 elementary_reads (Field t) p = field_reads t p
@@ -102,7 +104,8 @@ has_type_at (Some at) n = is_at at HalfWord n
 abbrev pub has_type : Link → ℕ → Elementary
 has_type link n = has_type_at (type_offset link) n
 
--- a frame is of a kind: by the EtherType at a place, or of raw IP by the version in its first byte
+-- a frame is of a kind other than Ethernet: by the EtherType at a place, or, where there is none,
+-- as raw IP, by the version in its first byte; so raw IP is never ARP or RARP
 abbrev pub type_test : Option ℕ → FrameKind → Elementary
 type_test type_offset Ethernet = Outcome false
 type_test None Ip = is_masked 0 Byte 0xf0 0x40

@@ -47,7 +47,7 @@ negation Yes = No
 negation No = Yes
 negation Rejected = Rejected
 
--- two numbers compare so, or one of them has no value
+-- whether two numbers compare so; where one of them has no value, the packet is rejected
 abbrev pub relation_reads : Link → Comparison → NumberTree → NumberTree → List ℕ → ℕ → MatchResult
 relation_reads link c l r p n =
     reading_of (with (number link l p n)
@@ -58,8 +58,7 @@ abbrev pub is_one_of : ℕ → List ℕ → Bool
 is_one_of x [] = false
 is_one_of x (v ∷ vs) = x == v || is_one_of x vs
 
--- a field that is one of some numbers is a yes, another one a no, and one that isn't all captured
--- is rejected
+-- whether a field is one of some numbers; where it isn't all captured, the packet is rejected
 abbrev pub among_reads : MaskedField → List ℕ → List ℕ → MatchResult
 among_reads f vs p =
     reading_of (with (field_at f.offset f.width p) (λ x. Some (is_one_of (under_mask f.mask x) vs)))
@@ -111,9 +110,10 @@ without a (v ∷ vs) = if v == a then vs else v ∷ without a vs
 abbrev pub remaining : ℕ → List ℕ → List ℕ
 remaining first numbers = if nat_lt (length numbers) 2 then numbers else without first numbers
 
--- several numbers on a side, or on either. The source is compared with the first alone before the
--- destination is looked at: so a packet that ends between the two is read as by tests of one number
--- after the other. After the destination the source is known not to be the first
+-- one of several numbers on a side, or on either; `src and dst` is never asked for so, and is no
+-- here. The source is compared with the first number alone before the destination is looked at: so
+-- a packet that ends between the two is read as by tests of one number after the other. After the
+-- destination the source is known not to be the first number
 abbrev pub any_sides : Direction → Sides → ℕ → List ℕ → Formula
 any_sides (direction.One Source) at first numbers = Among (whole_field at.source at.width) numbers
 any_sides (direction.One Destination) at first numbers =

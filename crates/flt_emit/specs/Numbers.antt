@@ -15,11 +15,12 @@ use Rattle.flt_emit.specs.declared.elementary.Elementary.{Elementary}
 use Rattle.flt_emit.specs.Elementary.{with, header_at, kind_test, has_ip_proto, first_fragment}
 use Rattle.cap_octet.specs.Link.{network_offset}
 
--- how many bytes are read: 1, 2 or 4
+-- the width of a field of 1, 2 or 4 bytes; any other size is taken for 4
 abbrev pub width_of : ℕ → Width
 width_of size = if size == 1 then Byte else if size == 2 then HalfWord else Word
 
--- the place of byte 0 of a protocol: the frame, the network header, or what follows an IPv4 header
+-- the place of byte 0 of a protocol: of the frame, of the network header, or of what follows an
+-- IPv4 header; none where the byte with the length of that header isn't captured
 abbrev pub base : Link → Protocol → List ℕ → Option ℕ
 base link Ether p = Some 0
 base link Tcp p = with (header_at p (network_offset link)) (λ x. Some (x + network_offset link))
@@ -27,8 +28,8 @@ base link Udp p = with (header_at p (network_offset link)) (λ x. Some (x + netw
 base link Icmp p = with (header_at p (network_offset link)) (λ x. Some (x + network_offset link))
 base link _ p = Some (network_offset link)
 
--- two numbers with an operator between them, modulo 2^32; a shift by 32 or more gives 0, and there
--- is no division by 0
+-- two numbers with an operator between them, modulo 2^32; a shift by 32 or more gives 0, and none
+-- is the result of a division or a remainder by 0
 abbrev pub result_of : Operator → ℕ → ℕ → Option ℕ
 result_of Add a b = Some ((a + b) % 2 ^ 32)
 result_of Subtract a b = Some ((a + 2 ^ 32 - b) % 2 ^ 32)

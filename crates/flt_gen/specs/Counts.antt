@@ -1,9 +1,8 @@
--- How many tests, nodes of arithmetic and words of memory a formula has, and the bound of a program
--- without jumps.
+-- The bound of a program without `ja`.
 use Rattle.std.specs.Prelude.{ℕ, ◌+◌, ◌*◌}
 use Rattle.flt_ast.specs.Tree.{Expression}
 use Rattle.flt_ast.specs.Counts.{tests_of, nodes_of}
 
--- the most instructions of an expression's program where no jump is needed
+-- the most instructions of an expression's program that needs no `ja`
 abbrev pub short_bound_of : Expression → ℕ
 short_bound_of e = 2 + 4 * tests_of e + 6 * nodes_of e

@@ -53,8 +53,8 @@ MatchesKind = (link : Link) (kind : NetworkKind) (p : List ℕ) → All (λ b. b
     → (elementary_reads (kind_test link (frame_kind kind)) p ≡ Yes)
     ↔ (network_header (link_type link) p ≡ Known kind)
 
--- where the link has the kind, it rejects exactly those of which too little is captured; else it
--- rejects none
+-- where packets of the link may have a network header of the kind, the test of the kind rejects
+-- exactly the packets of which too little is captured; else it rejects none
 abbrev pub RejectsShort : Type 0
 RejectsShort = (link : Link) (kind : NetworkKind) (p : List ℕ) → All (λ b. b < 2 ^ 8) p
     → (elementary_reads (kind_test link (frame_kind kind)) p ≡ Rejected)

@@ -116,7 +116,7 @@ cast_formula link (Some _) Multicast = Single (Outcome false)
 
 -- IPv4 addresses and networks
 
--- the mask of a word, where not all of its bits count
+-- the mask of a word, or none where all of its bits count
 abbrev pub partial_mask : ℕ → Option ℕ
 partial_mask mask = if mask == 2 ^ 32 - 1 then None else Some mask
 

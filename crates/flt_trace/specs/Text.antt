@@ -15,7 +15,8 @@ use Rattle.flt_bpf.specs.declared.operation.Test.TheVariants.{Equal, Greater, At
 use Rattle.flt_bpf.specs.declared.operation.Operand.TheVariants.{Constant, IndexRegister}
 use Rattle.flt_bpf.specs.Instructions.{operation_of}
 
--- a number of 32 bits as C's %d prints it: from 2^31 on with a minus sign (45), less by 2^32
+-- a number of 32 bits as C's %d prints it: from 2^31 on it is the number less 2^32, with a minus
+-- sign (45)
 unfoldable pub signed_number : ℕ → List ℕ
 signed_number k = if nat_lt k (2 ^ 31) then decimal k else 45 ∷ decimal (2 ^ 32 - k)
 
@@ -67,15 +68,16 @@ operation_name ReturnAccumulator = codes "ret"
 operation_name CopyToIndex = codes "tax"
 operation_name CopyToAccumulator = codes "txa"
 
--- the constant of an operation of arithmetic: of one on bits in hexadecimal, else in decimal
+-- the constant of an operation of arithmetic: of and, or and exclusive or in hexadecimal, else in
+-- decimal
 abbrev pub constant_text : AluOperation → ℕ → List ℕ
 constant_text Or k = codes "#0x" ++ hex k
 constant_text And k = codes "#0x" ++ hex k
 constant_text ExclusiveOr k = codes "#0x" ++ hex k
 constant_text _ k = codes "#" ++ signed_number k
 
--- what an operation with the number k works on, where it is at a place in a program; of a jump the
--- place of its target
+-- what an operation with the number k works on, where it is at a place in a program: of `ja` the
+-- place of its target; of negations, copies and the return of A nothing
 abbrev pub operand_text : Operation → ℕ → ℕ → List ℕ
 operand_text (LoadAbsolute width) k place = codes "[" ++ (signed_number k ++ codes "]")
 operand_text (LoadIndirect width) k place = codes "[x + " ++ (signed_number k ++ codes "]")

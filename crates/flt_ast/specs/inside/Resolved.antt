@@ -5,7 +5,7 @@ use Rattle.flt_words.specs.declared.fault.ExprFault.{ExprFault}
 use Rattle.flt_ast.specs.declared.node.Node.{Node}
 use Rattle.flt_ast.specs.Resolved.{first_fault, is_misfit_node, is_out_of_range_node, has_bits_past_mask_node}
 
--- the fault of nodes with the smallest number
+-- the fault of nodes with the smallest number, or none
 abbrev pub nodes_fault : List Node → Option ExprFault
 nodes_fault ns =
     first_fault (list_any is_misfit_node ns) (list_any is_out_of_range_node ns)

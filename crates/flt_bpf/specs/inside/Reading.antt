@@ -9,13 +9,13 @@ use Rattle.flt_bpf.specs.declared.fault.ListingFault.TheVariants.{NotListing, Me
 use Rattle.flt_bpf.specs.Listing.{BLANK, MOST_BYTES, lines_of}
 use Rattle.flt_bpf.specs.Valid.{MOST_INSTRUCTIONS}
 
--- the pieces of what is left of a text after its first piece; where nothing is left, not even an
--- empty piece, there are none
+-- the pieces of a text after the first, by what is left after that and `stop`; none where the first
+-- one is the whole text
 abbrev pub pieces_after : ℕ → Option (Bor (List ℕ)) → List (List ℕ)
 pieces_after stop None = []
 pieces_after stop (Some rest) = slice_split (λ b. b == stop) rest.now
 
--- the number that 1 to 10 digits write, or none where the bytes are other ones
+-- the number that 1 to 10 digits write, or none for any other bytes
 abbrev pub numeral : List ℕ → Option ℕ
 numeral ds = if nat_lt 10 (length ds) then None else decimal_value ds
 

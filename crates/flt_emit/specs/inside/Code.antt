@@ -62,13 +62,14 @@ takes_constant ShiftLeft k = nat_lt k 32
 takes_constant ShiftRight k = nat_lt k 32
 takes_constant _ k = true
 
--- the constant that arithmetic is
+-- the number that arithmetic is, or none where it is anything else
 abbrev pub constant : NumberTree → Option ℕ
 constant (literal k) = Some k
 constant (named k) = Some k
 constant _ = None
 
--- a right operand that is in the operator's instruction
+-- the right operand that goes into the operator's instruction, or none where it is no constant or
+-- may not stand there
 abbrev pub constant_operand : Operator → NumberTree → Option ℕ
 constant_operand operator r = with (constant r) (λ k. if takes_constant operator k then Some k else None)
 
@@ -81,8 +82,8 @@ branch_insn test operand k jt jf = record {
   k = k;
 }
 
--- a test that goes on at one of two places, each given as the number of instructions from there to
--- the end
+-- a test in front of code, which goes on at one of two places, each given as the number of
+-- instructions from there to the end
 abbrev pub emit_branch : Test → Operand → ℕ → ℕ → ℕ → List Insn → List Insn
 emit_branch test operand k hit miss c =
     branch_insn test operand k (length c - hit) (length c - miss) ∷ c
@@ -131,8 +132,7 @@ emit_accessor link Udp width c = emit_transport link width c
 emit_accessor link Icmp width c = emit_transport link width c
 emit_accessor link _ width c = emit_base (network_offset link) width c
 
--- the left operand is in A when it goes into a word; later it comes back from there, and the right
--- one is in X
+-- the right operand, which is in A, goes into X, and the left one comes back into A from its word
 abbrev pub emit_operands : ℕ → List Insn → List Insn
 emit_operands slot c = plain CopyToIndex 0 ∷ plain (Load Accumulator Memory) slot ∷ c
 
@@ -196,7 +196,8 @@ abbrev pub emit_halves : ℕ → Block → ℕ → Block
 emit_halves pivot lower upper =
     at_top (emit_branch test.AtLeast Constant pivot upper lower.entry lower.code)
 
--- whether A is one of some numbers, which ascend: halved this often, and then one after the other
+-- whether A is one of some numbers, which ascend: halved this often at most, and then one after the
+-- other
 unfoldable pub emit_search : ℕ → List ℕ → ℕ → ℕ → List Insn → Block
 emit_search zero vs hit miss c = emit_chain vs hit miss c
 emit_search (suc k) vs hit miss c =

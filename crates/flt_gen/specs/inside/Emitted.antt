@@ -35,7 +35,7 @@ equals Icmp Icmp = true
 equals Icmp6 Icmp6 = true
 equals _ _ = false
 
--- a list without a protocol
+-- a list without this protocol
 abbrev pub without_protocol : Protocol → List Protocol → List Protocol
 without_protocol p [] = []
 without_protocol p (q ∷ qs) =
@@ -68,12 +68,14 @@ abbrev pub is_empty : Option ℕ → Bool
 is_empty None = false
 is_empty (Some mask) = mask == 0
 
--- a test of a word of which no bit counts, and which is 0: it is yes wherever the word is captured
+-- a test of a word of which no bit counts, with the number 0; if it is one for equality, as those
+-- of addresses are, it is yes wherever the word is captured
 abbrev pub is_idle : Elementary → Bool
 is_idle (Outcome b) = false
 is_idle (Field t) = is_empty t.mask && t.value == 0
 
--- the test that is yes wherever the word is captured, and else rejects
+-- the test of the same word that is yes wherever the word is captured, and else rejects; what the
+-- link decides alone is unchanged
 abbrev pub capture_test : Elementary → Elementary
 capture_test (Outcome b) = Outcome b
 capture_test (Field t) = Field (record t { mask = None; comparison = AtLeast; value = 0 })

@@ -8,7 +8,7 @@ use Rattle.flt_emit.specs.Elementary.{with}
 use Rattle.flt_emit.specs.Numbers.{result_of}
 use Rattle.flt_emit.specs.inside.Code.{constant}
 
--- the negative of a number, if there is one
+-- the negative of a number, modulo 2^32, or none where there is no number
 abbrev pub negated_constant : Option ℕ → Option ℕ
 negated_constant a = with a (λ x. Some ((2 ^ 32 - x) % 2 ^ 32))
 
@@ -59,7 +59,7 @@ node_constant (node.Literal k) = Some k
 node_constant (node.Named k) = Some k
 node_constant _ = None
 
--- the number that the latest node is, if it is one
+-- the number that the latest node is, or none where it is no number
 abbrev pub latest_constant : List Node → Option ℕ
 latest_constant [] = None
 latest_constant (n ∷ ns) = node_constant n

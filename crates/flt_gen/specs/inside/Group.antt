@@ -80,7 +80,8 @@ same_direction _ _ = false
 abbrev pub MOST_TOGETHER : ℕ
 MOST_TOGETHER = 4096
 
--- a value with these qualifiers may join the members: any may if there are none
+-- a value with these qualifiers may join the members: any may if there are none; else one of hosts
+-- or of ports with the type, the protocol and the direction of the group, if there is room
 abbrev pub goes_with : CompleteQualifiers → Group → List ℕ → Bool
 goes_with q group [] = true
 goes_with q group (a ∷ others) =
@@ -88,19 +89,19 @@ goes_with q group (a ∷ others) =
     && (same_protocol q.protocol group.protocol
     && (same_direction q.direction group.direction && nat_lt (length (a ∷ others)) MOST_TOGETHER))
 
--- the address of a host of four parts, or the number of a port
+-- the address of a host, or the number of a port, or none for other types and values
 abbrev pub member_number : ValueType → Value → Option ℕ
 member_number Host (value.Dotted dotted mask) = Some dotted.address
 member_number Port (value.Number n mask) = Some n
 member_number _ _ = None
 
--- a group with one more member, if it has a number and goes with the others
+-- a group with one more member, if the value has a number and goes with the others, or none
 abbrev pub group_and : CompleteQualifiers → Group → Option ℕ → Option Group
 group_and q group None = None
 group_and q group (Some a) =
     if goes_with q group group.numbers then Some (with_member q a group) else None
 
--- the group with one more in front, where the value is one that goes with it
+-- the group with one more in front, or none where the value does not go with it
 abbrev pub larger_group : CompleteQualifiers → Value → Group → Option Group
 larger_group q v group = group_and q group (member_number q.value_type v)
 
@@ -139,7 +140,7 @@ or_any f g (a ∷ others) = Either f g
 abbrev pub or_group : Link → Formula → Group → Formula
 or_group link f group = or_any f (group_formula link group) group.numbers
 
--- the group with a truth as one more member, if it can be one
+-- the group with a truth as one more member, or none where it can be none
 abbrev pub truth_member : TruthTree → Group → Option Group
 truth_member (qualified q v) group = larger_group q v group
 truth_member _ group = None

@@ -92,7 +92,7 @@ finish_number link (Left slot ∷ ns) w = record w {
   numbers = ns;
 }
 
--- code of a number is emitted in front
+-- the walk with this code as the code so far
 abbrev pub with_insns : List Insn → Walk → Walk
 with_insns c w = record w { code = c }
 
@@ -208,7 +208,7 @@ emit_operator_with operator k w =
     then Some (with_insns (plain (computation operator Constant) k ∷ w.code) w)
     else None
 
--- a comparison with a constant as its right operand
+-- a comparison with a constant as its right operand, and the left one is next
 abbrev pub emit_comparison_with : Comparison → ℕ → Walk → Option Walk
 emit_comparison_with comparison k w =
     Some (with_insns (emit_comparison comparison Constant k w.to.yes w.to.no w.code) w)
