@@ -38,7 +38,7 @@ abbrev pub wrong_line : ListingFault → Option ℕ
 wrong_line (listing.NotListing line) = Some line
 wrong_line listing.Memory = None
 
--- where a message says that a line is wrong: nothing, if there is no number of one
+-- what a message says of the place of a line, by its number; nothing where there is none
 abbrev pub at_line : Option ℕ → List ℕ
 at_line None = []
 at_line (Some line) = codes " at line " ++ decimal line

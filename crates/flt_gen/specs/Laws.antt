@@ -26,8 +26,8 @@ MasksJoin =
     (prefix : Option ℕ) (address at : ℕ) → number_from_digits (2 ^ 32)
     (map word_mask (ip6_tests prefix address at)) ≡ ip6_mask prefix
 
--- ---- an expression means by IPv4, IPv6, ARP and RARP what a line does, which goes by
--- `network_header`
+-- ---- by IPv4, IPv6, ARP and RARP an expression means what the line of a packet does, which goes
+-- by `network_header`
 
 -- the frames of a kind of network header
 abbrev pub frame_kind : NetworkKind → FrameKind

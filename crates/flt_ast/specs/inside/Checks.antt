@@ -1,4 +1,4 @@
--- The same checks over a tree's nodes.
+-- The check for divisions by 0, over a tree's nodes.
 use Rattle.std.specs.Prelude.{Bool, false, ◌&&◌, ◌||◌, ◌==◌, List, [], ◌∷◌}
 use Rattle.flt_ast.specs.declared.node.Node.{Node}
 use Rattle.flt_ast.specs.declared.node.Node.TheVariants as node

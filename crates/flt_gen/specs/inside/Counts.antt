@@ -1,4 +1,4 @@
--- The counts of a tree's nodes.
+-- How many words of memory, nodes of arithmetic and tests a formula has.
 use Rattle.std.specs.Prelude.{ℕ, ◌+◌, max, length}
 use Rattle.flt_ast.specs.Counts.{number_words, number_size}
 use Rattle.flt_emit.specs.Formula.{Formula, Single, Compare, Both, Either, Except, Among}

@@ -1,4 +1,5 @@
--- Hosts or ports that are looked for together, since they stand one after the other between or.
+-- Hosts or ports that are looked for together, since they stand one after the other with `or`
+-- between them.
 use Rattle.std.specs.Prelude.{ℕ, nat_lt, Bool, true, false, ◌&&◌, if◌then◌else◌, List, [], ◌∷◌, length, Option, Some, None}
 use Rattle.flt_words.specs.declared.token.Protocol.{Protocol}
 use Rattle.flt_words.specs.declared.token.Protocol.TheVariants.{Ip, Tcp, Udp}

@@ -21,7 +21,7 @@ abbrev pub returns_code : List Insn
 returns_code = plain ReturnConstant 262144 ∷ plain ReturnConstant 0 ∷ []
 
 -- the code of an expression, in front of the two returns; the empty expression has none. Hosts and
--- ports that stand one after the other between or are looked for together
+-- ports that stand one after the other with `or` between them are looked for together
 abbrev pub expression_code : Link → Expression → Block
 expression_code link empty = record { code = returns_code; entry = 2 }
 expression_code link (truth a) =

@@ -1,5 +1,5 @@
--- The steps that a primitive's formula is put into, operands first, and their walk, which emits code
--- from the last step to the first.
+-- The steps that a primitive's formula is put into, operands first, and their walk, which emits
+-- code from the last step to the first.
 use Rattle.std.specs.Prelude.{◌≡◌, ℕ, List, [], ◌∷◌}
 use Rattle.flt_words.specs.declared.token.Join.{Join}
 use Rattle.flt_words.specs.declared.token.Join.TheVariants.{And, Or}
