@@ -101,8 +101,8 @@ read_lines (first ∷ lines) = read_from (line_numbers first) lines
 abbrev pub read : List ℕ → Result (List Insn) ℕ
 read text = if nat_lt MOST_BYTES (length text) then Err 1 else read_lines (lines_of text)
 
--- a fault of a reading that this is the result of: the line is the one that the result has; memory
--- may be refused whatever the text is
+-- a fault of a reading with this result: the line is the one that the result has; memory may be
+-- refused whatever the text is
 abbrev pub IsFaultOf : ListingFault → Result (List Insn) ℕ → Type 0
 IsFaultOf (NotListing line) r = r ≡ Err line
 IsFaultOf Memory r = Unit {0}

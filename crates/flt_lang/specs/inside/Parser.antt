@@ -102,7 +102,8 @@ as_sort sort.Number x d = as_number x d
 abbrev pub Read : Type 0
 Read = Operand × List Node
 
--- a node after those of its operands, which with it are the operand `y`; none where there are none
+-- a node after those of its operands, which with it are the operand `y`; none where an operand was
+-- of the other sort
 abbrev pub after_node : Operand → Node → Option (List Node) → Option Read
 after_node y n o = o >>= λ e. Some (y, n ∷ e)
 
@@ -306,8 +307,8 @@ abbrev pub number_with_prefix : Operand → List TokenKind → Option (ℕ × �
 number_with_prefix (operand.Plain n) (token.Operator Divide ∷ token.Number m ∷ ts) = Some (n, m)
 number_with_prefix _ _ = None
 
--- the state after the token that follows an operand, once the frames that bind at least as tightly
--- as that token have taken the operand
+-- the state after the token that follows an operand, and of a colon after the size and the bracket
+-- too, once the frames that bind at least as tightly as that token have taken the operand
 abbrev pub next_of : List TokenKind → List Frame → Operand → List Node → Option Begun
 next_of ts fs x d = reduce (next_precedence ts) fs x d >>= λ r. after_token ts r.0 r.1 r.2
 
@@ -320,8 +321,8 @@ with_prefix (Some p) ts fs x d =
     else next_of ts fs x d
 with_prefix None ts fs x d = next_of ts fs x d
 
--- the state after the tokens that follow an operand: one token, or the length of a prefix after a
--- plain number
+-- the state after what follows an operand: the length of a prefix, if the operand is a plain number
+-- that takes one, or else the next token
 abbrev pub after_operand : List TokenKind → List Frame → Operand → List Node → Option Begun
 after_operand ts fs x d = with_prefix (number_with_prefix x ts) ts fs x d
 
