@@ -50,7 +50,8 @@ impl<R: Read> CountingReader<R> {
         self.reader.buffer()
     }
 
-    /// Takes `count` bytes of what its buffer holds, without a read.
+    /// Takes `count` bytes of what its buffer holds, without a read. No clause states what happens
+    /// where the buffer holds fewer.
     #[inline(always)]
     pub(crate) fn consume(&mut self, count: usize)
         ensures bytes { DropsConsumable (reader_remaining R.remaining self.old.reader)

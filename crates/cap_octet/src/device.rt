@@ -38,8 +38,8 @@ pub trait Input {
     ghost sure: { Self → Option ℕ } = { λ _. Some 0 };
 
     /// Reads into the start of the buffer and returns how many bytes came. 0 for a buffer that
-    /// isn't empty means the end. An error is a failure of the device in this call: it gave nothing
-    /// and left the buffer unchanged.
+    /// isn't empty means the end. An error is a failure of the device in this call: it gave
+    /// nothing, and where it `tells`, it left the buffer unchanged.
     fn read(&mut self, buf: &mut [u8]) -> Result<usize, DeviceFault>
         ensures within { IfOk result (λ n. n ≤ length buf.old) }
         ensures counted { given self.new ≡ given self.old + count_of result }
@@ -72,7 +72,7 @@ pub trait Input {
     }
 
     /// A device that failed had given as many bytes as it was sure to. `Prim.search rules` proves
-    /// it of one that may fail at once.
+    /// it of one that may fail at once, and of one that never fails.
     ghost unfailed: { (s : Self) → 0 < failures s → HasGiven (sure s) (given s) };
 }
 

@@ -8,10 +8,10 @@ use std::fmt;
 /// The faults, in the order of their numbers, 1 to 21.
 #[derive(Clone, Copy, Debug, PartialEq, Eq)]
 pub enum Fault {
-    /// 1: the first bytes are no magic number, or a block of another type is in front of the first
-    /// section header.
+    /// 1: the file has fewer than four bytes, or the first four are no magic number, or a block of
+    /// another type is in front of the first section header.
     NotACaptureFile,
-    /// 2: the file ends inside a file header, a record or a block.
+    /// 2: the file ends inside a file header, a record or a block, and has at least four bytes.
     Truncated,
     /// 3: the version isn't 2.4 (pcap), or 1.0 or 1.2 (pcapng).
     BadVersion,
@@ -21,7 +21,7 @@ pub enum Fault {
     BadBlockLength,
     /// 6: a section header has no byte-order magic.
     BadByteOrderMagic,
-    /// 7: a packet names an interface that its section doesn't describe.
+    /// 7: a packet is of an interface that its section doesn't describe before it.
     UnknownInterface,
     /// 8: an option of an interface doesn't fit in its block, or its value has a wrong length.
     BadOption,
@@ -48,7 +48,7 @@ pub enum Fault {
     LinkTypesDiffer,
     /// 19: an expression reads no packets of this link type.
     LinkTypeNotFiltered,
-    /// 20: the packet has the number 2^63.
+    /// 20: the packet has the number 2^63 or a greater one.
     TooManyPackets,
     /// 21: a pcapng output would have over 4,096 interfaces.
     TooManyOutputInterfaces,

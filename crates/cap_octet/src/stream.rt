@@ -45,7 +45,7 @@ impl<R: Read> StdInput<R> {
     }
 
     /// Makes one read of the reader, whatever its own buffer holds, and returns what that returned;
-    /// but a read that would reach 2^63 bytes in all is a failure.
+    /// but a read that would reach 2^63 bytes in all is a failure, though the reader has given them.
     // Out of line: std's errors are large, and where `read` copies what the buffer holds, the
     // compiler then sees that no error can come and keeps no room for one.
     #[cold]
@@ -84,7 +84,8 @@ impl<R: Read> Input for StdInput<R> {
     ghost failures = { λ s. s.failures.count };
 
     /// Fills this buffer from the reader's own, where that holds as many bytes; else makes one read
-    /// of the reader into this buffer and returns what that returned.
+    /// of the reader into this buffer and returns what that returned. A read that would reach 2^63
+    /// bytes in all is a failure.
     // Mostly the reader's buffer holds them. Then no room is made for std's errors, which are
     // large: `read_once` is out of line.
     #[inline(always)]
@@ -210,8 +211,8 @@ impl<W: Write + Drop> StdOutput<W> {
         (writer.into_inner(), cause)
     }
 
-    /// Makes one write of the writer with these bytes and returns what that returned; the cause of
-    /// a failure is kept.
+    /// Makes one write of the writer with these bytes and returns what that returned; but a write
+    /// that takes nothing of some bytes is a failure. The cause of a failure is kept.
     // Inlined where the buffer has room; elsewhere `write_out_of_line` is called.
     #[inline(always)]
     fn write_once(&mut self, buf: &[u8]) -> Result<usize, DeviceFault>
@@ -259,7 +260,8 @@ impl<W: Write + Drop> Output for StdOutput<W> {
 
     ghost failures = { λ s. s.failures.count };
 
-    /// Makes one write of the writer with these bytes and returns what that returned.
+    /// Makes one write of the writer with these bytes and returns what that returned; but a write
+    /// that takes nothing of some bytes is a failure.
     // Both branches call `write_once`: inlined here where the writer's buffer has room, else out of
     // line.
     #[inline(always)]

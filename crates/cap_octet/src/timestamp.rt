@@ -34,8 +34,8 @@ fn day_number(year: u64, month: u64, day: u64) -> Option<u64>
     Some((date.days_since_min() - EPOCH) as u64)
 }
 
-/// How many days after 1970-01-01 a day comes. `None` where its year, month or day is no number, or
-/// the calendar has no such day.
+/// How many days after 1970-01-01 a day comes. `None` where its year, month or day is no number
+/// (`None`), the calendar has no such day, or its year isn't from 1970 to 9999.
 fn day_of_parts(year: Option<u64>, month: Option<u64>, day: Option<u64>) -> Option<u64>
     ensures { result ≡ day_of_parts year month day }
 {
@@ -54,8 +54,8 @@ fn second_of_day(hour: u64, minute: u64, second: u64) -> Option<u64>
     }
 }
 
-/// The seconds since midnight of a time of day. `None` where hour, minute or second is no number,
-/// or there is no such time.
+/// The seconds since midnight of a time of day. `None` where hour, minute or second is no number
+/// (`None`), or there is no such time.
 fn clock_of_parts(hour: Option<u64>, minute: Option<u64>, second: Option<u64>) -> Option<u64>
     ensures { result ≡ clock_of_parts hour minute second }
 {
@@ -74,7 +74,7 @@ fn time_of_parts(day: Option<u64>, clock: Option<u64>, fraction: Option<u64>) ->
 }
 
 /// The number that `count` decimal digits from place `at` write, 9 at most; `None` where one of
-/// these bytes is no digit.
+/// these bytes is no digit, or `count` is 0.
 fn number_at(text: &[u8], at: usize, count: usize) -> Option<u64>
     requires there { at + count ≤ length text.now }
     requires upper_bound { count ≤ 9 }
@@ -118,7 +118,8 @@ fn is_date_time(text: &[u8]) -> bool
 }
 
 /// The nanoseconds since 1970-01-01 00:00:00 UTC of a text whose marks are in their places
-/// (`is_date_time`); `None` where what stands between them is no date, time of day and fraction.
+/// (`is_date_time`); `None` where what stands between them is no date, time of day and fraction,
+/// and from 2^63 nanoseconds on.
 fn date_time_value(text: &[u8]) -> Option<u64>
     requires { 20 ≤ length text.now }
     ensures { result ≡ date_time_value text.now }
