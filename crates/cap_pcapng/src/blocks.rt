@@ -66,7 +66,7 @@ pub struct EnhancedBlock<'a> {
 pub struct SimpleBlock<'a> {
     /// The original length, in bytes.
     pub orig: u32,
-    /// The padded data and what follows it in the body.
+    /// The padded data and what follows them in the body.
     pub rest: &'a [u8],
 }
 

@@ -22,7 +22,7 @@ const ENHANCED_DATA: u32 = 28;
 /// Where the data of a simple packet begin in its block.
 const SIMPLE_DATA: u32 = 12;
 
-/// Where some bytes of a unit lie. A unit is a record or a block.
+/// Where some bytes of a unit, which is a record or a block here, lie.
 #[derive(Clone, Copy)]
 pub struct Span {
     /// Where they begin in the unit.
@@ -126,8 +126,8 @@ fn fault_in_full_table<T: Interfaces>(table: &T, fault: Fault) -> Fault
 }
 
 /// Where the packet of an enhanced packet block of `size` bytes lies, or the first check that it
-/// fails: its interface isn't known (`UnknownInterface`), its data end outside the block
-/// (`BadBody`), its time is out of range (`TimeOutOfRange`).
+/// fails: its interface isn't known (`UnknownInterface`), its data with their padding end outside
+/// the body (`BadBody`), its time is out of range (`TimeOutOfRange`).
 fn enhanced_packet_spans<T: Interfaces>(
     table: &T,
     block: &EnhancedBlock<'_>,
@@ -142,7 +142,7 @@ fn enhanced_packet_spans<T: Interfaces>(
     let Some(interface) = table.get(block.interface) else {
         return Err(Fault::UnknownInterface);
     };
-    // Only whether the data end inside the block; where they lie is told by spans.
+    // Only whether the padded data end inside the body; where the data lie is told by spans.
     block.data()?;
     let time = interface.clock.time_at(block.ticks)?;
     // 0      28 = ENHANCED_DATA     following
@@ -161,8 +161,8 @@ fn enhanced_packet_spans<T: Interfaces>(
 }
 
 /// Where the packet of a simple packet block of `size` bytes lies, one of interface 0 at time 0; or
-/// the first check that it fails: there is no interface (`UnknownInterface`), its data end outside
-/// the block (`BadBody`).
+/// the first check that it fails: there is no interface (`UnknownInterface`), its data with their
+/// padding end outside the body (`BadBody`).
 fn simple_packet_spans<T: Interfaces>(
     table: &T,
     block: &SimpleBlock<'_>,
@@ -175,7 +175,7 @@ fn simple_packet_spans<T: Interfaces>(
     let Some(interface) = table.get(0) else {
         return Err(Fault::UnknownInterface);
     };
-    // Only whether the data end inside the block; where they lie is told by spans.
+    // Only whether the padded data end inside the body; where the data lie is told by spans.
     block.data(interface.snap)?;
     Ok(PacketSpans {
         size,

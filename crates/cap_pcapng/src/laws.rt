@@ -7,13 +7,14 @@ pub fn section_back()
     ensures { SectionBack }
 {}
 
-/// An interface that was written reads back as it was: it gets the next number of its section, and
-/// its ticks are nanoseconds.
+/// An interface that was written reads back as it was, where its section isn't full: it gets the
+/// next number there, and its ticks are nanoseconds.
 pub fn interface_back()
     ensures { InterfaceBack }
 {}
 
-/// A packet that was written reads back as it was: it is the one packet of its block.
+/// A packet that was written with the number of its interface, which was written before, reads back
+/// as it was: it is the one packet of its block.
 pub fn packet_back()
     ensures { PacketBack }
 {}

@@ -27,7 +27,8 @@ pub struct Options<'a> {
 /// An option, with its value lent.
 #[derive(Clone, Copy)]
 pub struct BlockOption<'a> {
-    /// What the option is: 1 for a comment; other codes belong to the type of the block.
+    /// What the option is: 1 for a comment; other codes, but those of custom options, belong to the
+    /// type of the block.
     pub code: u16,
     /// At most 65,535 bytes.
     pub value: &'a [u8],
@@ -45,7 +46,7 @@ pub(crate) fn padded_length(length: u64) -> u64
 impl<'a> Options<'a> {
     ghost use Rattle.cap_pcapng.specs.Comment.{comment_in};
 
-    /// The options that begin with these bytes, none of which is read yet.
+    /// The options in these bytes, none of which is read yet.
     pub(crate) fn new(order: Order, rest: &'a [u8]) -> Self
         ensures order { result.order ≡ order }
         ensures rest { result.rest.now ≡ rest.now }
