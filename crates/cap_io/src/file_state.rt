@@ -14,7 +14,7 @@ use std::alloc::Allocator;
 /// What the units that were read declare of those after them, beside the interfaces of a section.
 #[derive(Clone, Copy)]
 pub enum FileState {
-    /// Nothing was read.
+    /// No unit was read.
     Unknown,
     /// A pcap file with this file header.
     Pcap(Head),
@@ -46,8 +46,8 @@ impl FileState {
     }
 
     /// The packet that lies at these spans of the unit at the start of a buffer, lent from there.
-    /// `None` where nothing was read or the table hasn't its interface, neither of which a source
-    /// with a current packet has.
+    /// `None` where no unit was read or the table hasn't the packet's interface; neither is so of a
+    /// source with a current packet.
     #[inline(always)]
     pub(crate) fn packet<'a, A: Allocator>(
         self,

@@ -11,7 +11,7 @@ pub fn one_cut()
     ensures items { CutTellsItems }
 {}
 
-/// What is written of packets that a format carries reads back as they are.
+/// What is written of one packet or more that a format carries reads back as these packets.
 pub fn items_back()
     ensures { ItemsBack }
 {}

@@ -41,7 +41,8 @@ pub(crate) struct UnitReader<I: Input, A: Allocator> {
     pub(crate) input: I,
     /// What the units so far declare, beside the interfaces of a section.
     pub(crate) file: FileState,
-    /// The current unit is at its start; after that are bytes of earlier ones.
+    /// The current unit is at its start, but the file header of pcap isn't held; the bytes after
+    /// the unit are of no use.
     pub(crate) buffer: Vec<u8, A>,
     /// The interfaces of the current section.
     pub(crate) table: Table<A>,

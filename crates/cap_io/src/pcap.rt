@@ -23,7 +23,8 @@ const RECORD_HEADER_LENGTH: usize = 16;
 const CAPTURED_LENGTH_OFFSET: usize = 8;
 
 /// Reads the file header of pcap, whose first four bytes came already: `NotACaptureFile` where
-/// these are no magic number, before more is read.
+/// these are no magic number, before more is read; else `Truncated` or `ReadFailed` where it
+/// doesn't all come, or the first check that it fails.
 pub(crate) fn read_header<I: Input>(input: &mut I, first: &[u8; 4]) -> Result<Head, Fault>
     requires { is_section first.now ≡ false }
     ensures moves { Moves I.Input input.old input.new 4 (λ _. 24) 24 result }
@@ -43,7 +44,8 @@ pub(crate) fn read_header<I: Input>(input: &mut I, first: &[u8; 4]) -> Result<He
 
 /// The fast way of `next_record`: copies the next record to the start of the buffer and returns its
 /// header, if the device has all of it at hand, the buffer has room for it, and it fails no check.
-/// `None` if not: the device is as before, the buffer may have changed.
+/// `None` if not, or where the device doesn't pass the record: the device has given nothing, the
+/// buffer may have changed.
 #[inline(always)]
 pub(crate) fn take_record<I: Input>(
     input: &mut I,

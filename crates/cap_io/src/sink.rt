@@ -13,9 +13,10 @@ use std::marker::Model;
 pub enum SinkState {
     /// Nothing was put.
     Empty,
-    /// Packets were put, the first with this link type; or none, and the header was written.
+    /// Packets were put, the first with this link type; or none, and `finish` wrote the header for
+    /// this link type.
     Started(u16),
-    /// A call returned this fault, as each later one does.
+    /// A `put` or `finish` returned this fault, as each later one does.
     Broken(Fault),
 }
 
@@ -73,7 +74,8 @@ impl<O: Output, A: Allocator> Sink<O, A> {
     /// pcapng after the description of its interface where that is new.
     ///
     /// On an error it returns the first of these that applies, and nothing of the packet is
-    /// written, except a part of it on `WriteFailed`. Every later call returns the same error.
+    /// written, except a part of it on `WriteFailed`. Every later `put` and `finish` returns the
+    /// same error.
     /// - `LinkTypesDiffer` (pcap forms), `TooLong`, `TimeOutOfRange` (pcap forms),
     ///   `TooManyOutputInterfaces` (pcapng): the format doesn't hold it;
     /// - `NoMemory`: none was left for a new interface (pcapng);
@@ -95,8 +97,8 @@ impl<O: Output, A: Allocator> Sink<O, A> {
     }
 
     /// Writes the file header or section header where nothing was put, with the link type `first`,
-    /// or that of Ethernet where there is none. It takes no memory, and nothing but `into_output`
-    /// is of use after it.
+    /// or that of Ethernet where there is none. It takes no memory, and nothing but `release` and
+    /// `into_output` is of use after it.
     ///
     /// `WriteFailed`: the device failed in this call, after a beginning of the header. After an
     /// error of an earlier call it returns that again.

@@ -150,8 +150,9 @@ impl<I: Input, A: Allocator> Source<I, A> {
         }
     }
 
-    /// Where the current unit begins, in bytes from the start of the file; after a fault, where the
-    /// unit that has it begins; at a clean end, the number of bytes.
+    /// Where the current unit begins, in bytes from the start of the file, and 0 before the first
+    /// `advance`; after a fault, where the unit that has it begins; at a clean end, the number of
+    /// bytes.
     pub fn offset(&self) -> u64
         ensures { result ≡ self.now.offset }
     {
