@@ -50,8 +50,9 @@ impl<I: Input, A: Allocator> Model for InputCursor<I, A> {
 pub enum Schedule {
     /// The inputs come one after another, and it is the turn of the one with this index.
     Turn(usize),
-    /// The packets come by the greatest times. Before one is decided, the inputs with indexes from
-    /// the first number on and below the second are to be read on.
+    /// The packets come by time, of each input the greatest up to and with its current packet.
+    /// Before one is decided, the inputs with indexes from the first number on and below the second
+    /// are to be read on.
     Merge(usize, usize),
 }
 
@@ -62,7 +63,7 @@ pub enum Next {
     Read(usize),
     /// Decides the current packet of an input.
     Decide(usize),
-    /// All inputs are at their ends.
+    /// Finishes: all inputs are at their clean ends.
     Finish,
 }
 
@@ -162,8 +163,9 @@ impl<I: Input, A: Allocator> InputCursor<I, A> {
         self.source.kind()
     }
 
-    /// Where the current unit begins, in bytes from the start of the file; after a fault, where the
-    /// unit that has it begins; at the clean end, the number of bytes.
+    /// Where the current unit begins, in bytes from the start of the file, and 0 before anything is
+    /// read; after a fault, where the unit that has it begins; at the clean end, the number of
+    /// bytes.
     pub fn offset(&self) -> u64
         ensures { result ≡ self.now.source.offset }
     {
@@ -258,8 +260,8 @@ impl<I: Input, A: Allocator> Inputs<I, A> {
         self.cursors.len()
     }
 
-    /// Where the current unit of the input with this index begins, or else its next unit, in bytes;
-    /// 0 where there is no such input.
+    /// The offset of the input with this index, as `InputCursor::offset` has it; 0 where there is
+    /// no such input.
     pub fn offset(&self, input: usize) -> u64
         ensures { result ≡ offset_at self.now.cursors input }
     {
@@ -299,7 +301,7 @@ impl<I: Input, A: Allocator> Inputs<I, A> {
     }
 
     /// Whether the next packet of an input is at hand, so that no read is made for it; `false`
-    /// where that can't be told.
+    /// where that can't be told, or there is no such input.
     // No clause: see `Source::has_next_at_hand`.
     pub fn has_next_at_hand(&self, input: usize) -> bool {
         match self.cursors.get(input) {
@@ -381,9 +383,9 @@ where
 }
 
 /// Updates queue and schedule after the input of an entry was read on. Of a merge the entry is
-/// queued where the read found a packet, and the schedule goes on to the next input; in turn it is
-/// the next input's turn where this one is at its clean end. Where the read failed, nothing
-/// changes: the same read is next.
+/// queued where the read found a packet, and with a packet or without the schedule goes on to the
+/// next input; in turn it is the next input's turn where this one is at its clean end. Where the
+/// read failed, nothing changes: the same read is next.
 fn update_after_read<A: Allocator>(
     queue: &mut Queue<A>,
     schedule: &mut Schedule,
