@@ -17,18 +17,18 @@ const MOST_HEADS: u32 = 0x0010_0000;
 /// top. Those below a mark go by one bit each, of the digest and then of the length, so that no
 /// mark is deeper than it has bits, whoever chooses the packets. Marks are numbered from 1, and a
 /// link is a difference of two numbers: since a mark is newer than those below it, a tree ends by
-/// itself where it leaves the window, and nothing is ever deleted from it.
+/// itself where it leaves the window, and no mark is deleted from it for that.
 #[derive(Drop)]
 pub struct Window<A: Allocator> {
     /// From the oldest to the newest.
     marks: HeapCircularBuffer<Mark, A>,
     /// The links of each mark, at the same place.
     links: HeapCircularBuffer<Links, A>,
-    /// For each hash the number of the newest mark that has it, or 0.
+    /// For each hash the number of the newest mark that has it; 0 is that of none.
     heads: Vec<u32, A>,
     /// One less than the number of heads: the bits of a hash.
     mask: u32,
-    /// The number of the newest mark.
+    /// The number of the newest mark; 0 before the first.
     newest: u32,
 }
 
