@@ -1,7 +1,8 @@
 //! The line of a packet, as docs/LINES.md has it, and what it says of the link header.
 //!
-//! A clause that asks for room in the text, or bounds what is appended, has the most bytes that may
-//! be appended, and some to spare: an address has 17, the name of a link 8, a number ten digits.
+//! A clause that asks for room in the text, or bounds what is appended, counts the most bytes that
+//! may be appended, and may have some to spare: an Ethernet address has 17, the name of a link at
+//! most 8, a number at most ten digits.
 ghost use Rattle.std.specs.Prelude.{◌≡◌, ◌+◌, ◌≤◌, ◌<◌, ◌++◌, IfSome, length};
 ghost use Rattle.cap_octet.specs.Link.{network_offset};
 ghost use Rattle.cap_octet.specs.Packet.{captured};
@@ -46,8 +47,8 @@ fn push_link_text(text: &mut Text, link: Link, bytes: &[u8])
 }
 
 /// Appends what a line says of the header of a link that is known, with its EtherType at
-/// `type_offset`: the link's name alone where it has no EtherType, and `[short]` after the name
-/// where the header isn't all captured.
+/// `type_offset`: the link's name alone where that is `None`, since the link has no EtherType, and
+/// `[short]` after the name where the header isn't all captured.
 #[tactic(auto, unfolding(crate::specs::Line::link_header))]
 fn push_link_header(text: &mut Text, link: Link, type_offset: Option<usize>, bytes: &[u8])
     requires room { length text.old + 60 ≤ 256 }

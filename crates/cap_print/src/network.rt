@@ -203,7 +203,8 @@ fn ports_at(protocol: u8, bytes: &[u8], at: usize) -> Option<(u16, u16)>
 }
 
 /// Appends what a line says of a header of IP: `IP A > B: ` with the protocol, or with `fragment`
-/// of a later one; `IP [short]` where the addresses aren't captured.
+/// where it is a later fragment; `IP [short]` where the addresses aren't all captured. Of IPv6 it
+/// is `IP6`.
 // Inlined with what it calls, so that the version is a constant in each copy.
 #[inline(always)]
 #[tactic(auto, unfolding(crate::specs::Network::ip_part))]
