@@ -3,14 +3,15 @@
 use std::alloc::{AllocError, Allocator};
 use std::cell::Cell;
 
-/// How many growths were asked for, and which one is refused: its number from 1, or 0 for none.
+/// How many growths were asked for since the last `refuse`, and which one is refused: its number
+/// from 1, or 0 for none.
 pub struct Plan {
     growths: Cell<u64>,
     refused: Cell<u64>,
 }
 
-/// An allocator that passes each call on to another one, but refuses one growth. A growth is a call
-/// for memory; one that makes a vector longer is one call.
+/// An allocator that passes each call on to another one, but refuses one growth, or none. A growth
+/// is a call for memory; one that makes a vector longer is one call.
 pub struct Trial<B: Allocator> {
     inner: B,
     plan: Plan,
@@ -34,8 +35,8 @@ impl<B: Allocator> Trial<B> {
         self.plan.refused.set(number);
     }
 
-    /// How many growths were asked for, the refused one among them. The count stays at its greatest
-    /// value.
+    /// How many growths were asked for since the last `refuse`, the refused one among them. The
+    /// count stays at its greatest value.
     pub fn growths(&self) -> u64 {
         self.plan.growths.get()
     }
