@@ -1,6 +1,6 @@
-//! std's buffered readers and writers, with a count of the calls that are made of them. The lines
-//! of `read` and `write` are all that is to be believed of it: they alone count, and each makes its
-//! call.
+//! std's buffered readers and writers, with a count of the reads or writes that are made of them.
+//! The lines of `read` and `write` are all that is to be believed of the count: they alone count,
+//! and each makes its call.
 ghost use Rattle.std.specs.Prelude.{◌≡◌, ◌+◌, [], OnOk, Some, length};
 ghost use Rattle.std.specs.Io.{ReadsAtMost, WritesAtMost};
 ghost use Rattle.std.specs.Io.Buffered.{reader_buffer, reader_remaining};

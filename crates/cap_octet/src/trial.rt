@@ -1,6 +1,6 @@
 //! Devices for tests, over memory: they move a few bytes a call and fail where a test says, and the
-//! input counts its reads. The clauses of a method are those of its trait with this device's ghost
-//! members put in (`tells`, `failures` and so on).
+//! input counts its reads. The first clauses of a method are those of its trait with this device's
+//! ghost members put in (`tells`, `failures` and so on).
 ghost use Rattle.std.specs.Prelude.{◌≡◌, ℕ, ◌+◌, ◌-◌, ◌≤◌, ◌<◌, ◌^◌, IsTrue, List, [], length};
 ghost use Rattle.std.proofs.Common.{rules};
 ghost use Rattle.std.specs.Prelude.{Some, None, true, IfOk, IsErr, OnErr, OnOk, min, is_some};
@@ -73,7 +73,7 @@ impl Input for TrialInput<'_> {
     /// Sure of no byte where a read is to fail, which may be the first; else it never fails.
     ghost sure = { λ s. option_map {U = ℕ} (λ _. 0) s.fails_at };
 
-    /// Gives at most `piece` bytes; fails at its read number `fails_at`, and there alone.
+    /// Gives at most `piece` bytes; fails where `reads` becomes `fails_at`, and there alone.
     fn read(&mut self, buf: &mut [u8]) -> Result<usize, DeviceFault>
         ensures within { IfOk result (λ n. n ≤ length buf.old) }
         ensures counted { ⟦<MemInput<'static> as Input>⟧.given self.new.inner

@@ -10,8 +10,8 @@ pub struct Plan {
     refused: Cell<u64>,
 }
 
-/// An allocator that passes each call on to another one, but refuses one growth, or none. A growth
-/// is a call for memory; one that makes a vector longer is one call.
+/// An allocator that takes its memory from another one, but refuses one growth, or none. A growth
+/// is a call of `allocate`; to make a vector longer, or its memory smaller, is one such call.
 pub struct Trial<B: Allocator> {
     inner: B,
     plan: Plan,
