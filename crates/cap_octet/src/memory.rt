@@ -1,5 +1,5 @@
-//! Devices over memory, which tell their bytes. The first clauses of a method are those of its trait
-//! with this device's ghost members put in (`tells`, `failures` and so on).
+//! Devices over memory, which tell their bytes. The first clauses of a method are those of its
+//! trait with this device's ghost members put in (`tells`, `failures` and so on).
 ghost use Rattle.std.specs.Prelude.{◌≡◌, ℕ, ◌+◌, ◌≤◌, ◌<◌, ◌^◌, IsTrue, List, [], length, take};
 ghost use Rattle.std.specs.Prelude.{if◌then◌else◌};
 ghost use Rattle.std.specs.Prelude.{drop, true, IfOk, None, OnErr, Option, IsOk};

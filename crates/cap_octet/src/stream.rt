@@ -45,7 +45,8 @@ impl<R: Read> StdInput<R> {
     }
 
     /// Makes one read of the reader, whatever its own buffer holds, and returns what that returned;
-    /// but a read that would reach 2^63 bytes in all is a failure, though the reader gave its bytes.
+    /// but a read that would reach 2^63 bytes in all is a failure, though the reader gave the
+    /// bytes.
     // Out of line: std's errors are large, and where `read` copies what the buffer holds, the
     // compiler then sees that no error can come and keeps no room for one.
     #[cold]
