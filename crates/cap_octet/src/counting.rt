@@ -50,7 +50,7 @@ impl<R: Read> CountingReader<R> {
         self.reader.buffer()
     }
 
-    /// Takes `count` bytes of what its buffer holds, without a read. No clause states what happens
+    /// Takes `count` bytes of what its buffer holds, without a read. No clause states what is left
     /// where the buffer holds fewer.
     #[inline(always)]
     pub(crate) fn consume(&mut self, count: usize)
