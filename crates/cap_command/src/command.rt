@@ -60,8 +60,8 @@ pub struct Edit<A: Allocator = Global> {
     pub snap: Option<u32>,
     /// What is done to times.
     pub shift: Shift,
-    /// Where there is one, a packet is left out that is a duplicate within this number of packets
-    /// in a row, itself among them: `LEAST_WINDOW` to `MOST_WINDOW`.
+    /// Where there is one, a packet is left out that is a duplicate within this number of selected
+    /// packets in a row, itself among them: `LEAST_WINDOW` to `MOST_WINDOW`.
     pub window: Option<u32>,
     /// The format that is written.
     pub format: Format,
@@ -89,9 +89,10 @@ pub struct Merge {
 /// Prints a line for each packet that matches, or writes these packets (tcpdump(1) with `-r`).
 #[derive(Drop)]
 pub struct Print<A: Allocator = Global> {
-    /// The filter expression (pcap-filter(7)). All packets match an empty one.
+    /// The filter expression (pcap-filter(7)); empty beside a listing. Else all packets match an
+    /// empty one.
     pub expr: String<A>,
-    /// The bytes of a listing. Where there are some, the packets match that the program accepts
+    /// The bytes of a listing, where there is one: then the packets match that its program accepts
     /// (returns non-zero for).
     pub code: Option<Vec<u8, A>>,
     /// Where there is one, the job ends after this many packets that match, 1 or more.
@@ -117,11 +118,11 @@ impl<A: Allocator> Command<A> {
     /// Whether the command may be run on `inputs` inputs.
     ///
     /// - An edit has one input, at most `MOST_RANGES` ranges, each from 1 on, in order and below
-    ///   2^63, times and spans below 2^63 nanoseconds, packets that keep at least 1 byte, and a
-    ///   window of `LEAST_WINDOW` to `MOST_WINDOW` packets.
+    ///   2^63, and, where it has them, times and a span below 2^63 nanoseconds, a `snap` of at least
+    ///   1 byte, and a window of `LEAST_WINDOW` to `MOST_WINDOW` packets.
     /// - A merge and a report have 1 to `MOST_INPUTS` inputs.
-    /// - A print has one input, no listing beside words, a count of at least 1, and a format only
-    ///   where its lines have neither link headers nor bytes.
+    /// - A print has one input, no listing beside words, a count, if any, of at least 1, and a
+    ///   format only where neither link headers nor bytes are asked for.
     /// - A compilation has no input.
     pub fn is_proper(&self, inputs: usize) -> bool
         ensures { result ≡ is_proper self.now inputs }
@@ -207,8 +208,8 @@ fn allows_window(window: Option<u32>) -> bool
 }
 
 impl<A: Allocator> Edit<A> {
-    /// Whether ranges, times, cut, shift and window keep their bounds, as `Command::is_proper` has
-    /// them.
+    /// Whether ranges, times, `snap`, shift and window keep their bounds, as `Command::is_proper`
+    /// has them.
     fn is_proper(&self) -> bool
         ensures { result ≡ is_proper_edit self.now }
     {

@@ -160,9 +160,9 @@ pub(crate) fn edit_packet<A: Allocator>(
     Ok(mark_and_check_unique(window, packet))
 }
 
-/// A law of the definitions, the contract of a function that does nothing: what passes of an edit,
-/// decided packet by packet, is what is unique of what is selected, as lists. Laws of whole
-/// commands are in `law`.
+/// A law of the definitions, the contract of a function that does nothing: what passes of an edit
+/// of fewer than 2^63 packets, decided packet by packet, is what is unique of what is selected, as
+/// lists. Laws of whole commands are in `law`.
 pub fn edit_passes_unique()
     ensures { PassesUnique }
 {}

@@ -1,5 +1,8 @@
 //! Laws of the definitions: each is the contract of a function that does nothing, or calls a law
 //! that its proof needs.
+//!
+//! Where packets are numbered, by an edit, a filter or a merge, a law is of fewer than 2^63 packets
+//! up to the first fault; a count is 1 or more.
 ghost use Rattle.cap_process.specs.Lists.{CountsAll, EndsWithoutTime, HasLastMarks, PassesFiltered};
 ghost use Rattle.cap_process.specs.Whole.{EditWrites, InfosReports, MergeWrites, PrintLines};
 ghost use Rattle.cap_process.specs.Whole.{PrintWrites, EditKeeps, EditsAlike, MergesOne};
@@ -33,13 +36,15 @@ pub fn edit_ends_without_time()
 {}
 
 /// An edit writes what is unique of what is selected of the packets of its input, up to the first
-/// whose moved time is out of range or that its format refuses.
+/// whose moved time is out of range or that its format refuses; of none, where it ends with status
+/// 0, the start of a file.
 pub fn edit_writes_unique()
     ensures { EditWrites }
 {}
 
 /// A print that writes a capture writes the packets that match, or the first `count` of them, up to
-/// the first that its filter or its format refuses.
+/// the first that its filter or its format refuses; of none, where it ends with status 0, the start
+/// of a file.
 pub fn print_writes_matching()
     ensures { PrintWrites }
 {}
@@ -51,7 +56,7 @@ pub fn print_has_their_lines()
 {}
 
 /// A merge writes the packets of its inputs in its order, up to the first fault of an input, or the
-/// first packet that its format refuses.
+/// first packet that its format refuses; of none, where it ends with status 0, the start of a file.
 pub fn merge_writes_all()
     ensures { MergeWrites }
 {}

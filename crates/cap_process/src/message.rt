@@ -58,8 +58,8 @@ pub fn report_write_failed<O: Output>(output: &mut O, name: &str) -> Result<(), 
     write_parts(output, &parts)
 }
 
-/// Reports that memory ran out before a unit was read, to begin a job or to read its filter. So
-/// there is no input and no offset to name.
+/// Reports that memory ran out before a unit was read: to begin a job, to read its filter, or to
+/// compile its expression. So there is no input and no offset to name.
 pub fn report_no_memory<O: Output>(output: &mut O) -> Result<(), DeviceFault>
     ensures exact { IsTrue O.tells → AppendsOrStops result (O.written output.old) no_memory_message
         (O.written output.new) }

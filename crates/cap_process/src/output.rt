@@ -37,7 +37,7 @@ pub(crate) enum Device<O: Output, A: Allocator> {
     Lines(Options, Text, O),
 }
 
-/// Writes packets into a capture or as lines, or reports as text.
+/// Writes packets into a capture or as lines, or reports or a listing as text.
 #[derive(Drop)]
 pub struct JobOutput<O: Output, A: Allocator> {
     device: Device<O, A>,
@@ -133,7 +133,8 @@ impl<O: Output, A: Allocator> JobOutput<O, A> {
     }
 
     /// Ends what is written: a capture without packets gets its file header, with this link type,
-    /// or 1, that of Ethernet, where there is none.
+    /// or 1, that of Ethernet, where there is none; in pcapng its section header, which has no link
+    /// type.
     pub fn finish(&mut self, first_link: Option<u16>) -> Result<(), DeviceFault>
         ensures exact { IsTrue O.tells → EndsOutput first_link self.old result self.new }
         ensures room { room_to self.new ≡ room_to self.old }
@@ -198,7 +199,7 @@ fn put_listing<O: Output, A: Allocator>(
 }
 
 /// Ends a capture, which gets its file header here where it has no packets, with the link type
-/// `first_link`, or that of Ethernet where there is none.
+/// `first_link`, or that of Ethernet where there is none; in pcapng its section header.
 fn end_capture<O: Output, A: Allocator>(
     sink: &mut Sink<O, A>,
     first_link: Option<u16>,

@@ -42,7 +42,7 @@ pub enum Verdict {
 #[derive(Drop)]
 pub enum Policy<A: Allocator> {
     Edit(Edit<A>),
-    /// What matches passes; with a number, no more than that many packets.
+    /// What matches passes; with a number, 1 or more, no more than that many packets.
     Filter(Filter<A>, Option<u64>),
     KeepAll,
     /// All are counted, and none passes.
@@ -53,7 +53,7 @@ pub enum Policy<A: Allocator> {
 #[derive(Drop)]
 pub struct Selector<A: Allocator> {
     policy: Policy<A>,
-    /// Where duplicates are searched for.
+    /// Where duplicates are searched for; `None` where they aren't.
     window: Option<Window<A>>,
     /// How many packets passed so far.
     passed: u64,
@@ -163,7 +163,8 @@ impl<A: Allocator> Policy<A> {
         matches!(self, Policy::Count)
     }
 
-    /// After how many packets that pass nothing more is read; `None` where all packets are read.
+    /// After how many packets that pass, 1 or more, nothing more is read; `None` where all packets
+    /// are read.
     fn count_limit(&self) -> Option<u64>
         ensures { result ≡ count_limit (policy_of self.now) }
     {
@@ -186,7 +187,7 @@ impl<A: Allocator> Selector<A> {
     ghost use Rattle.cap_process.specs.Selector.{spent_by_verdict};
     ghost use Rattle.cap_process.specs.inside.Selector.{state_with};
 
-    /// A selector of which no packet was judged yet. Where it looks for duplicates it takes the
+    /// A selector by which no packet was judged yet. Where it looks for duplicates it takes the
     /// memory of their window here; the error means that memory ran out.
     pub fn new(alloc: A, policy: Policy<A>) -> Result<Self, AllocError>
     where
@@ -207,8 +208,8 @@ impl<A: Allocator> Selector<A> {
         })
     }
 
-    /// A selector by a filter, of which no packet was judged yet. After `count` packets that pass,
-    /// where there is a number, nothing more is read. It takes no memory.
+    /// A selector by a filter, by which no packet was judged yet. After `count` packets that pass, 1
+    /// or more, nothing more is read; without a `count` all are. It takes no memory.
     pub fn filtering(filter: Filter<A>, count: Option<u64>) -> Self
         ensures { result ≡ record {
           policy = AskedFilter (rule_of filter) count;
@@ -225,9 +226,9 @@ impl<A: Allocator> Selector<A> {
         }
     }
 
-    /// What becomes of the packet with this number, from 1 on in the job's order; it is changed
-    /// into what it passes as. The errors are `TooManyPackets`, from number 2^63 on,
-    /// `LinkTypeNotFiltered` and `TimeOutOfRange`.
+    /// What becomes of the packet with this number, from 1 on in the job's order; one that passes
+    /// is changed into what it passes as. The errors are `TooManyPackets`, from number 2^63 on,
+    /// `LinkTypeNotFiltered` and `TimeOutOfRange`. Where packets are only counted there is none.
     pub fn judge(&mut self, number: u128, packet: &mut Packet<'_>) -> Result<Verdict, Fault>
     where
         A: Copy + Drop,

@@ -14,7 +14,7 @@ pub struct Tally {
     /// The least and the greatest time, in nanoseconds since 1970; 0 without packets.
     pub(crate) least: u64,
     pub(crate) greatest: u64,
-    /// The time of the last packet.
+    /// The time of the last packet; 0 without packets.
     pub(crate) last: u64,
     /// Whether no time is less than the one before it.
     pub(crate) ascends: bool,
@@ -70,8 +70,9 @@ impl Tally {
         }
     }
 
-    /// The tally with one packet more. It is exact while its sums are below 2^127 (`FitsTally`), as
-    /// those of every job are; beyond they would stop at the greatest number, and not overflow.
+    /// The tally with one packet more. It is exact while the count and the sums before it are below
+    /// 2^127 (`FitsTally`), as those of every job are; a sum that doesn't fit its 128 bits would
+    /// stop at the greatest number, and not overflow.
     pub fn counted(self, packet: &Packet<'_>) -> Self
         ensures counted { FitsTally self → result ≡ tally_with self (captured packet.now) }
         ensures count { result.count ≤ self.count + 1 }

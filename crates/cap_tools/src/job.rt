@@ -39,7 +39,7 @@ pub enum Turn {
 #[derive(Drop)]
 pub struct Job<I: Input, O: Output, E: Output, A: Allocator> {
     alloc: A,
-    /// What is done before the first packet. `None` once it is done.
+    /// What is done before the first packet. `None` where nothing is, and once it is done.
     preparation: Option<Preparation<A>>,
     inputs: Inputs<I, A>,
     selector: Selector<A>,
@@ -236,7 +236,7 @@ impl<I: Input, O: Output, E: Output, A: Allocator + Copy + Drop> Job<I, O, E, A>
     /// One step of a job that has nothing to prepare any more: reads one input on, decides one
     /// packet or ends the output, and reports how the job ended where it did. After the end it
     /// returns the status again, and does nothing.
-    // It runs twice for each packet; being inlined there saves about 70 instructions.
+    // It runs twice for each packet; being inlined in `step` saves about 70 instructions.
     #[inline(always)]
     fn step_prepared(&mut self) -> Turn
         requires { self.old.preparing ≡ None }
@@ -274,7 +274,7 @@ impl<I: Input, O: Output, E: Output, A: Allocator + Copy + Drop> Job<I, O, E, A>
     }
 
     /// Decides the current packet of an input. It returns the end where the job ends here: after
-    /// the last packet that passes, or where the packet is refused or can't be written.
+    /// the last packet that may pass, or where the packet is refused or can't be written.
     fn decide_next(&mut self, input: usize) -> Option<JobEnd>
         requires prepared { self.old.preparing ≡ None }
         requires next { input_spec.IsNext self.old.state.inputs (Next.Decide input) }
@@ -382,7 +382,8 @@ impl<I: Input, O: Output, E: Output, A: Allocator + Copy + Drop> Job<I, O, E, A>
         Turn::Done(status)
     }
 
-    /// From here on packets are judged by this filter, up to `count` that pass. It is one step.
+    /// From here on packets are judged by this filter, up to `count` that pass, or all where there
+    /// is no `count`. It is one step.
     fn install_filter(&mut self, filter: Filter<A>, count: Option<u64>) -> Turn
         requires fresh { IsFresh self.old }
         requires taken { self.old.preparing ≡ None }
@@ -467,9 +468,10 @@ impl<I: Input, O: Output, E: Output, A: Allocator + Copy + Drop> Job<I, O, E, A>
 }
 
 /// Runs a proper command. `names` are those of the inputs, then of the output. It returns the
-/// status, 0 where all went well, 1 where a fault was reported, 2 where an expression or a listing
-/// is refused, and hands back the output and the messages' device. Where there is no memory to
-/// begin it nothing was read or written but a message. A message that can't be written is lost.
+/// status, 0 where all went well, 1 after a fault, a failed write or a lack of memory, 2 where an
+/// expression or a listing is refused, and hands back the output and the messages' device. Where
+/// there is no memory to begin the job, nothing was read, and nothing written but a message. A
+/// message that can't be written is lost.
 pub fn run<I, O, E, A>(
     alloc: A,
     command: Command<A>,

@@ -20,7 +20,7 @@ pub enum JobEnd {
     /// All is written.
     Complete,
     /// By this fault the input with this index ends at its offset, or its current packet is
-    /// refused.
+    /// refused, or there was no memory to write that.
     FaultIn(usize, Fault),
     /// The output's device failed.
     OutputFailed,
@@ -126,7 +126,7 @@ pub(crate) fn close<I: Input, O: Output, E: Output, A: Allocator>(
 }
 
 /// How a job ends whose current packet, of this input, was not decided: the output's device failed,
-/// or the packet is refused by this fault.
+/// or the packet has this fault (it is refused, or there was no memory to write it).
 pub(crate) fn end_of_failed_write(input: usize, fault: Fault) -> JobEnd
     ensures { result ≡ end_of_failed_write input fault }
 {
