@@ -118,7 +118,7 @@ impl<A: Allocator> Command<A> {
     /// Whether the command may be run on `inputs` inputs.
     ///
     /// - An edit has one input, at most `MOST_RANGES` ranges, each from 1 on, in order and below
-    ///   2^63, and, where it has them, times and a span below 2^63 nanoseconds, a `snap` of at least
+    ///   2^63, and where it has them, times and a span below 2^63 nanoseconds, a `snap` of at least
     ///   1 byte, and a window of `LEAST_WINDOW` to `MOST_WINDOW` packets.
     /// - A merge and a report have 1 to `MOST_INPUTS` inputs.
     /// - A print has one input, no listing beside words, a count, if any, of at least 1, and a

@@ -1,8 +1,9 @@
 //! Laws of the definitions: each is the contract of a function that does nothing, or calls a law
 //! that its proof needs.
 //!
-//! Where packets are numbered, by an edit, a filter or a merge, a law is of fewer than 2^63 packets
-//! up to the first fault; a count is 1 or more.
+//! What an edit, a filter or a merge passes or writes is stated where fewer than 2^63 packets come
+//! before the first fault of an input, since a packet's number is below that. A `count` is 1 or
+//! more.
 ghost use Rattle.cap_process.specs.Lists.{CountsAll, EndsWithoutTime, HasLastMarks, PassesFiltered};
 ghost use Rattle.cap_process.specs.Whole.{EditWrites, InfosReports, MergeWrites, PrintLines};
 ghost use Rattle.cap_process.specs.Whole.{PrintWrites, EditKeeps, EditsAlike, MergesOne};

@@ -16,7 +16,7 @@ use itoa::Buffer;
 /// What is reported of a file.
 #[derive(Clone, Copy)]
 pub struct Report {
-    /// Its format, by its first bytes; `None` where they are of no format.
+    /// Its format, by its first bytes; `None` where no unit was read, but then nothing is reported.
     pub kind: Option<Kind>,
     /// Its size in bytes.
     pub size: u64,

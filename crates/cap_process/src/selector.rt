@@ -208,8 +208,8 @@ impl<A: Allocator> Selector<A> {
         })
     }
 
-    /// A selector by a filter, by which no packet was judged yet. After `count` packets that pass, 1
-    /// or more, nothing more is read; without a `count` all are. It takes no memory.
+    /// A selector by a filter, by which no packet was judged yet. After `count` packets that pass,
+    /// 1 or more, nothing more is read; without a `count` all are. It takes no memory.
     pub fn filtering(filter: Filter<A>, count: Option<u64>) -> Self
         ensures { result ≡ record {
           policy = AskedFilter (rule_of filter) count;

@@ -54,7 +54,8 @@ impl<E: Output, A: Allocator> Messages<E, A> {
         Messages { device, names }
     }
 
-    /// The name of an input, or of the output after them; empty where there is none.
+    /// The name of the input with this index, or of the output, whose index is that after the
+    /// inputs'; empty where there is none.
     pub fn name(&self, index: usize) -> &str
         ensures { result.now ≡ name_at self.now.names index }
     {

@@ -18,8 +18,8 @@ use capkit_args::ids;
 use clap::ArgMatches;
 use std::alloc::Global;
 
-/// The ranges that the words name, at most `MOST_RANGES` (512). An error is the first of these:
-/// there are more (`TooManyValues`), a word is no range (`BadRange`), or memory ran out.
+/// The ranges that the words name, at most `MOST_RANGES` (512). An error is that memory ran out, or
+/// else the first of these: there are more (`TooManyValues`), or a word is no range (`BadRange`).
 fn ranges_in(alloc: Global, words: &[&str]) -> Result<Vec<(u64, u64)>, Usage>
     ensures ranges { IfOk result (λ ranges. map Some ranges.items
         ≡ map range_of (map (λ word. word.now) words.now)) }

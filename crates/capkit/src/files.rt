@@ -40,8 +40,8 @@ pub fn copies_of_texts(alloc: Global, names: &[&str]) -> Result<Vec<String>, All
 }
 
 /// The names of the inputs, copied, of a command that writes `output`, if it has one. An error is
-/// the first of these: there are more than `MOST_INPUTS` (`TooManyValues`), a name is used twice
-/// (`NameUsedTwice`), or memory ran out.
+/// that memory ran out, or else the first of these: there are more than `MOST_INPUTS`
+/// (`TooManyValues`), or a name is used twice (`NameUsedTwice`).
 pub fn input_names(
     alloc: Global,
     matches: &ArgMatches<'_>,

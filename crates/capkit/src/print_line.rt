@@ -44,8 +44,8 @@ fn copy_of_text(alloc: Global, text: Option<&str>) -> Result<Option<String>, All
     }
 }
 
-/// Whether a print uses a name twice: its output is its capture or its listing too, or both of
-/// these are standard input.
+/// Whether a print uses a name twice: its output, unless it is standard output, is its capture or
+/// its listing too, or both of these are standard input.
 fn print_uses_name_twice(input: &str, listing: Option<&str>, output: Option<&str>) -> bool
     ensures { result ≡ uses_name_twice
         (input.now ∷ option_to_list (option_map (λ name. name.now) listing.entry))

@@ -42,7 +42,7 @@ fn range_sides<'a>(word: &'a str) -> (&'a str, &'a str)
 }
 
 /// The range that a word names: `N`, or `N-M` from N to M, in decimal digits alone, with 1 <= N <=
-/// M < 2^63.
+/// M < 2^63. `None` of any other word.
 pub fn range_in(word: &str) -> Option<(u64, u64)>
     ensures value { result ≡ range_of word.now }
     ensures written { IfSome result (WritesRange word.now) }

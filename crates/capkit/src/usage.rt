@@ -8,7 +8,8 @@ use thiserror::Error;
 /// Why words are no command line. Its text is what a message calls it.
 #[derive(Debug, Drop, Error)]
 pub enum Usage {
-    /// clap refuses the words, or handles a request for help.
+    /// clap refuses the words, also for lack of memory, or handles a request for help or the
+    /// version.
     #[error(transparent)]
     Refused(clap::Error),
     /// There are more than 512 ranges, or more than 256 inputs.
@@ -23,10 +24,11 @@ pub enum Usage {
     /// Options exclude each other, or a listing excludes the words of an expression.
     #[error("options exclude each other")]
     OptionsExclude,
-    /// The output is an input too, or standard input is two of them.
+    /// The output, unless it is standard output, is an input or the listing too, or standard input
+    /// is two of these. capkit_host returns it also where they are one file by different names.
     #[error("name used twice")]
     NameUsedTwice,
-    /// No memory was left for the line.
+    /// No memory was left for the words or the line; of clap's own lack of it `Refused` tells.
     #[error("no memory")]
     Memory,
 }

@@ -24,7 +24,8 @@ fn bound_of_text(alloc: Global, text: &[u8]) -> Result<usize, Failure>
 }
 
 /// How many instructions the program of an expression has at most, for every link type. By 0
-/// `number` is that bound, from 2 to 32,768; by any other status it says where the text is wrong.
+/// `number` is that bound, from 2 to 32,768; by any other status it says where the text is wrong,
+/// or is 0 where the failure has no place.
 #[unsafe(no_mangle)]
 pub extern "C" fn capkit_bound(alloc: Global, text: &[u8], number: &mut usize) -> u32
     ensures { BoundLeaves text.now number.new result }

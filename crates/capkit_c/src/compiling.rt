@@ -19,7 +19,7 @@ const DLT_RAW: u16 = 12;
 pub enum Failure {
     /// The text is refused, or there was no memory.
     Text(ExprFault),
-    /// The text isn't UTF-8 from this byte on, from 1.
+    /// The text isn't UTF-8 from this byte on, counted from 1.
     NotUtf8(usize),
     /// Expressions aren't read on packets of this link type.
     LinkType,
@@ -131,7 +131,7 @@ impl Failure {
 ///
 /// By 0 `number` is the count of instructions, which stand at the start of `insns`; what is after
 /// them stays. By any other status `insns` is unchanged, and `number` says where the text is wrong
-/// or how many instructions there are.
+/// or how many instructions there are, or is 0 where the failure has neither.
 #[unsafe(no_mangle)]
 pub extern "C" fn capkit_compile(
     alloc: Global,

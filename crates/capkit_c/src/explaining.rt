@@ -34,7 +34,7 @@ fn meaning_of(alloc: Global, text: &[u8]) -> Result<String, Failure>
 /// Puts what an expression means into a buffer, as far as there is room: the expression again, in
 /// parentheses by its tree, with every qualifier written out. By 0 `number` is the length of the
 /// whole text; by any other status the buffer is unchanged, and `number` says where the text is
-/// wrong.
+/// wrong, or is 0 where the failure has no place.
 #[unsafe(no_mangle)]
 pub extern "C" fn capkit_explain(
     alloc: Global,

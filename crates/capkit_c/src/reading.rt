@@ -70,8 +70,8 @@ pub extern "C" fn capkit_next(
 }
 
 /// Puts the comment of the packet that this reader found last into a buffer (`put_text`), and gives
-/// the comment's length; 0 if the packet has none. Of the reader it needs the byte order alone, so
-/// the clauses hold whatever the table of interfaces is.
+/// the comment's length; 0 if the packet has none. Of the reader it needs the form and the byte
+/// order alone, so the clauses hold whatever the table of interfaces is.
 #[unsafe(no_mangle)]
 pub extern "C" fn capkit_comment(
     reader: &Reader,

@@ -16,7 +16,8 @@ pub(crate) const FOUND: u32 = 200;
 /// The version of the library.
 const VERSION: [u8; 3] = [0, 1, 0];
 
-/// What a status of a compilation is called, as a message has it; empty where none has the number.
+/// What a status of a compilation is called, as a message has it; empty of 0, by which there is a
+/// program, and where no status has the number.
 fn status_text(status: u32) -> &'static str
     ensures { result.now ≡ status_text status }
 {
@@ -112,7 +113,7 @@ fn found_text(number: u32) -> &'static str
     }
 }
 
-/// What any number is called that a call may return; empty where none returns it.
+/// What any number is called that a call may return; empty of 0, and where none returns it.
 fn number_text(number: u32) -> &'static str
     ensures { result.now ≡ number_text number }
 {

@@ -15,8 +15,8 @@ use std::alloc::Global;
 use std::io::{self, BufWriter, ErrorKind, Write};
 
 /// Ends a run that the job ended with `status`: writes what is buffered to the output of the name
-/// `output`, tells the run's message, and returns the status of the run. An error is a failure of
-/// that last write, which is still to be told.
+/// `output`, tells the run's message, and returns the status of the run. An error is that what is
+/// buffered couldn't be written, which is still to be told.
 pub fn finish<'a, W: Write + Drop>(
     alloc: Global,
     status: u8,
@@ -103,7 +103,7 @@ fn status_after_writes(
 /// and why the write of what was buffered did; `None` where it didn't. The error is a failure of
 /// the latter, which is still to be told.
 ///
-/// Where the reader of a pipe went away, as of `| head`, it isn't told that the rest can't be
+/// Where the reader of a pipe went away, as of `| head`, no message says that the rest can't be
 /// written.
 pub fn tell_end<'a, W: Write>(
     alloc: Global,

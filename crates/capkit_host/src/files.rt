@@ -13,8 +13,9 @@ pub struct Identity {
 
 /// Where files are looked up: the system, or what a test has in its place.
 pub trait Identify {
-    /// The identity of the plain file that this path leads to, through links. `None` where there is
-    /// no file, and of a terminal, a pipe or another device: these can be read and written at once.
+    /// The identity of the plain file that this path leads to, through links. `None` where no file
+    /// can be looked up, of a directory, and of a terminal, a pipe or another device: these three
+    /// can be read and written at once.
     fn identity_of(&self, path: &str) -> Option<Identity>;
 }
 

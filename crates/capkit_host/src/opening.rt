@@ -18,8 +18,8 @@ use std::io::{self, BufReader, BufWriter, ErrorKind, Read};
 /// The bytes of the buffer before each input and the output.
 const BUFFER: usize = 65_536;
 
-/// The bytes of the buffer before an output that is written out before each read. What a full
-/// buffer of an input becomes is a few times as long at most, so that no packet is written in two
+/// The bytes of the buffer before an output that is written out before each read that may wait.
+/// What a full buffer of an input becomes mostly fits it, so that few packets are written in two
 /// parts.
 const AWAITED_BUFFER: usize = 1_048_576;
 
@@ -100,7 +100,8 @@ pub fn open_inputs<'a, 'p>(
 }
 
 /// Creates the output of this name. A file that is there is opened, and keeps its bytes until the
-/// first write or the end of the run. The one error is `CannotCreate`.
+/// first write or the end of the run, or for good where nothing runs or the run is refused. The one
+/// error is `CannotCreate`.
 pub fn create_output<'a>(rt: &HostRuntime, name: &'a str) -> Result<Created, Stop<'a>> {
     match Created::create(rt, name) {
         Ok(created) => Ok(created),
@@ -108,8 +109,9 @@ pub fn create_output<'a>(rt: &HostRuntime, name: &'a str) -> Result<Created, Sto
     }
 }
 
-/// The output with its buffer: none on a terminal; one that is written out before each read where a
-/// read may wait; else one that is written out when it is full. An error means that memory ran out.
+/// The output with its buffer: none on a terminal; where a read may wait, one that is written out
+/// before each such read; else one that is written out when it is full. An error means that memory
+/// ran out.
 pub fn buffer_output<'a>(
     rt: &HostRuntime,
     created: Created,

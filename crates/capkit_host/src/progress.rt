@@ -13,8 +13,8 @@ const FIRST_SHOWN: u64 = 2;
 /// The bytes of a MiB.
 const MIB: u64 = 1_048_576;
 
-/// The size of all files of these names, in bytes. 0 where one is no plain file, so that its size
-/// isn't known.
+/// The size of all files of these names, in bytes. 0 where one is standard input or no plain file,
+/// so that its size isn't known.
 pub fn total_size(rt: &HostRuntime, names: &[String]) -> u64 {
     let mut total: u64 = 0;
     for name in names {
@@ -135,8 +135,8 @@ impl<'a> Progress<'a> {
         self.start.is_some()
     }
 
-    /// Counts bytes that were read just now, and shows progress on standard error if it is due; but
-    /// not from the background, where the line could meet what is typed.
+    /// Where progress may be shown, counts bytes that were read just now, and shows it on standard
+    /// error if it is due; but not from the background, where the line could meet what is typed.
     fn count(&self, bytes: usize) {
         if let Some(start) = self.start {
             let elapsed = start.elapsed(self.rt);

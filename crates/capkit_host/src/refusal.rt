@@ -32,7 +32,7 @@ pub fn tell_refusal(rt: &(impl AllocGlobal + Print + Errors), error: &clap::Erro
 }
 
 /// Reports why words are no command line, or prints what the user asked to know of it, and returns
-/// whether such an answer could be written.
+/// whether such an answer could be written; true where none is asked.
 fn tell_usage(rt: &(impl AllocGlobal + Print + Errors), usage: &Usage) -> bool {
     match usage {
         Usage::Refused(error) if error.use_stderr() => tell_refusal(rt, error),
@@ -43,8 +43,9 @@ fn tell_usage(rt: &(impl AllocGlobal + Print + Errors), usage: &Usage) -> bool {
     true
 }
 
-/// The status of words that are no command line: 2, or 1 of `Usage::Memory`. Of a request, as for
-/// help, it is 0 where the answer could be written, and else 1.
+/// The status of words that are no command line: 2, also where clap ran out of memory, or 1 of
+/// `Usage::Memory`. Of a request for help or the version it is 0 where the answer could be written,
+/// and else 1.
 fn status_of(usage: &Usage, is_written: bool) -> u8
     ensures { result ≡ status_of usage.now is_written }
 {

@@ -89,7 +89,8 @@ fn with_output_name(
 }
 
 /// Opens the inputs in order, creates the output, runs the command, and returns its status. Where
-/// something can't be opened or created it reports that, runs nothing, and returns 1.
+/// something can't be opened or created, or memory runs out for that, it reports so, runs nothing,
+/// and returns 1.
 pub fn run_command<J: Engine>(
     rt: &HostRuntime,
     command: Command,
@@ -124,8 +125,9 @@ fn output_name(output: &Option<String>) -> &str
 /// Runs the command of the line over the files and streams that its names mean, and returns its
 /// status, 0, 1 or 2.
 ///
-/// The listing is read, then the inputs are opened in order, then the output is created, then the
-/// command runs. The first of these that can't be done is reported, and the status is 1.
+/// The listing is read, if one is named, then the inputs are opened in order, then the output is
+/// created, then the command runs. The first step before the command's that can't be done is
+/// reported; then the command doesn't run, and the status is 1.
 pub fn run<J: Engine>(rt: &HostRuntime, line: Line) -> u8
     requires { is_ready line ≡ true }
     ensures { result ≤ 2 }

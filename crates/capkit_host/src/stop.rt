@@ -9,7 +9,7 @@ use std::fmt;
 /// Why a command was not run to its end.
 #[derive(Drop)]
 pub enum Stop<'a> {
-    /// The input of this name can't be opened.
+    /// The input of this name can't be opened, or the listing of this name can't be opened or read.
     CannotOpen(&'a str),
     /// The output of this name can't be created.
     CannotCreate(&'a str),

@@ -76,8 +76,8 @@ impl Created {
 }
 
 impl<S> Created<S> {
-    /// Removes what a plain file held before it was opened, once: later calls do nothing. The error
-    /// is the system's.
+    /// Removes what a plain file held before it was opened, once: after a call without an error
+    /// later ones do nothing. The error is the system's.
     ///
     /// A device and a pipe hold nothing that could be removed.
     pub(crate) fn empty(&mut self) -> io::Result<()>
@@ -111,7 +111,8 @@ impl<S> Created<S> {
 }
 
 impl<S: Write> Write for Created<S> {
-    /// One write. Before the first one, what a file held before it was opened is removed.
+    /// One write. Before the first one, what a plain file held before it was opened is removed;
+    /// where it can't be, that is the error, and nothing is written.
     fn write(&mut self, buf: &[u8]) -> io::Result<usize>
         ensures bound { WritesAtMost result buf.now }
         ensures bytes { WriteAppends None None result buf.now }

@@ -26,8 +26,8 @@ pub(crate) enum Buffering {
     WhenFull,
 }
 
-/// When the buffer of an output is written out: at once on a terminal, before reads where one may
-/// wait.
+/// When the buffer of an output is written out: at once on a terminal; else before reads where one
+/// may wait; else when it is full.
 pub(crate) fn buffering_of(is_terminal: bool, may_wait: bool) -> Buffering
     ensures terminal { is_terminal ≡ true → result ≡ Buffering.AtOnce }
     ensures read { is_terminal ≡ false → may_wait ≡ true → result ≡ Buffering.BeforeReads }

@@ -285,7 +285,8 @@ fn bytes_at(text: &[u8], at: usize, length: u32) -> &[u8]
 }
 
 /// The comment of the packet that this reader found last; empty if it has none. Of the reader it
-/// needs the byte order alone, so the clause holds whatever the table of interfaces is.
+/// needs the form and the byte order alone, so the clause holds whatever the table of interfaces
+/// is.
 pub fn comment_of<'a>(reader: &Reader, capture: &'a [u8], packet: &Packet) -> &'a [u8]
     ensures { (table : List Interface) → result.now ≡ comment_by (declared_in reader.now table)
         (take packet.now.options_length (drop packet.now.options_at capture.now)) }
