@@ -133,8 +133,9 @@ fn mark_and_check_unique<A: Allocator>(window: &mut Option<Window<A>>, packet: &
 }
 
 /// Edits a packet, and returns whether it passes: it is selected by its number and its time, and no
-/// duplicate once its bytes are cut. One that passes is changed into what it passes as. The one
-/// error is `TimeOutOfRange`: its time, moved, is before 1970, or 2^63 nanoseconds or more.
+/// duplicate once its bytes are cut. One that passes is changed into what it passes as; so is a
+/// duplicate, which no clause states. The one error is `TimeOutOfRange`: the time of a selected
+/// packet, moved, is before 1970, or 2^63 nanoseconds or more.
 pub(crate) fn edit_packet<A: Allocator>(
     edit: &Edit<A>,
     window: &mut Option<Window<A>>,

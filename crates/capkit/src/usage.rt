@@ -25,7 +25,8 @@ pub enum Usage {
     #[error("options exclude each other")]
     OptionsExclude,
     /// The output, unless it is standard output, is an input or the listing too, or standard input
-    /// is two of these. capkit_host returns it also where they are one file by different names.
+    /// is two of these. capkit_host returns it also where the output is one of their files by
+    /// another name.
     #[error("name used twice")]
     NameUsedTwice,
     /// No memory was left for the words or the line; of clap's own lack of it `Refused` tells.

@@ -19,7 +19,7 @@ const WORDS: u32 = 16;
 const SIGN_BIT: u32 = 0x8000_0000;
 
 /// Whether X, the index register, holds less than 2^31 after an instruction if it does before it: X
-/// isn't loaded from memory, from the packet's length or from A, and with no constant from 2^31 on.
+/// isn't loaded from memory, from the packet's length or from A, nor with a constant from 2^31 on.
 fn keeps_x_small(insn: &Insn) -> bool
     ensures { result ≡ keeps_x_small insn.now }
 {
@@ -131,8 +131,9 @@ fn no_word_read_unwritten(insns: &[Insn]) -> bool
     all
 }
 
-/// 1 where a valid program returns the same on libpcap's machine and on Linux's, as far as its
-/// instructions tell; 0 where it may not, or has over 4,096 instructions.
+/// 1 where a valid program returns the same as here on libpcap's machine and, of packets that are
+/// captured whole, on Linux's, as far as its instructions tell; 0 where it may not, or has over
+/// 4,096 instructions.
 #[unsafe(no_mangle)]
 pub extern "C" fn capkit_is_portable(insns: &[Insn]) -> u32
     ensures { result ≡ is_portable insns.now }

@@ -67,8 +67,8 @@ fn message_line(message: &[u8]) -> Option<&str>
     }
 }
 
-/// Writes the message of a run, if there is one, with its control characters as numbers, by one
-/// call. One that can't be written is lost.
+/// Writes the message of a run, if there is one (`message_line`), with its control characters as
+/// numbers, by one call where there is memory for the line. One that can't be written is lost.
 fn tell_message<W: Write>(alloc: Global, errors: &mut W, message: &[u8]) {
     if let Some(text) = message_line(message) {
         let _ = match format!(in alloc; "{}\n", Shown { text }) {

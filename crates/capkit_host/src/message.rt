@@ -1,12 +1,12 @@
-//! Messages: no control character of a name reaches the terminal, and each is written by one call,
-//! so that those of runs side by side don't mix.
+//! Messages: no control character of a name reaches the terminal, and each is written by one call
+//! where there is memory for its line, so that those of runs side by side don't mix.
 
 use crate::hints::{add_commands, hint_for_refusal};
 use std::alloc::{AllocError, Allocator, Global};
 use std::{fmt, io};
 
-/// What clap's advice to pass a word after `--` begins with. The advice fails, since that word is no
-/// name of a file, and no range or part of an expression either.
+/// What clap's advice to pass a word after `--` begins with. The advice fails, since that word is
+/// no name of a file, and no range or part of an expression either.
 const VALUE_TIP: &str = "  tip: to pass '";
 
 /// What each line of clap's advice begins with.
