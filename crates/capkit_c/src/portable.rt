@@ -18,8 +18,9 @@ const WORDS: u32 = 16;
 /// sum doesn't wrap.
 const SIGN_BIT: u32 = 0x8000_0000;
 
-/// Whether X, the index register, holds less than 2^31 after an instruction if it does before it: X
-/// isn't loaded from memory, from the packet's length or from A, nor with a constant from 2^31 on.
+/// Whether X, the index register, is sure to hold less than 2^31 after an instruction if it does
+/// before it: X isn't loaded from memory, from the packet's length or from A, nor with a constant
+/// from 2^31 on.
 fn keeps_x_small(insn: &Insn) -> bool
     ensures { result ≡ keeps_x_small insn.now }
 {
@@ -30,8 +31,9 @@ fn keeps_x_small(insn: &Insn) -> bool
     }
 }
 
-/// Whether an instruction does the same on Linux's and libpcap's machines as on the one here, where
-/// `small` says that X is below 2^31. `docs/LIBRARY.md` (Programs elsewhere) has what is different.
+/// Whether an instruction is sure to do the same on Linux's and libpcap's machines as on the one
+/// here, where `small` says that X is below 2^31, and memory isn't looked at. `docs/LIBRARY.md`
+/// (Programs elsewhere) has what is different.
 fn runs_alike(insn: &Insn, small: bool) -> bool
     ensures { result ≡ runs_alike small insn.now }
 {
@@ -47,16 +49,16 @@ fn runs_alike(insn: &Insn, small: bool) -> bool
     }
 }
 
-/// Whether X holds less than 2^31 throughout each run: it is 0 first, and every instruction keeps
-/// it so.
+/// Whether X is sure to hold less than 2^31 throughout each run: it is 0 first, and every
+/// instruction keeps it so.
 fn all_keep_x_small(insns: &[Insn]) -> bool
     ensures { result ≡ list_all keeps_x_small insns.now }
 {
     insns.iter().all(|insn| keeps_x_small(insn))
 }
 
-/// Whether every instruction does the same on libpcap's and Linux's machines, where `small` says
-/// that X is below 2^31 throughout.
+/// Whether every instruction is sure to do the same on libpcap's and Linux's machines, where
+/// `small` says that X is below 2^31 throughout, and memory isn't looked at.
 fn all_run_alike(insns: &[Insn], small: bool) -> bool
     ensures { result ≡ list_all (runs_alike small) insns.now }
 {
@@ -119,7 +121,7 @@ fn may_read_unwritten(insns: &[Insn], word: u32) -> bool
     is_live_at(marks, 0)
 }
 
-/// Whether no run reads a word of memory before it writes it.
+/// Whether it is sure, by the jumps alone, that no run reads a word of memory before it writes it.
 fn no_word_read_unwritten(insns: &[Insn]) -> bool
     requires { length insns.now ≤ MOST_ATTACHED }
     ensures { result ≡ none_read_unwritten WORDS insns.now }
