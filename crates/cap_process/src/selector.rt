@@ -26,7 +26,8 @@ use cap_window::Window;
 use std::alloc::{AllocError, Allocator};
 use std::marker::Model;
 
-/// The first number that no packet can have, 2^63, as a job counts: in 128 bits.
+/// The number from which on a packet is refused, 2^63, as a job counts: in 128 bits. Packets that
+/// are only counted never are.
 const NUMBER_END: u128 = PACKET_NUMBER_END as u128;
 
 /// What becomes of a packet that is not refused.

@@ -20,7 +20,7 @@ pub enum JobEnd {
     /// All is written.
     Complete,
     /// By this fault the input with this index ends at its offset, or its current packet is
-    /// refused, or there was no memory to write that.
+    /// refused, or there was no memory to write this packet.
     FaultIn(usize, Fault),
     /// The output's device failed.
     OutputFailed,

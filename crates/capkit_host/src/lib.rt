@@ -21,8 +21,9 @@ pub mod streams;
 pub mod waiting;
 pub mod words;
 
-/// The status of a job that a fault ended.
+/// The status of a run that a fault, a failed write or a lack of memory ended, or that found a name
+/// that can't be opened or created.
 pub const FAULT: u8 = 1;
 
-/// The status of words that are no command line.
+/// The status of words that are no command line, and of an expression or a listing that is refused.
 pub const USAGE: u8 = 2;

@@ -82,8 +82,8 @@ fn first_link_type(first: Option<u16>, table: &[Interface], count: usize) -> Opt
 }
 
 /// Reads the record that a text begins with, in a pcap file with this header, or the first check
-/// that it fails. The count of interfaces, which says nothing in pcap, is handed on as the caller's
-/// reader has it.
+/// that it fails. `interfaces`, which says nothing in pcap, is handed on as the count after the
+/// record.
 fn read_record_unit(head: &Head, text: &[u8], interfaces: usize) -> Result<ReadUnit, Refusal>
     ensures ok { IfOk result (λ step. (known : List Described) (table : List Interface)
         → interfaces ≤ length table → interfaces ≤ 256 → BeginsWithUnit (form.Pcap head.now) known
