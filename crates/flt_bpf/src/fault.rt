@@ -75,7 +75,8 @@ impl Error for CheckFault {}
 /// Why a text was not read as a listing.
 #[derive(Clone, Copy, PartialEq, Eq, Debug)]
 pub enum ListingFault {
-    /// L1: the text is no listing; the line with this number, from 1, is the first wrong one.
+    /// L1: the text is no listing; the line with this number, from 1, is the first wrong one, or
+    /// the text is too long: then it is 1.
     NotListing(usize),
     /// An allocation for the instructions failed.
     Memory,
@@ -93,7 +94,7 @@ impl ListingFault {
         }
     }
 
-    /// The number of the first wrong line, from 1, if the fault has one.
+    /// The number of the line in `NotListing`, from 1; `None` for `Memory`.
     pub fn line(self) -> Option<usize>
         ensures { result ≡ wrong_line self }
     {

@@ -31,8 +31,8 @@ pub fn listing_back()
         → ¬ IsRefusedAt (listing insns) line }
 {}
 
-/// A text is the listing of at most one list of instructions, or is refused at one line, and not
-/// both.
+/// A text is the listing of at most one list of instructions, and is refused at one line at most;
+/// never both.
 pub fn one_reading()
     ensures one { (text : List ℕ) (is js : List Insn) → IsListing text is → IsListing text js
         → is ≡ js }

@@ -3,8 +3,8 @@
 //!
 //! The machine is of the kind of S. McCanne and V. Jacobson, "The BSD Packet Filter" (1993): two
 //! registers, 16 words of memory, loads from the packet, arithmetic and forward jumps. A
-//! [`Program`] passed [`check`], so a [`run`] of it needs no test of its own and ends after at most
-//! as many instructions as the program has.
+//! [`Program`] passed [`check`], so a [`run`] of it tests no rule again and ends after at most as
+//! many instructions as the program has.
 #![tactic(auto)]
 
 mod fault;

@@ -86,7 +86,7 @@ pub enum Operand {
     IndexRegister,
 }
 
-/// What an instruction does.
+/// What an instruction does. A load of bytes that aren't all captured ends the run with 0.
 #[derive(Clone, Copy)]
 pub enum Operation {
     /// A = bytes of the packet at k.

@@ -7,24 +7,24 @@ use crate::sums;
 use flt_ast::Checked;
 use std::alloc::Allocator;
 
-/// How many elementary tests the formulas of the expression's primitives have. It fits 32 bits,
-/// since `check` saw that the bound is at most 32,768.
+/// How many elementary tests the formulas of the expression's primitives have, where `ether proto`,
+/// which is one, counts two. It fits 32 bits, since `check` saw that the bound is at most 32,768.
 pub fn tests<A: Allocator>(checked: &Checked<A>) -> u32
     ensures { result ≡ tests_of checked.now.expr }
 {
     sums::tests_in(&checked.expr) as u32
 }
 
-/// How many nodes the expression's arithmetic has: numbers, `len`, accessors and operators. It fits
-/// 32 bits as the tests do.
+/// How many nodes the expression's arithmetic has: numbers, names, `len`, accessors and operators;
+/// `less` and `greater` have two. It fits 32 bits as the tests do.
 pub fn nodes<A: Allocator>(checked: &Checked<A>) -> u32
     ensures { result ≡ nodes_of checked.now.expr }
 {
     sums::nodes_in(&checked.expr) as u32
 }
 
-/// How many of the machine's words of memory hold what waits while right sides are computed, 16 at
-/// most.
+/// How many of the machine's words of memory at most hold left sides at once, while right sides are
+/// computed: never over 16.
 pub fn words<A: Allocator>(checked: &Checked<A>) -> u32
     ensures { result ≡ words_of checked.now.expr }
 {

@@ -11,7 +11,7 @@ use flt_words::TokenKind;
 use std::alloc::{AllocError, Allocator};
 
 /// The tokens of what an expression means, written from its last node to its first. An error is a
-/// failed allocation.
+/// failed allocation, or an allocator that cannot be cloned.
 fn explained_tokens<A: Allocator + Clone>(
     alloc: A,
     expr: &Expr<A>,
@@ -32,17 +32,19 @@ fn explained_tokens<A: Allocator + Clone>(
 
 /// Writes out what an expression means, as an expression of the language.
 ///
-/// Each operand is in parentheses, unless it is one word or an accessor, and each value of a
-/// resolved tree has all its qualifiers before it: `tcp port 80 or 443` is `(tcp src or dst port
-/// 80) or (tcp src or dst port 443)`. Accessors have their size, and numbers are in decimal.
+/// Each operand is in parentheses, unless it is an accessor or one word other than a value. Each
+/// value of a resolved tree has all its qualifiers before it, but that `proto` has no direction:
+/// `tcp port 80 or 443` is `(tcp src or dst port 80) or (tcp src or dst port 443)`. Accessors have
+/// their size. Numbers are in decimal, but those that the text names keep their names.
 ///
 /// The text may be longer than an expression may be, or nest deeper. Where it is not, the resolved
-/// tree of a text is read back of it (`laws::explained_back`, `laws::writable`). Other trees are
-/// written too, but no text is read as them: those with a check of `ether`, an accessor of `icmp6`,
-/// a cast after another protocol than `ether`, `ip` and `ip6`, a name of a number that has none, an
-/// address or a number past its bits, or an IPv4 address of other than two to four parts.
+/// tree of a text is read back from it (`laws::explained_back`, `laws::writable`). Trees that no
+/// text has are written too: those with a check of `ether`, an accessor of `icmp6`, a cast after
+/// another protocol than `ether`, `ip` and `ip6`, a name of a number that has none, an address or a
+/// number past its bits, an IPv4 address of other than two to four parts, or one with a part past
+/// these that isn't 0.
 ///
-/// An error is a failed allocation.
+/// An error is a failed allocation, or an allocator that cannot be cloned.
 pub fn explain<A: Allocator + Clone>(alloc: A, expr: &Expr<A>) -> Result<String<A>, AllocError>
     ensures { IfOk result (λ text. string_bytes text ≡ explained_text expr.now) }
 {

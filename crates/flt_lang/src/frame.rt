@@ -61,8 +61,8 @@ pub enum Sort {
 }
 
 impl Operand {
-    /// The operand with parentheses around it: a plain number begins no longer value then, so that
-    /// `(10)/8` is a division and no network.
+    /// The operand with parentheses around it: a plain number can't begin a longer value then, so
+    /// that `(10)/8` is a division and no network.
     pub fn in_parentheses(self) -> Operand
         ensures { result ≡ enclosed_operand self }
     {

@@ -17,16 +17,17 @@ pub fn one_tree()
         → a ≡ b }
 {}
 
-/// What a resolved tree means is read as this tree: unless its text is longer than an expression
-/// may be, the text has tokens, they have a tree, and that resolved is the tree again. `parse`
-/// still refuses what nests too deep.
+/// What a resolved tree means is read as this tree, if its numbers, names and addresses are those
+/// of words, and its protocols stand where they may (`IsWritable`): unless its text is longer than
+/// an expression may be, the text has tokens, they have a tree, and that resolved is the tree
+/// again. `parse` still refuses what nests too deep.
 pub fn explained_back()
     ensures { (tree : Expression) → IsWritable tree → IsResolved tree
         → length (explained_text tree) ≤ 65536 → IsReadBack (explained_text tree) tree }
 {}
 
-/// Each tree that a text has is such a tree once it is resolved: its numbers, names and addresses
-/// are those of words, and its protocols stand where they may.
+/// Each tree that a text has is such a tree (`IsWritable`) once its values have all qualifiers,
+/// whether they fit or not.
 pub fn writable()
     ensures { (text : List ℕ) (tokens : List Token) (tree : Expression)
         → Tokens text (Ok tokens) → IsReadAs (kinds_of tokens) tree

@@ -95,7 +95,8 @@ impl<A: Allocator> Reader<A> {
         Ok(())
     }
 
-    /// The precedence of the loosest operand that the latest frame takes, by the table in `frame`.
+    /// The precedence of the loosest operand that the latest frame takes, by the table in `frame`;
+    /// that of a whole expression where no frame waits.
     fn operand_precedence(&self) -> u8
         ensures { result ≡ operand_precedence self.now.frames }
     {
@@ -221,7 +222,8 @@ impl<A: Allocator> Reader<A> {
 
     /// Reads an operand that begins with a protocol: an accessor as `tcp[` up to its bracket, a
     /// cast as `ether broadcast`, or another primitive. `tokens` has the protocol first.
-    /// `NotAnExpression` where this protocol may not stand before a bracket or a cast.
+    /// `NotAnExpression` where this protocol may not stand before the bracket or the cast that
+    /// follows it, or where neither follows and no primitive begins with it, as with `ether` alone.
     fn begin_with_protocol(
         &mut self,
         protocol: Protocol,
@@ -350,9 +352,9 @@ impl<A: Allocator> Reader<A> {
         Ok(whole)
     }
 
-    /// Completes the frames that bind at least as tightly as `limit`, the latest first, and takes
-    /// them off. Returns what they make of the operand. `NotAnExpression` where one of them takes
-    /// no operand of its sort.
+    /// Completes frames and takes them off, the latest first, up to the first one that binds more
+    /// loosely than `limit`. Returns what they make of the operand. `NotAnExpression` where one of
+    /// them can't be completed, as in `fill_frame`.
     #[tactic(auto, using(crate::proofs::Reducing::reducing))]
     fn reduce(&mut self, operand: Operand, limit: u8) -> Result<Operand, ExprFault>
         ensures ok { IfOk result (λ x. reduce limit self.old.frames operand self.old.nodes
@@ -391,8 +393,8 @@ impl<A: Allocator> Reader<A> {
         Ok((0, None))
     }
 
-    /// Closes a parenthesis: `NotAnExpression` where the latest frame is none. A plain number in
-    /// it, also one with `/ N`, may still become either sort.
+    /// Closes a parenthesis: `NotAnExpression` where the latest frame isn't one, or no frame waits.
+    /// A plain number in it, also one with `/ N`, may still become either sort.
     fn close_parenthesis(&mut self, operand: Operand) -> Result<(usize, Option<Operand>), ExprFault>
         ensures ok { IfOk result (λ r. after_close self.old.frames operand self.old.nodes
             ≡ Some (r.0, (self.new.frames, r.1, self.new.nodes))) }
@@ -436,7 +438,9 @@ impl<A: Allocator> Reader<A> {
     /// Reads the token `first` after an operand that no tighter frame takes: an operator, whose
     /// frame waits for its right operand, or what closes a parenthesis or a bracket, with the size
     /// of an accessor where it is its colon. Returns how many tokens more than this one are used
-    /// up, and the operand, if one is complete. `NotAnExpression` for other tokens.
+    /// up, and the operand, if one is complete. `NotAnExpression` for other tokens, and where
+    /// `shift_operator`, `close_parenthesis` or `close_bracket` refuses this one, or where no size
+    /// and bracket follow the colon.
     fn shift_or_close(
         &mut self,
         operand: Operand,
@@ -470,9 +474,10 @@ impl<A: Allocator> Reader<A> {
         }
     }
 
-    /// Reads what follows an operand, a token or the two of `/ N` after a number, of which `first`
-    /// is the first: how many tokens more than this one are used up, and the operand, if one is
-    /// complete. `NotAnExpression` where these tokens can't follow it.
+    /// Reads what follows an operand: a token, the two of `/ N` after a number, or the three of
+    /// `: N ]`, of which `first` is the first. Returns how many tokens more than this one are used
+    /// up, and the operand, if one is complete. `NotAnExpression` where these tokens can't follow
+    /// the operand, or a frame that they complete can't take it.
     fn read_after_operand(
         &mut self,
         operand: Operand,
@@ -536,8 +541,8 @@ impl<A: Allocator> Reader<A> {
     }
 
     /// After the last token, where the end is as a closing one (precedence 8): the frames that wait
-    /// are completed, and one truth has to be left. `NotAnExpression` where none or a number is, or
-    /// a parenthesis or bracket is open.
+    /// are completed, and one truth has to be left. `NotAnExpression` where none is, or what can
+    /// only be a number, where a frame can't be completed, or a parenthesis or bracket is open.
     fn finish(&mut self, operand: Option<Operand>) -> Result<(), ExprFault>
         ensures ok { OnOk result (finish operand self.old.frames self.old.nodes
             ≡ Some self.new.nodes) }
@@ -595,8 +600,9 @@ fn read_length_test(tokens: &[Token]) -> Option<(Node, usize)>
     }
 }
 
-/// The node of a value with what stands before it, or else of a protocol alone, with which tokens
-/// begin, and how many tokens more than one it takes; `None` where they begin with neither.
+/// The node of a value with what stands before it, or else of a protocol that may stand alone, with
+/// which tokens begin, and how many tokens more than one it takes; `None` where they begin with
+/// neither.
 fn read_primitive(tokens: &[Token]) -> Option<(Node, usize)>
     ensures value { (nodes : List Node) →
         one_node nodes result ≡ primitive (kinds_of tokens.now) nodes }

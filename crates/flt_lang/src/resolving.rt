@@ -17,9 +17,10 @@ use std::alloc::Allocator;
 /// before it, or `host`, and fills in what is left out: the type `host`, the direction `src or
 /// dst`.
 ///
-/// `QualifiersDoNotFit` is reported where some value has qualifiers that do not go with it, else
-/// `ValueOutOfRange` where a number of a value or the size of an accessor is out of range, else
-/// `BitsPastMask`.
+/// `QualifiersDoNotFit` is reported where some value has qualifiers that do not go with it, or
+/// `broadcast` has `ip` or `ip6` before it, else `ValueOutOfRange` where a number of a value or the
+/// size of an accessor is out of range, else `BitsPastMask` where a network has bits set that its
+/// mask leaves out.
 pub fn resolve<A: Allocator>(expr: Expr<A>) -> Result<Expr<A>, ExprFault>
     ensures ok { IfOk result (λ tree. tree ≡ fill_expression expr) }
     ensures fits { IfOk result (λ _. fill_fault expr ≡ None) }
@@ -69,7 +70,7 @@ fn nodes_fault(nodes: &[Node]) -> Option<ExprFault>
     }
 }
 
-/// Whether some value has qualifiers that do not go with it (E7).
+/// Whether some value has qualifiers, or some `broadcast` a protocol, that do not go with it (E7).
 fn has_misfit(nodes: &[Node]) -> bool
     ensures { result ≡ list_any is_misfit_node nodes.now }
 {
@@ -90,7 +91,8 @@ fn has_bits_past_mask(nodes: &[Node]) -> bool
     nodes.iter().any(|node| node.has_bits_past_mask())
 }
 
-/// Fills in what is left out before each value: the type `host`, the direction `src or dst`.
+/// Fills in what is left out before each value that has qualifiers: the type `host`, the direction
+/// `src or dst`. A bare value stays as it is.
 fn complete_qualifiers<A: Allocator>(nodes: &mut Vec<Node, A>)
     ensures { nodes.new.items ≡ map completed_node nodes.old.items }
 {

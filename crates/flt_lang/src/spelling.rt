@@ -1,4 +1,5 @@
-//! How tokens are spelled: the text of tokens, from which `flt_words::lex` makes them again.
+//! How tokens are spelled: their text, which `flt_words::lex` reads again where they are those of
+//! an expression that `explain` writes.
 
 ghost use Rattle.std.specs.Prelude.{◌≡◌, ◌<◌, ◌++◌, OnOk};
 ghost use Rattle.std.specs.String.{string_bytes};
@@ -14,7 +15,7 @@ use std::alloc::{AllocError, Allocator};
 use std::fmt::Write;
 
 /// What stands before a token, as far as the token's spelling goes by it: the number 1 has two
-/// names, and in `icmp[..]` it is `icmpcode`.
+/// names, and directly after `icmp[` it is `icmpcode`.
 #[derive(Clone, Copy)]
 pub enum Following {
     /// `icmp`.
@@ -127,7 +128,8 @@ fn operator_sign(operator: Operator) -> &'static str
     }
 }
 
-/// The name of the number 1: the code of ICMP in `icmp[..]`, and else the TCP flag.
+/// The name of the number 1: that of ICMP's code directly after `icmp[`, and else that of the TCP
+/// flag FIN.
 fn name_of_number_one(following: Following) -> &'static str
     ensures { result.now ≡ name_of_number_one following }
 {

@@ -85,7 +85,8 @@ fn has_zero_divisor(nodes: &[Node]) -> bool
     false
 }
 
-/// How many elementary tests the formulas of an expression's primitives have.
+/// How many elementary tests the formulas of an expression's primitives have, where `ether proto`,
+/// which is one, counts two, and a value that lacks qualifiers counts none.
 #[tactic(auto, using(crate::proofs::Counting::tests_whole))]
 pub(crate) fn tests_in<A: Allocator>(expr: &Expr<A>) -> u128
     ensures count { result ≡ tests_of expr.now }
