@@ -12,7 +12,7 @@ use flt_words::{Cast, Comparison, Join, Operator, Protocol, Size, ValueType};
 pub enum Node {
     /// A protocol alone: the packet is of it.
     Check(Protocol),
-    /// `broadcast` or `multicast`, with the protocol before it.
+    /// `broadcast` or `multicast`, with the protocol before it, or `None` where none is written.
     Cast(Option<Protocol>, Cast),
     /// `less N` or `greater N`.
     Sized(Size, u32),
@@ -30,7 +30,7 @@ pub enum Node {
     Join(Join),
     /// A number.
     Literal(u32),
-    /// The length of the packet.
+    /// The packet's original length.
     Len,
     /// A number that is written by its name, as `tcp-syn`.
     Named(u32),

@@ -85,7 +85,8 @@ fn after_blanks(text: &[u8]) -> &[u8]
 }
 
 /// The number at the beginning of a line, if it is one and a blank follows it, and the rest of the
-/// line from the next number on. `None` for another line, which has at most one number.
+/// line from the next number on. `None` for another line, which has at most one number or has other
+/// things than numbers.
 fn first_number(line: &[u8]) -> Option<FirstNumber<'_>>
     ensures first { IfSome result (λ first. line_numbers line.now
         ≡ after (Some first.number) (line_numbers first.rest.now)) }

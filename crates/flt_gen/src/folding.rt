@@ -1,4 +1,5 @@
-//! Arithmetic of numbers alone becomes one number before code is emitted for it.
+//! Arithmetic of numbers alone becomes one number before code is emitted for it, but for what
+//! divides by 0.
 
 ghost use Rattle.std.specs.Prelude.{◌≡◌, [], fold, reverse, OnOk, IfOk};
 ghost use Rattle.flt_gen.specs.inside.Folding.{node_constant, applied_constant, with_negation};
@@ -21,7 +22,8 @@ fn node_constant(node: Node) -> Option<u32>
     }
 }
 
-/// The number that an operator makes of two, if both are there; `None` also for a division by 0.
+/// The number that an operator makes of two, if both are there; `None` also for a division or a
+/// remainder by 0.
 #[tactic(auto, using(crate::proofs::Numbers::computed))]
 fn applied_constant(operator: Operator, left: Option<u32>, right: Option<u32>) -> Option<u32>
     ensures { result ≡ applied_constant operator left right }
@@ -51,7 +53,7 @@ fn push_negation<A: Allocator>(nodes: &mut Stack<Node, A>) -> Result<(), AllocEr
 }
 
 /// Pushes an operator: if the two latest nodes are numbers, which then are its operands, the number
-/// that it makes of them replaces both. In a tree each has two operands.
+/// that it makes of them replaces both, unless it divides by 0. In a tree each has two operands.
 fn push_operator<A: Allocator>(
     nodes: &mut Stack<Node, A>,
     operator: Operator,

@@ -7,8 +7,9 @@ pub fn masks_join()
     ensures { MasksJoin }
 {}
 
-/// By IPv4, IPv6, ARP and RARP an expression means the network headers that a line names so, and it
-/// rejects those of which too little is captured for one.
+/// By IPv4, IPv6, ARP and RARP an expression means the network headers that a line names so. The
+/// packets that it rejects are those of which too little is captured for a network header, and none
+/// where the link has no header of this kind.
 pub fn kinds_agree()
     ensures kind { MatchesKind }
     ensures short { RejectsShort }

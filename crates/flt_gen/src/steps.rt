@@ -103,7 +103,7 @@ impl<A: Allocator> Steps<A> {
         self.steps.push(Step::Joined(join))
     }
 
-    /// Adds the steps of some tests that all have to hold; none always do.
+    /// Adds the steps of some tests that all have to hold; of no tests, a step that always matches.
     pub fn check_all(&mut self, tests: &[Elementary]) -> Result<(), AllocError>
         ensures { OnOk result (IsPut (all_of tests.now) self.old self.new) }
     {

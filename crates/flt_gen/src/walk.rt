@@ -413,7 +413,7 @@ impl<A: Allocator + Clone> Walk<A> {
         }
     }
 
-    /// Emits the load of a number, or of the length of the packet, into A.
+    /// Emits the load of a number, or of the packet's original length, into A.
     fn emit_leaf(&mut self, link: Link, source: Source, number: u32) -> Result<(), AllocError>
         ensures { OnOk result (self.new ≡ emit_leaf link source number self.old) }
     {
@@ -435,7 +435,7 @@ impl<A: Allocator + Clone> Walk<A> {
     }
 
     /// A number's code is emitted: the accessors whose index it is are complete, and then the left
-    /// operand that waits is next.
+    /// operand that waits is next. Where none waits, the relation is complete.
     fn finish_number(&mut self, link: Link) -> Result<(), AllocError>
         ensures { OnOk result (self.new ≡ finish_number link self.old.numbers self.old) }
     {

@@ -15,7 +15,7 @@ use crate::number::{parse_decimal, parse_digits};
 /// The forms of groups, a group being what stands between two separators.
 #[derive(Clone, Copy)]
 pub(crate) enum Group {
-    /// A decimal number up to 255.
+    /// A decimal number up to 255, without leading zeros.
     Octet,
     /// One or two hexadecimal digits.
     Byte,

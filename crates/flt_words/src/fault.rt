@@ -20,17 +20,17 @@ pub enum ExprFault {
     NotAnExpression,
     /// E6: over 100 open parentheses and brackets, or over 100 `not` and `-` in a row.
     NestedTooDeep,
-    /// E7: a value's protocol, direction and type do not go together.
+    /// E7: what stands before a value, or before `broadcast`, does not go with it.
     QualifiersDoNotFit,
-    /// E8: a number is out of its type's range.
+    /// E8: a number of a value is out of its type's range, or an accessor's size isn't 1, 2 or 4.
     ValueOutOfRange,
     /// E9: a network's address has bits that its mask leaves out.
     BitsPastMask,
-    /// E10: a division or a remainder by the number 0.
+    /// E10: a division or a remainder by 0 as it is written.
     DivisionByZero,
     /// E11: the arithmetic needs more than 16 words of memory.
     TooManyWords,
-    /// E12: the program would have more than 32,768 instructions.
+    /// E12: the bound of its program is over 32,768 instructions, though the program may have fewer.
     ProgramTooLong,
     /// An allocation failed.
     Memory,
@@ -85,7 +85,8 @@ impl ExprFault {
         }
     }
 
-    /// Where it is wrong, in bytes of the text from 1, if the refusal has a place.
+    /// Where it is wrong, in bytes of the text from 1. `None` where the refusal is of the whole, or
+    /// out of memory.
     pub fn place(&self) -> Option<u32>
         ensures { result ≡ place_of self.now }
     {

@@ -13,7 +13,7 @@ pub fn one_kind()
     ensures { (word : List ℕ) (a b : TokenKind) → Spells word a → Spells word b → a ≡ b }
 {}
 
-/// A text has one list of tokens with places or one refusal, and never two answers.
+/// A text has at most one answer: a list of tokens with places, or a refusal.
 pub fn one_answer()
     ensures { (text : List ℕ) (a b : Result (List Token) ExprFault) → Tokens text a
         → Tokens text b → a ≡ b }

@@ -88,7 +88,8 @@ fn first_token(inside: bool, place: u32, rest: &[u8]) -> Result<(TokenKind, usiz
 ///
 /// A text over 65,536 bytes is `TooLong` (E1). Else the leftmost of these is reported: a character
 /// that begins no token (E2), a word of no kind (E3), a number above 2^32 - 1 (E4). `Memory` is
-/// returned instead, whatever the text is, where a token cannot be kept.
+/// returned where a token in front of that, or of the end, cannot be kept; never for a text that is
+/// too long.
 pub fn lex<A: Allocator>(alloc: A, text: &str) -> Result<Vec<Token, A>, ExprFault>
     ensures ok { IfOk result (λ tokens. Tokens text.now (Ok tokens.items)) }
     ensures err { IfErr result (λ fault. fault ≢ ExprFault.Memory → Tokens text.now (Err fault)) }
