@@ -116,8 +116,8 @@ impl Node {
         }
     }
 
-    /// How many elementary tests the node adds to the formula of its expression: comparisons of one
-    /// field of a packet. A value without all its qualifiers has no formula, and counts none.
+    /// How many elementary tests the node counts as: at least those that it adds to the formula of
+    /// its expression. A value without all its qualifiers counts none.
     pub fn tests(self) -> u8
         ensures count { result ≡ node_tests self }
         ensures upper_bound { result ≤ 27 }

@@ -43,8 +43,8 @@ fn number_at(lower: &[u32], upper: &[u32], at: usize) -> u32
     }
 }
 
-/// The index at which a number stands first among others, or their count if it isn't there. Without
-/// what stands at this index they are the numbers without it.
+/// The index at which a number stands first among others, or their count if it isn't there. If what
+/// stands at this index is left out, the number is left out once.
 #[tactic(auto, using(crate::proofs::Search::without_at))]
 fn index_of(number: u32, numbers: &[u32]) -> usize
     ensures upper_bound { result ≤ length numbers.now }
@@ -59,8 +59,8 @@ fn index_of(number: u32, numbers: &[u32]) -> usize
     at
 }
 
-/// The numbers without `first`, the one that is first in the expression, in two slices, one after
-/// the other. A number that is alone stays, so that one is left at least.
+/// The numbers, of which `first`, the one that is first in the expression, is left out once, in two
+/// slices, one after the other. A number that is alone stays, so that one is left at least.
 fn remaining(first: u32, numbers: &[u32]) -> (&[u32], &[u32])
     ensures { result.0.now ++ result.1.now ≡ remaining first numbers.now }
 {
@@ -133,8 +133,8 @@ impl<A: Allocator> Code<A> {
         self.emit_among_slices(field, numbers, &[], to)
     }
 
-    /// As `emit_among`, of the numbers without `first`, since that was tested before; of a number
-    /// that is alone, of this one.
+    /// As `emit_among`, of the numbers of which `first` is left out once, since that was tested
+    /// before; of a number that is alone, of this one.
     pub fn emit_among_others(
         &mut self,
         field: MaskedField,

@@ -12,7 +12,7 @@ use flt_words::Comparison;
 use std::alloc::{AllocError, Allocator};
 
 impl<A: Allocator> Code<A> {
-    /// Emits the load of a field into A.
+    /// Emits the load of a field into A. That of a field after a header also sets X.
     pub fn emit_field(&mut self, offset: Offset, width: Width) -> Result<(), AllocError>
         ensures { OnOk result (self.new ≡ emit_field offset width self.old) }
     {

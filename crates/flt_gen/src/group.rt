@@ -141,7 +141,8 @@ impl<A: Allocator> Group<A> {
     }
 
     /// Whether a value with these qualifiers may join the members: any may if there are none, else
-    /// one with the same, while there are fewer than `MOST_TOGETHER`.
+    /// one with the same (`same_type`, `same_protocol`, `same_direction`), while there are fewer
+    /// than `MOST_TOGETHER`.
     fn goes_with(&self, qualifiers: CompleteQualifiers) -> bool
         ensures { result ≡ goes_with qualifiers self.now self.now.numbers }
     {
@@ -152,8 +153,8 @@ impl<A: Allocator> Group<A> {
                         && self.numbers.len() < MOST_TOGETHER)))
     }
 
-    /// Adds a member, which stands in front of the others in the expression, if it goes with them.
-    /// Returns whether it does.
+    /// Adds a value as a member, which stands in front of the others in the expression, if it can
+    /// be one and goes with them. `false`: it isn't added.
     pub fn add(&mut self, qualifiers: CompleteQualifiers, value: Value) -> Result<bool, AllocError>
         ensures taken { IfOk result (λ taken. larger_group qualifiers value self.old
             ≡ (if taken then Some self.new else None)) }

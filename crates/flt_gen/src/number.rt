@@ -52,7 +52,8 @@ pub fn takes_constant(operator: Operator, constant: u32) -> bool
     }
 }
 
-/// How much an accessor reads, by the size in bytes that is written in it: 1, 2 or 4.
+/// How much an accessor reads, by its size in bytes: 1, 2 or 4. Another counts as 4, and was
+/// refused before.
 pub fn width_of(size: u32) -> Width
     ensures { result ≡ width_of size }
 {
@@ -137,8 +138,9 @@ fn emit_protocol_tests<A: Allocator>(
     }
 }
 
-/// Emits the tests of accessors' protocols, of which that of the rightmost accessor comes first.
-/// Returns the place where they begin; of no protocol that is `to.yes`.
+/// Emits the tests of accessors' protocols. The first of `protocols` is that of the rightmost
+/// accessor, whose tests are the last of the code. Returns the place where they begin; of no
+/// protocol that is `to.yes`.
 pub fn emit_accessor_tests<A: Allocator>(
     code: &mut Code<A>,
     link: Link,

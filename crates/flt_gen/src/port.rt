@@ -162,7 +162,7 @@ impl<A: Allocator> Steps<A> {
     }
 
     /// Adds the steps of the ports after a header that names the protocol that is asked for, or, if
-    /// none is, TCP or UDP.
+    /// none is, TCP or UDP. With another protocol than these two it is no.
     fn put_transport_ports(&mut self, header: Transport, wanted: PortTest) -> Result<(), AllocError>
         ensures { OnOk result
             (IsPut (transport_ports header wanted self.old.numbers) self.old self.new) }

@@ -91,7 +91,7 @@ impl<A: Allocator> Steps<A> {
     }
 
     /// Adds the steps of `proto N`, after the protocol `below`, whose header names N: `ip`, `ip6`,
-    /// `ether`, or none for either of IPv4 and IPv6.
+    /// `ether`, or none for either of IPv4 and IPv6. After another one it is no.
     pub fn put_proto(
         &mut self,
         link: Link,
@@ -126,8 +126,8 @@ impl<A: Allocator> Steps<A> {
         self.join(Join::And)
     }
 
-    /// Adds the steps of `broadcast` or `multicast`, with the protocol before it. One that doesn't
-    /// go with it is no: such expressions were refused before.
+    /// Adds the steps of `broadcast` or `multicast`, with the protocol before it, or none. With a
+    /// protocol that doesn't go with it, it is no: such expressions were refused before.
     pub fn put_cast(
         &mut self,
         link: Link,

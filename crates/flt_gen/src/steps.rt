@@ -26,7 +26,8 @@ pub enum Step {
     Check(Elementary),
     /// The field is one of the numbers that are looked for.
     AmongAll(MaskedField),
-    /// The field is one of those numbers, but not this one, which was tested before.
+    /// The field is one of those numbers, of which this one, which was tested before, is left out
+    /// once, unless it is alone.
     AmongOthers(MaskedField, u32),
     /// `and` or `or`, between the two formulas before it.
     Joined(Join),
@@ -88,7 +89,8 @@ impl<A: Allocator> Steps<A> {
         self.steps.push(Step::AmongAll(field))
     }
 
-    /// Adds a step: whether a field is one of the numbers other than `first`.
+    /// Adds a step: whether a field is one of the numbers, of which `first` is left out once, unless
+    /// there is only one number.
     pub fn among_others(&mut self, field: MaskedField, first: u32) -> Result<(), AllocError>
         ensures { OnOk result
             (IsPut (Among field (remaining first self.old.numbers)) self.old self.new) }

@@ -226,8 +226,9 @@ impl<A: Allocator + Clone> Walk<A> {
         }
     }
 
-    /// Emits a value with all its qualifiers. A host or port joins the group of those after it. As
-    /// the right operand of an `or` it waits there for one more; else the group is emitted.
+    /// Emits a value with all its qualifiers. A host or port that goes with the group of those
+    /// after it joins it: as the right operand of an `or` it waits there for one more; else the
+    /// group is emitted. Any other value is emitted alone, after the group that waits.
     fn emit_value(
         &mut self,
         link: Link,

@@ -210,7 +210,7 @@ impl<A: Allocator> Layout<A> {
     }
 
     /// Lays out one more wide instruction in front, and notes its place: a test or a jump with new
-    /// offsets to the places of its targets, another one as it is.
+    /// offsets to the places of its targets, another one with the offsets 0, which it doesn't use.
     fn lay_insn(&mut self, insn: Wide) -> Result<(), AllocError>
         requires { length self.old.code + 3 < 2 ^ 32 }
         ensures { OnOk result (self.new ≡ put insn self.old) }

@@ -1,4 +1,4 @@
-//! Code whose jumps go any distance, laid out as instructions: a jump (`ja`) stands only for a
+//! Code whose jumps go any distance, laid out as instructions: a jump (`ja`) is added only for a
 //! target that is too far for its test.
 #![tactic(auto)]
 

@@ -53,7 +53,7 @@ pub(crate) fn test_name(test: Test) -> &'static str
     }
 }
 
-/// The name of an operation, which the line begins with.
+/// The name of an operation, which stands on the line after the place.
 pub(crate) fn operation_name(operation: Operation) -> &'static str
     ensures name { result.now ≡ operation_name operation }
     ensures short { length result.now ≤ 4 }
@@ -88,7 +88,8 @@ fn push_number_between(line: &mut Line, before: &[u8], number: u32, following: &
     line.push_all(following);
 }
 
-/// Appends a constant that is loaded, compared or masked with, in hexadecimal: `#0x800`.
+/// Appends a constant that is loaded, compared with, or worked with bit by bit, in hexadecimal:
+/// `#0x800`.
 fn push_k_in_hex(line: &mut Line, number: u32)
     requires { length line.old + 11 ≤ 80 }
     ensures value { line.new ≡ line.old ++ (codes "#0x" ++ hex number) }
@@ -121,8 +122,8 @@ fn push_k_of_arithmetic(line: &mut Line, operator: AluOperation, k: u32)
     }
 }
 
-/// Appends what an operation works on: `[12]`, `#14`, `x`; nothing where its name says it all. Of a
-/// jump it is the place of the target in the program: `place` is that of the instruction, from 0.
+/// Appends what an operation works on: `[12]`, `#14`, `x`; nothing where its name says it all. Of
+/// `ja` it is the place of the target in the program: `place` is that of the instruction, from 0.
 pub(crate) fn push_operand(line: &mut Line, operation: Operation, k: u32, place: u32)
     requires { length line.old + 21 ≤ 80 }
     ensures value { line.new ≡ line.old ++ operand_text operation k place }

@@ -111,8 +111,8 @@ fn test_holds(test: Test, a: u32, b: u32) -> bool
 
 /// Does one instruction on a packet of original length `len`: changes the registers and the memory
 /// of `state`, and returns where the instruction leads. The place stays. The clause asks that the
-/// instruction breaks no rule, with whatever number of instructions after it: in a valid program
-/// none does.
+/// instruction breaks no rule on single instructions, with some number of instructions after it: in
+/// a valid program none does.
 #[tactic(auto, unfolding(flt_bpf::specs::Machine::step, flt_bpf::specs::Check::fault_of))]
 fn execute(insn: &Insn, packet: &[u8], len: u32, state: &mut Step) -> Flow
     requires { (following : ℕ) × (fault_of insn.now following ≡ None) }

@@ -30,7 +30,8 @@ pub enum ExprFault {
     DivisionByZero,
     /// E11: the arithmetic needs more than 16 words of memory.
     TooManyWords,
-    /// E12: the bound of its program is over 32,768 instructions, though the program may have fewer.
+    /// E12: the bound of its program is over 32,768 instructions, though the program may have
+    /// fewer.
     ProgramTooLong,
     /// An allocation failed.
     Memory,
