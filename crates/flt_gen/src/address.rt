@@ -123,8 +123,8 @@ fn ip6_tests(prefix: Option<u32>, address: u128, at: u32) -> [Elementary; 4]
     ]
 }
 
-/// Whether a test that `ip6_test` makes is of a word of which no bit counts, and compares it with 0,
-/// so that it is yes wherever the word is captured.
+/// Whether a test that `ip6_test` makes is of a word of which no bit counts, and compares it with
+/// 0, so that it is yes wherever the word is captured.
 fn is_idle(test: Elementary) -> bool
     ensures { result ≡ is_idle test }
 {
@@ -176,8 +176,8 @@ impl<A: Allocator> Steps<A> {
         self.join(Join::And)
     }
 
-    /// Adds the steps of `host` and `net` of IPv4, in the headers that their protocol allows: without
-    /// one those of IPv4, ARP and RARP. After a protocol other than these three it is no.
+    /// Adds the steps of `host` and `net` of IPv4, in the headers that their protocol allows:
+    /// without one those of IPv4, ARP and RARP. After a protocol other than these three it is no.
     pub fn put_hosts(
         &mut self,
         link: Link,

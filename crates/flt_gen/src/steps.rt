@@ -89,8 +89,8 @@ impl<A: Allocator> Steps<A> {
         self.steps.push(Step::AmongAll(field))
     }
 
-    /// Adds a step: whether a field is one of the numbers, of which `first` is left out once, unless
-    /// there is only one number.
+    /// Adds a step: whether a field is one of the numbers, of which `first` is left out once,
+    /// unless there is only one number.
     pub fn among_others(&mut self, field: MaskedField, first: u32) -> Result<(), AllocError>
         ensures { OnOk result
             (IsPut (Among field (remaining first self.old.numbers)) self.old self.new) }
