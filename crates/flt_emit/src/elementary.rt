@@ -32,8 +32,8 @@ pub struct MaskedField {
     pub mask: Option<u32>,
 }
 
-/// A test of a field: the field, of which only the bits of the mask count, is compared with a
-/// number.
+/// A test of a field: the field, of which only the bits of the mask count, or all where there is no
+/// mask, is compared with a number.
 #[derive(Clone, Copy)]
 pub struct FieldTest {
     pub offset: Offset,

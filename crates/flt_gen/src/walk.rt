@@ -49,7 +49,7 @@ const KEEP: u32 = 262_144;
 pub struct Walk<A: Allocator> {
     code: Code<A>,
     /// The targets of the next truth (a part of the expression that is yes or no); in the end both
-    /// are where the program begins.
+    /// are where the program begins, if there was a node.
     to: Targets,
     /// The word for the next left operand.
     slot: u32,
@@ -57,7 +57,8 @@ pub struct Walk<A: Allocator> {
     truths: Stack<LeftTruth, A>,
     /// What waits for the number that is next.
     numbers: Stack<Waiting, A>,
-    /// The protocols of the relation's accessors, each once; that of the leftmost one is the latest.
+    /// The protocols of the relation's accessors, each once; that of the leftmost one is the
+    /// latest.
     accessors: Stack<Protocol, A>,
     /// Hosts or ports that are tested in front of the code, and whose code isn't there yet.
     group: Group<A>,
@@ -84,7 +85,7 @@ impl<A: Allocator> Model for Walk<A> {
 
 impl<A: Allocator + Clone> Walk<A> {
     /// A walk that has seen no node: the code is the two returns, by which a packet is kept or
-    /// isn't.
+    /// isn't. An error is a failed allocation, or an allocator that cannot be cloned.
     pub fn new(alloc: A) -> Result<Self, AllocError>
         ensures { IfOk result (λ walk. walk ≡ start_walk) }
     {

@@ -2,9 +2,9 @@
 //! until they are written, so nothing recurses and each token is written once.
 //!
 //! Everywhere `is_operand` is whether a node is an operand of another one: then it has parentheses
-//! around it, unless it is an accessor, or one token other than a value. Each `write_..` writes
-//! before what is written already, so the end of a text comes first. An error is always a failed
-//! allocation, but for `Writer::new`.
+//! around it, unless it is one token or an accessor; a value that isn't resolved has them always,
+//! even if it is one token. Each `write_..` writes before what is written already, so the end of a
+//! text comes first. An error is always a failed allocation, but for `Writer::new`.
 
 ghost use Rattle.std.specs.Prelude.{◌≡◌, [], ◌∷◌, IfNone, IfOk, IfSome, OnOk, true};
 ghost use Rattle.flt_ast.specs.declared.node.Node.TheVariants as node;
