@@ -10,8 +10,8 @@ use std::alloc::Allocator;
 
 /// An expression with none of the faults that a tree may have: each value has all its qualifiers,
 /// they fit it, its numbers and the sizes of accessors are in range, no network has bits that its
-/// mask leaves out, no divisor is 0 as it is written, its arithmetic needs no more than the
-/// machine's 16 words of memory, and its program's bound is at most 32,768 instructions.
+/// mask leaves out, no divisor is the number 0 as it is written, its arithmetic needs no more than
+/// the machine's 16 words of memory, and its program's bound is at most 32,768 instructions.
 #[derive(Drop)]
 pub struct Checked<A: Allocator> {
     pub expr: Expr<A>,

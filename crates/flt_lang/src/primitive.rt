@@ -179,7 +179,7 @@ pub fn read_value(tokens: &[Token]) -> Option<(Value, usize)>
 }
 
 /// A value with what stands before it, if anything does, and how many tokens more than one they
-/// are, as a step of `Reader` counts them. `None` where no value follows the qualifiers.
+/// are, as `Reader` counts them in a step. `None` where no value follows the qualifiers.
 pub fn read_value_with_qualifiers(tokens: &[Token]) -> Option<(Qualifiers, Value, usize)>
     ensures value { result ≡ valued_of (kinds_of tokens.now) }
     ensures within { IfSome result (λ r. r.2 < length tokens.now) }

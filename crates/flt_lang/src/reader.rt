@@ -48,8 +48,8 @@ impl<A: Allocator> Model for Reader<A> {
     } };
 }
 
-// What a step has read is a pair: how many tokens after the first one, and the operand if it is
-// complete. If it isn't, a frame waits for the rest of it.
+// What is read in a step is a pair: how many tokens after the first one (`step` itself counts that
+// too), and the operand if it is complete. If it isn't, a frame waits for the rest of it.
 //
 // Of `not tcp[13] = 2` these are the frames, latest last, and the operand that was just read, where
 // the token to the right comes next:

@@ -26,7 +26,7 @@ pub enum ExprFault {
     ValueOutOfRange,
     /// E9: a network's address has bits that its mask leaves out.
     BitsPastMask,
-    /// E10: a division or a remainder by 0 as it is written.
+    /// E10: a division or a remainder by the number 0, as it is written.
     DivisionByZero,
     /// E11: the arithmetic needs more than 16 words of memory.
     TooManyWords,
