@@ -9,7 +9,7 @@ pub struct Dotted {
     pub parts: u8,
 }
 
-/// What follows a number or an IPv4 address to say how long a network's address is.
+/// What follows a number or an IPv4 address to say which bits of a network's address count.
 #[derive(Clone, Copy)]
 pub enum NetMask {
     /// Nothing: the mask is as long as the parts that are written.
@@ -23,7 +23,7 @@ pub enum NetMask {
 /// A value, as it is written.
 #[derive(Clone, Copy)]
 pub enum Value {
-    /// A number: a port, a protocol, or the first byte of a network.
+    /// A number: a port, a protocol, an EtherType, or the first byte of a network.
     Number(u32, NetMask),
     /// An IPv4 address or network.
     Dotted(Dotted, NetMask),

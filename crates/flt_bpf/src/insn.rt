@@ -11,7 +11,7 @@ pub struct Insn {
     pub jt: u8,
     /// Instructions to skip if the test does not hold.
     pub jf: u8,
-    /// A number, a place in the packet, the number of a word, or the instructions that a jump
+    /// A number, a place in the packet, the number of a word, or how many instructions a jump
     /// skips.
     pub k: u32,
 }

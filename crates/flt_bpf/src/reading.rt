@@ -164,8 +164,8 @@ fn first_line(text: &[u8]) -> FirstLine<'_>
 }
 
 /// `count` instructions, one on each line of a text: what follows the first line of a listing. An
-/// error has the number of the first wrong line, of which the first here is line 2, or is a failed
-/// allocation.
+/// error has the number of the first wrong line, where the first line of this text is line 2, or is
+/// a failed allocation.
 fn insns_on_lines<A: Allocator>(
     alloc: A,
     count: usize,

@@ -13,7 +13,7 @@ pub struct Wide {
     pub yes: u32,
     /// Instructions to skip if the test does not hold.
     pub no: u32,
-    /// A number, a place in the packet, the number of a word, or the instructions that a jump
+    /// A number, a place in the packet, the number of a word, or how many instructions a jump
     /// skips.
     pub k: u32,
 }
