@@ -60,7 +60,8 @@ pub struct CommandRow {
     pub about: &'static str,
     /// What stands below the options in help.
     pub examples: &'static str,
-    /// Its arguments, in the order in which help lists them.
+    /// Its arguments: the options, in the order in which help lists them, and then those by place,
+    /// which help lists first.
     pub arguments: &'static [Argument],
 }
 

@@ -84,7 +84,7 @@ fn put_with_nul(bytes: &[u8], buffer: &mut [u8])
     buffer[count] = 0;
 }
 
-/// What a number after `FOUND` is called, of a reading or a write; empty where none has it.
+/// What a number after `FOUND` is called, of a reading or a write; empty where it has no text.
 fn found_text(number: u32) -> &'static str
     ensures { result.now ≡ found_text number }
 {
@@ -113,7 +113,7 @@ fn found_text(number: u32) -> &'static str
     }
 }
 
-/// What any number is called that a call may return; empty of 0, and where none returns it.
+/// What any number is called that a call may return; empty of 0 and of one without a text.
 fn number_text(number: u32) -> &'static str
     ensures { result.now ≡ number_text number }
 {

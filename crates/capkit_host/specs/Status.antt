@@ -13,7 +13,8 @@ is_request DisplayVersion = true
 is_request _ = false
 
 -- Of a request for help or the version: 0 if the answer could be written, else 1. 1 too if memory
--- ran out. Of other words that are refused: 2.
+-- ran out once clap had read the words. Of other words that are refused: 2, and so where clap ran
+-- out of memory.
 abbrev pub status_of : Usage → (is_written : Bool) → ℕ
 status_of (Refused error) is_written =
     if is_request (kind_of error) then (if is_written then 0 else 1) else 2

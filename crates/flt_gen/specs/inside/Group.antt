@@ -90,7 +90,8 @@ goes_with q group (a ∷ others) =
     && (same_protocol q.protocol group.protocol
     && (same_direction q.direction group.direction && nat_lt (length (a ∷ others)) MOST_TOGETHER))
 
--- the address of a host, or the number of a port, or none for other types and values
+-- the address of a host, whatever its parts and its mask, or the number of a port; none for other
+-- types and values
 abbrev pub member_number : ValueType → Value → Option ℕ
 member_number Host (value.Dotted dotted mask) = Some dotted.address
 member_number Port (value.Number n mask) = Some n
