@@ -125,7 +125,7 @@ fn numbers_above(k: u32) -> Piece
 }
 
 /// What it shows of a term that a test of a register with k holds, or that it doesn't (`holds`),
-/// where the register holds that term.
+/// where the register holds that term. A test of bits shows it of the term masked with k.
 pub fn outcome(test: Test, k: u32, term: Term, holds: bool) -> Learnt
     ensures { result ≡ outcome test k term holds }
 {
@@ -331,7 +331,7 @@ fn outcome_may_be_in(piece: Piece, outcome: &Learnt, learnt: &[Learnt]) -> bool
 }
 
 /// Whether a test may have an outcome with a value in the first piece, in the last one, or in that
-/// where the outcome's numbers begin. Where it may be at all, it mostly is in one of these: so they
+/// where the higher of the outcome's two pieces begins. Where it may be at all, it mostly is in one of these: so they
 /// are tried first. It has no clause, since a yes claims nothing.
 fn is_likely(pieces: &[Piece], outcome: &Learnt, learnt: &[Learnt]) -> bool {
     let low = outcome.above.low;

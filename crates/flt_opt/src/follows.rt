@@ -226,7 +226,7 @@ fn common_term(one: Term, other: Term) -> Term
     }
 }
 
-/// What is known of a run's registers where two ways meet: what holds on either way.
+/// What is known of a run's registers where two ways meet: what is known on both.
 fn common_registers(one: Registers, other: Registers) -> Registers
     ensures one { (p : List ℕ) (n : ℕ) (s : State) → Hold p n one s → Hold p n result s }
     ensures other { (p : List ℕ) (n : ℕ) (s : State) → Hold p n other s → Hold p n result s }
@@ -237,7 +237,7 @@ fn common_registers(one: Registers, other: Registers) -> Registers
     }
 }
 
-/// What is known of the registers of both runs where two ways meet: what holds on either way.
+/// What is known of the registers of both runs where two ways meet: what is known on both ways.
 pub(crate) fn common_both(one: &Both, other: &Both) -> Both
     ensures one { (p : List ℕ) (n : ℕ) (new old : State) → Agree p n one.now new old
         → Agree p n result new old }

@@ -8,7 +8,8 @@ use flt_bpf::operation::Width;
 pub struct Load {
     /// How many bytes it takes.
     pub width: Width,
-    /// Where they begin: at this byte of the packet, or this many bytes past the header.
+    /// Where they begin: at this byte of the packet, or this many bytes past the header; there
+    /// modulo 2^32.
     pub at: u32,
     /// Where the IPv4 header begins that they are past, if they are past one.
     pub header: Option<u32>,
@@ -46,7 +47,7 @@ pub struct Span {
 }
 
 /// A term has a value on the packet, which is in one of the pieces: part of a list beside. They
-/// ascend.
+/// should ascend: else less is seen of them, but nothing wrong.
 #[derive(Clone, Copy)]
 pub struct Fact {
     pub term: Term,
@@ -94,7 +95,7 @@ pub struct Note {
 /// The notes on two programs, with the lists that they share.
 #[derive(Clone, Copy)]
 pub struct Notes<'a> {
-    /// The first is for the beginning of both programs.
+    /// The first is for the beginning of the new program.
     pub notes: &'a [Note],
     pub facts: &'a [Fact],
     pub pieces: &'a [Piece],

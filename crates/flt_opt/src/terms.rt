@@ -246,8 +246,8 @@ pub fn is_sure(operation: Operation, k: u32, there: bool) -> bool
     }
 }
 
-/// Whether an operation leads to the next instruction, unless the packet ends too early or it
-/// divides by 0.
+/// Whether an operation leads to the next instruction, unless the packet ends too early, it divides
+/// by 0, or there is no such word of memory.
 pub(crate) fn leads_on(operation: Operation) -> bool
     ensures { result ≡ leads_on operation }
 {

@@ -5,7 +5,8 @@
 //! - `tests_bits`: the new one tests bits, for a mask and a test for 0 of the old one.
 //! - `does_own`: the new one does an instruction that can't fail, and the old one waits.
 //!
-//! After each the new run is at the place of another note, once the old run has walked on to it.
+//! After each the new run is at the place of another note, once the old run has walked on to it;
+//! or both runs return: the same by `does_same`, or 0 (`both_reject`).
 //!
 //! A yes is proved; a no says nothing. `2 ^ 62` in clauses is more than any index of code, so that
 //! what is added to one for a jump can't overflow. `p` is the captured bytes of a packet there, and
@@ -180,8 +181,8 @@ fn never_has_outcome(
     }
 }
 
-/// Whether the side of a test of the new run leads to the note that is named for it, or is never
-/// taken. The old run is at `old`.
+/// Whether the side of a test of the new run leads to the note that is named for it, or to a
+/// rejection in both runs, or is never taken. The old run is at `old`.
 fn side_leads(
     programs: &Programs,
     note: &Note,
@@ -209,8 +210,8 @@ fn side_leads(
     }
 }
 
-/// Whether both sides of a test of the new run lead to the notes that are named for them. The old
-/// run is at the index `yes` where the test holds, and at `no` where it doesn't. `both` is what is
+/// Whether each side of a test of the new run leads to the note that is named for it, or to a
+/// rejection in both runs, or is never taken. The old run is at the index `yes` where the test holds, and at `no` where it doesn't. `both` is what is
 /// known of the registers at the test: the note's, or by `tests_bits` what is left once the old run
 /// is past its mask.
 fn test_leads(
@@ -232,7 +233,7 @@ fn test_leads(
 }
 
 /// Whether going on at the next instruction of the new run leads to the note that is named for it,
-/// while the old run is at the index `old`.
+/// or to a rejection in both runs, while the old run is at the index `old`.
 fn step_leads(programs: &Programs, note: &Note, both: Both, old: usize) -> bool
     requires { note.now.new < 2 ^ 62 }
     ensures { IsTrue result → LeadsTo programs.now
@@ -317,7 +318,7 @@ fn does_own(programs: &Programs, note: &Note, new: Wide) -> bool
     ) && step_leads(programs, note, both, note.old)
 }
 
-/// Whether a note stands since both runs load the same field, by what is in X.
+/// Whether a note stands since both runs load the same field, by what is known of X.
 fn loads_same(programs: &Programs, note: &Note, new: Wide, old: Wide) -> bool
     requires new_bound { note.now.new < 2 ^ 62 }
     requires old_bound { note.now.old < 2 ^ 62 }

@@ -23,8 +23,8 @@ use crate::terms::{after, after_old, is_jump, is_sure, leads_on, made_term, test
 use flt_bpf::Wide;
 use flt_bpf::operation::{Operation, Test, decode};
 
-/// How many instructions a walk passes at most, on all its ways together: so a call ends soon,
-/// whatever the notes say.
+/// How many instructions `walk` passes at most, on all its ways together, and `rejects` from one
+/// undecided test to the next: so a call ends soon, whatever the notes say.
 pub(crate) const MOST_STEPS: u32 = 8192;
 
 /// Whether a run with these registers is sure to go on at the next instruction after an operation
@@ -44,7 +44,8 @@ pub(crate) fn goes_on(
 }
 
 /// How many instructions the old run skips after one, and what is known of both runs then. `None`:
-/// what is known doesn't decide it, the run may end there, or a word of memory changes.
+/// what is known doesn't decide it, the run may end there, a word of memory is loaded or changes,
+/// or no operation has the code.
 fn pass_insn(insn: Wide, knowledge: &Knowledge, both: &Both) -> Option<(u32, Both)>
     ensures { IfSome result (λ r. Passes insn r.0 both.now r.1 knowledge.now.facts.now
         knowledge.now.pieces.now knowledge.now.learnt.now) }
@@ -92,7 +93,7 @@ fn known_on_all_ways(met: &Option<Both>, known: &Both) -> Both
 }
 
 /// What is known of both runs once the old one is at the goal, the index of an instruction. `None`:
-/// it isn't sure to come there. `splits` is past how many undecided tests, one on a side of the
+/// it isn't seen to come there. `splits` is past how many undecided tests, one on a side of the
 /// other, it may look for the goal, and `fuel` how many instructions all ways may still pass
 /// together. The loop's own bound is no less; it shows that a walk ends.
 #[cycle(walking)]
@@ -150,8 +151,8 @@ fn advance(
 }
 
 /// Where a walk goes on at a test that isn't decided: one side has to lead to the goal, and the
-/// walk goes on along the other one. `None`: neither side does, no split is left, or the
-/// instruction is no test with a constant.
+/// walk goes on along the other one. `None`: neither side is seen to, no split is left, or
+/// the instruction is no test with a constant.
 #[cycle(walking)]
 fn fork(
     old: &[Wide],
@@ -222,7 +223,8 @@ fn stage_after_fork(stage: &Stage, met: &Option<Both>, one: &Both) -> Stage
 }
 
 /// How many instructions a run skips after one, and what its registers hold then, unless it returns
-/// 0 there. `None`: what is known doesn't decide a test, or the instruction is a return.
+/// 0 there. `None`: what is known doesn't decide a test, the instruction is a return, or no
+/// operation has its code.
 fn pass_unless_rejected(
     insn: Wide,
     knowledge: &Knowledge,
@@ -348,8 +350,8 @@ fn both_ways_reject(
 }
 
 /// Whether a run returns 0 on a side of a test, which begins at `start`: `shown` is what the test's
-/// outcome shows. Four outcomes are kept at most, in an array, so that no memory is taken: at a
-/// fifth test the answer is no.
+/// outcome shows. Four outcomes are kept at most, in an array, so that no memory is taken: with a
+/// fifth the answer is no.
 #[cycle(rejecting)]
 fn one_way_rejects(
     code: &[Wide],

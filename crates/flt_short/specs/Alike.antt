@@ -1,5 +1,5 @@
--- How the instructions of a program replace those of another one that does the same with more of
--- them.
+-- How the instructions of a program replace those of another one that does the same with as many of
+-- them or more.
 use Rattle.std.specs.Prelude.{◌≡◌, ℕ, ◌≤◌, List, length, count_by}
 use Rattle.flt_bpf.specs.declared.insn.Insn.{Insn}
 use Rattle.flt_bpf.specs.Machine.{machine, Answered}
@@ -15,8 +15,8 @@ pub record Comes (prog : List Insn) (p : List ℕ) (n answer most : ℕ) : Type 
   pub upper_bound : count ≤ most
   pub inside : count ≤ length prog
 
--- a program in place of an old one: it is no longer, has no more tests, and on each packet it gives
--- the same answer in no more instructions; it is valid if the old one is, and has no `ja` that
+-- a program in place of an old one: it is no longer, has no more tests, and on each packet on which
+-- the old one answers it gives the same answer in no more instructions; it is valid if the old one is, and has no `ja` that
 -- isn't needed, or none, if that is so of the old one
 pub record Shortens (new old : List Insn) : Type 0 where
   pub shorter : length new ≤ length old

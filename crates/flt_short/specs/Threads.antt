@@ -1,4 +1,4 @@
--- When code differs from other code in the targets of its tests alone, and does the same.
+-- What is kept of code once the targets of its tests are others: what it does, and more.
 use Rattle.std.specs.Prelude.{◌≡◌, ℕ, List, length, count_by}
 use Rattle.flt_bpf.specs.declared.insn.Insn.{Insn}
 use Rattle.flt_bpf.specs.Answer.{answer_of}
@@ -7,8 +7,9 @@ use Rattle.flt_bpf.specs.Instructions.{operation_of}
 use Rattle.flt_bpf.specs.Layout.{is_branch, HasNoJump}
 use Rattle.flt_bpf.specs.Machine.{start}
 
--- code in place of old code: it has as many instructions and tests, no rule is broken and no jump is
--- there that wasn't, and it returns the same on each packet
+-- code in place of old code: it has as many instructions and tests, it returns the same on each
+-- packet; if the old code breaks no rule but perhaps that on the length, nor does it, and if that
+-- has no jump, it has none
 pub record Threads (new old : List Insn) : Type 0 where
   pub same_length : length new ≡ length old
   pub branches : count_by (λ i. is_branch (operation_of i.code)) new

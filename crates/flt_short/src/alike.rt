@@ -25,9 +25,9 @@ use flt_bpf::{Wide, reads_accumulator, reads_index, sets_accumulator, sets_index
 pub struct Landing {
     /// The number of instructions of the new program from there to its end, or 0 for nowhere.
     pub place: usize,
-    /// A is read from there on before it is set, so both programs have to have the same in A there.
+    /// A may be read from there on before it is set, so both programs need the same in A there.
     pub accumulator: bool,
-    /// X is read from there on before it is set, so both have to have the same in X there.
+    /// X may be read from there on before it is set, so both need the same in X there.
     pub index: bool,
 }
 
@@ -118,8 +118,8 @@ fn goes_on(
     }
 }
 
-/// Whether the instruction of the new program is that of the old one, what it reads is the same in
-/// both, and both go on alike.
+/// Whether the instruction of the new program is that of the old one but for the offsets, what it
+/// reads is the same in both, and both go on alike.
 #[tactic(auto, unfolding(crate::specs::inside::Alike::same_step))]
 fn is_same_step(new: Wide, landing: Landing, old: Wide, following: &[Landing]) -> bool
     ensures { result ≡ same_step (operation_of old.code) new landing old following.now }
@@ -135,7 +135,8 @@ fn is_same_step(new: Wide, landing: Landing, old: Wide, following: &[Landing]) -
     }
 }
 
-/// Whether `new` is a test of bits that asks what a mask and a test of what is left for 0 do.
+/// Whether `new` is a test of bits that asks what a mask and a test of what is left for 0 do: it
+/// holds where that test fails.
 fn is_bits_test(new: Wide, mask: Wide, test: Wide) -> bool
     ensures { result ≡ ((mask.code == MASK && test.code == EQUAL)
         && (test.k == 0 && (new.code == ANY_BIT && mask.k == new.k))) }
@@ -148,7 +149,7 @@ fn is_bits_test(new: Wide, mask: Wide, test: Wide) -> bool
 }
 
 /// Whether the new program has one test of bits (`69 k`) for a mask and a test of what is left for
-/// 0 (`84 k`, `21 0`), after which A isn't read.
+/// 0 (`84 k`, `21 0`), before which A is the same in both, and after which it isn't read.
 #[tactic(auto, unfolding(crate::specs::inside::Alike::one_test))]
 fn is_one_test(
     new: Wide,
@@ -233,8 +234,9 @@ pub fn adds_header(number: Wide, length: Wide, add: Wide, to_index: Wide) -> boo
             && to_index.code == Operation::CopyToIndex.code())
 }
 
-/// Whether two pairs of instructions load the length of the same header, and then equally many
-/// bytes at X, each at its own `k`.
+/// Whether two pairs of instructions have the same first one, for the length of a header, and then
+/// load equally many bytes at X, each at its own `k`. (That it loads a header's length,
+/// `adds_header` tells.)
 fn loads_alike(old_length: Wide, new_length: Wide, old_load: Wide, new_load: Wide) -> bool
     ensures { result ≡ loads_alike old_length new_length old_load new_load }
 {
@@ -338,7 +340,7 @@ fn has_no_jump(code: &[Wide]) -> bool
 }
 
 /// Whether a program is seen to replace an old one: it does the same by its landings, breaks no
-/// rule, has no more instructions and no more tests, and has no jump. A no says nothing.
+/// rule but perhaps that on the length, has no more instructions and no more tests, and has no jump. A no says nothing.
 pub fn replaces(code: &[Wide], old: &[Wide], landings: &[Landing]) -> bool
     ensures { IsTrue result → Shortens code.now old.now }
 {

@@ -1,8 +1,9 @@
 //! What is known where runs go on, of a few places at a time. Here a place is the index of an
 //! instruction from the beginning of the code, not a distance to its end as in `shorten.rt`. The
 //! code is read once, so a place before the one that is read is *passed*, and isn't asked for
-//! again. Clauses cite definitions of the same names; that what they give is known to be so in
-//! each run is shown in the proofs.
+//! again. Clauses cite definitions of the same names, or of a function that changes what is noted,
+//! the one that says what comes of it; that what they give is known to be so in each run is shown
+//! in the proofs.
 
 ghost use Rattle.std.specs.Prelude.{◌≡◌, ◌≤◌, ◌<◌, ◌-◌, ◌^◌, length};
 ghost use Rattle.flt_short.specs.inside.Arrivals.{first_at, first_free, known_at, arrived};
@@ -26,8 +27,8 @@ pub struct Arrival {
 pub struct Arrivals {
     /// The places that are kept. One that is passed gives way to another.
     pub kept: [Arrival; MOST_PLACES],
-    /// One more than the last place for which a run found no room. Of places that aren't kept nothing
-    /// is known of an earlier one, and no run has reached a later one.
+    /// One more than the last place for which a run found no room, or 0. Of a place that isn't kept
+    /// nothing is known if it is before this one; if not, no run seen so far goes on there.
     pub unknown_end: usize,
 }
 
@@ -144,7 +145,7 @@ impl Arrivals {
     }
 
     /// Notes that a run reaches a place where it ends. What is known there is of no use, so a
-    /// place that is kept stays as it is, and another one is kept with nothing known.
+    /// place that is kept stays as it is, and another one is noted with nothing known.
     pub fn arrive_at_end(&mut self, from: usize, place: usize)
         requires { place < 2 ^ 64 - 1 }
         ensures { self.new ≡ ended self.old from place }

@@ -242,8 +242,8 @@ fn join_facts(facts: &mut [Fact], others: &[Fact])
     }
 }
 
-/// What A holds at a place to which runs come on two ways: what it holds on both, if that is the
-/// same.
+/// What A holds at a place to which two ways lead: what it holds on both, if that is the same, or
+/// on one of them, if no run comes on the other.
 fn joined_held(one: Held, other: Held) -> Held
     ensures { result ≡ joined_held one other }
 {
@@ -444,7 +444,8 @@ fn masked_held(held: Held, mask: u32) -> Held
     }
 }
 
-/// What is known of A once X is another number: of a load at X that says nothing any more.
+/// What is known of A once X may be another number: no longer that it is what a load at X would
+/// put there.
 fn held_without_index(held: Held) -> Held
     ensures { result ≡ held_without_index held }
 {
@@ -454,8 +455,8 @@ fn held_without_index(held: Held) -> Held
     }
 }
 
-/// What A holds after an instruction that isn't a test, by what it held. What arithmetic but a mask
-/// leaves isn't known.
+/// What A holds after an instruction that isn't a test, by what it held. What a load from the
+/// packet or a mask leaves may be known; all else that sets A leaves `Unknown`.
 fn held_after(held: Held, insn: Wide) -> Held
     ensures { result ≡ held_after (operation_of insn.code) held insn }
 {
@@ -500,8 +501,8 @@ pub fn pass_insn(known: &mut Known, insn: Wide)
     known.index = index_after(known.index, insn);
 }
 
-/// What the outcome of the test whether a field is a number lets claim of it. Of one of two numbers
-/// that it isn't, it is the other one.
+/// What may be claimed of a field by the outcome of the test whether it is a number. Where it is
+/// known to be one of two numbers, and isn't the one, it is the other.
 fn claim_by_outcome(facts: &[Fact], field: &Field, number: u32, outcome: bool) -> Claim
     ensures { result ≡ claim_after outcome number (two_numbers_of facts.now field.now) }
 {

@@ -341,7 +341,7 @@ fn threaded_offset(known: &Known, following: &[Wide], skipped: u32) -> u32
     }
 }
 
-/// Whether a run ends at a place, by returning a number.
+/// Whether a run ends at a place by returning a constant.
 fn ends_at(code: &[Wide], place: usize) -> bool
     ensures { result ≡ ends_at code.now place }
 {
@@ -459,8 +459,8 @@ fn is_load(insn: Wide) -> bool {
     )
 }
 
-/// Whether some load is there twice. Otherwise threading decides nothing; a wrong answer would only
-/// take time or leave code as it is, so there is no clause. It calls itself for each instruction:
+/// Whether some load is there twice. Otherwise threading seldom decides anything; a wrong answer
+/// would only take time or leave code as it is, so there is no clause. It calls itself for each instruction:
 /// the code is short.
 fn repeats_a_load(insns: &[Wide]) -> bool {
     match insns {
@@ -477,7 +477,7 @@ fn repeats_a_load(insns: &[Wide]) -> bool {
 
 /// The same code, in which each test goes on as far as what is known there decides. It returns the
 /// same on each packet. It takes no memory. Short code in which no load is there twice stays as it
-/// is, since nothing is decided in it.
+/// is, since hardly anything is decided in it.
 pub fn threaded<A: Allocator>(insns: Vec<Wide, A>) -> Vec<Wide, A>
     ensures { Threads result.items insns.items }
 {

@@ -51,7 +51,7 @@ Stands new old notes facts pieces m =
     (p : List ℕ) (n : ℕ) → AreGoodFrom new old notes facts pieces p n (m.new + 1)
     → IsGood new old facts pieces p n m
 
--- the old run reaches a place, where it is as is known, and returns what it returned
+-- the old run reaches a place, where both runs are as is known, and from there returns the answer
 pub record Comes (old : List Insn) (p : List ℕ) (n : ℕ) (b : Both) (new_state : State)
     (answer at : ℕ) : Type 0 where
   pub state : State
@@ -84,7 +84,7 @@ Passes i far b after facts pieces learnt =
     (p : List ℕ) (n : ℕ) (s t : State) → Agree p n b s t → Known p n facts pieces learnt
     → Passed i far after p n s t
 
--- the old run is where a walk is, and returns what it returned
+-- the old run is where a walk is, as is known there, and returns the answer from there
 pub record HereAt (old : List Insn) (p : List ℕ) (n : ℕ) (new_state : State) (answer : ℕ)
     (stage : Stage) : Type 0 where
   pub state : State
@@ -92,7 +92,7 @@ pub record HereAt (old : List Insn) (p : List ℕ) (n : ℕ) (new_state : State)
   pub shown : AllLearnt p n stage.learnt
   pub returns : answer_of old p n stage.at state ≡ Some answer
 
--- the old run has reached the goal on another way
+-- the old run has reached the goal on another way; `None`: no other way has led there
 abbrev pub HasMet : List Insn → List ℕ → ℕ → State → ℕ → ℕ → Option Both → Type 0
 HasMet old p n new_state answer goal None = ⊥
 HasMet old p n new_state answer goal (Some b) = Comes old p n b new_state answer goal
@@ -130,7 +130,7 @@ LeadsTo programs way facts learnt =
     programs.notes.pieces.now learnt
 
 -- at a note, after a test of the new program with the outcome `holds`, both programs return the
--- same, if they do from the notes for later places; the old run is at a place then
+-- same, if they do from the notes for later places; the old run is at `at_old` then
 abbrev pub Branches : Programs → Note → Both → Insn → Condition → Bool → ℕ → Type 0
 Branches programs m b i condition holds at_old =
     (p : List ℕ) (n : ℕ) (s t : State) (answer : ℕ) → AreGood programs p n (m.new + 1)
@@ -175,7 +175,8 @@ Begins programs =
     → answer_of programs.old.now p n 0 start ≡ Some answer
     → answer_of programs.new.now p n 0 start ≡ Some answer
 
--- a test of bits means a mask, and a test of whether what is left is 0
+-- a test of bits holds where, after a mask with the same number, the test of whether what is left
+-- is 0 fails
 pub record IsBits (new mask test : Insn) : Type 0 where
   pub new_is : operation_of new.code ≡ Some (JumpIf AnyBit Constant)
   pub mask_is : operation_of mask.code ≡ Some (Compute And Constant)

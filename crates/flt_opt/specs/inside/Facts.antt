@@ -13,7 +13,7 @@ use Rattle.flt_opt.specs.declared.note.Term.{Term}
 use Rattle.flt_opt.specs.declared.note.Both.{Both}
 use Rattle.flt_opt.specs.inside.Terms.{value, There, Holds, Agree, masked}
 
--- a number is in a piece, of which the greatest `high` is no bound
+-- a number is in a piece; a `high` of 2^32 - 1 is no bound
 abbrev pub in_piece : ℕ → Piece → Bool
 in_piece v q = nat_le q.low v && (nat_le v q.high || q.high == 0xffff_ffff)
 
@@ -78,7 +78,8 @@ numbers_above k = numbers_from (min (k + 1) 0xffff_ffff)
 abbrev pub learnt_of : Term → Piece → Piece → Learnt
 learnt_of t below above = record { term = t; below = below; above = above }
 
--- what the outcome of a test with k shows of the term that the register holds
+-- what the outcome of a test with k shows of the term that the register holds, or, by a test of
+-- bits, of that term masked with k
 abbrev pub outcome : Test → ℕ → Term → Bool → Learnt
 outcome Equal k t true = learnt_of t (only_number k) (only_number k)
 outcome Equal k t false = learnt_of t (numbers_below k) (numbers_above k)

@@ -26,8 +26,8 @@ use Rattle.flt_opt.specs.declared.note.Both.{Both}
 abbrev pub header_at : List ℕ → ℕ → Option ℕ
 header_at p at = option_map header_length (field p at Byte)
 
--- the number of the packet at a place past a header of this length, if the header is there and the
--- number is captured
+-- the number that begins `at` bytes past the beginning of the packet and a header's length, modulo
+-- 2^32, if it is captured; none without a length
 abbrev pub past : List ℕ → Width → ℕ → Option ℕ → Option ℕ
 past p width at None = None
 past p width at (Some length) = field p ((length + at) % 2 ^ 32) width
@@ -179,8 +179,9 @@ abbrev pub made_term : Operation → ℕ → Registers → Term
 made_term LoadHeaderLength k r = HeaderLength k 0
 made_term op k r = accumulator_after op k r
 
--- an operation is sure to lead to the next instruction, and changes no word of memory; of a load
--- from the packet `there` says so: that its term has a value
+-- an operation is known to lead to the next instruction, and changes no word of memory; of a load
+-- from the packet `there` says so: that its term has a value; of a load of a word of memory nothing
+-- is known
 abbrev pub is_sure : Operation → ℕ → Bool → Bool
 is_sure (LoadAbsolute width) k there = there
 is_sure (LoadIndirect width) k there = there

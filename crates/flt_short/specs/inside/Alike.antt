@@ -67,7 +67,7 @@ abbrev pub ANY_BIT : ℕ
 ANY_BIT = code_of (JumpIf test.AnyBit Constant)
 
 -- j is one test of bits in place of i, which is a mask, and of the test after it whether 0 is left;
--- A isn't read after them
+-- before them A is the same in both programs, and after them it isn't read
 unfoldable pub one_test : Insn → Landing → Insn → List Insn → List Landing → Bool
 one_test j l i [] ls = false
 one_test j l i (t ∷ is) ls =
@@ -122,7 +122,8 @@ header_load (h ∷ j ∷ js) l i (t ∷ u ∷ v ∷ w ∷ is) ls =
     && ((i.k + w.k) % 2 ^ 32 == j.k && landing_fits ls 4 0 (l.place - 1) true false))
 header_load js l i is ls = false
 
--- the code from a place on, which is named by the number of instructions from there to the end
+-- the code from a place on, which is named by the number of instructions from there to the end;
+-- none of it if it has fewer
 abbrev pub code_from : List Insn → ℕ → List Insn
 code_from c place = if nat_le place (length c) then drop (length c - place) c else []
 
@@ -145,7 +146,8 @@ are_alike c [] ls = true
 are_alike c (i ∷ is) [] = false
 are_alike c (i ∷ is) (l ∷ ls) = stands c l i is ls && are_alike c is ls
 
--- the first instruction of the old code lands where the new code, of this length, begins
+-- the first instruction of the old code lands where the new code, of this length, begins; of 0 it
+-- doesn't
 abbrev pub begins : List Landing → ℕ → Bool
 begins [] len = false
 begins (l ∷ ls) len = nat_lt 0 l.place && l.place == len

@@ -203,7 +203,7 @@ target k c from =
     target_by (two_numbers_at k c end.spot) k c from end.best
 
 -- how many instructions a test skips once its target is as far on as what is known decides, in
--- place of `skipped`
+-- place of `skipped`; as many as before where that is 2^32 or more
 abbrev pub threaded_offset : Known → List Insn → ℕ → ℕ
 threaded_offset k c skipped =
     if nat_lt (target k c skipped) (2 ^ 32) then target k c skipped else skipped
