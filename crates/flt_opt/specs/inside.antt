@@ -1,4 +1,5 @@
--- What no promise rests on: it helps the crate's own functions and proofs, and those of crates beside it.
+-- What no promise rests on: it helps the crate's own functions and proofs, and those of crates
+-- beside it.
 pub mod Alike
 pub mod Facts
 pub mod Terms

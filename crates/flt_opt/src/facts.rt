@@ -331,8 +331,8 @@ fn outcome_may_be_in(piece: Piece, outcome: &Learnt, learnt: &[Learnt]) -> bool
 }
 
 /// Whether a test may have an outcome with a value in the first piece, in the last one, or in that
-/// where the higher of the outcome's two pieces begins. Where it may be at all, it mostly is in one of these: so they
-/// are tried first. It has no clause, since a yes claims nothing.
+/// where the higher of the outcome's two pieces begins. Where it may be at all, it mostly is in one
+/// of these: so they are tried first. It has no clause, since a yes claims nothing.
 fn is_likely(pieces: &[Piece], outcome: &Learnt, learnt: &[Learnt]) -> bool {
     let low = outcome.above.low;
     let from = pieces.partition_point(|piece| piece.high < low);

@@ -222,7 +222,8 @@ pub fn made_term(operation: Operation, k: u32, registers: Registers) -> Term
 
 /// Whether an operation is sure to lead to the next instruction and changes no word of memory.
 /// `there` is whether the bytes of the packet that it loads are known to be captured; only loads
-/// depend on it. Of a load of a word of memory it is no: whether there is that word isn't looked at.
+/// depend on it. Of a load of a word of memory it is no: whether there is that word isn't looked
+/// at.
 pub fn is_sure(operation: Operation, k: u32, there: bool) -> bool
     ensures { result ≡ is_sure operation k there }
 {

@@ -211,9 +211,9 @@ fn side_leads(
 }
 
 /// Whether each side of a test of the new run leads to the note that is named for it, or to a
-/// rejection in both runs, or is never taken. The old run is at the index `yes` where the test holds, and at `no` where it doesn't. `both` is what is
-/// known of the registers at the test: the note's, or by `tests_bits` what is left once the old run
-/// is past its mask.
+/// rejection in both runs, or is never taken. The old run is at the index `yes` where the test
+/// holds, and at `no` where it doesn't. `both` is what is known of the registers at the test: the
+/// note's, or by `tests_bits` what is left once the old run is past its mask.
 fn test_leads(
     programs: &Programs,
     note: &Note,

@@ -1,4 +1,4 @@
--- When a program does what wide code does, in no more instructions than that needs.
+-- When a program does what wide code does, with at most two instructions more for each test.
 use Rattle.std.specs.Prelude.{◌≡◌, ℕ, ◌+◌, ◌*◌, ◌≤◌, List, length, Some, count_by}
 use Rattle.flt_bpf.specs.declared.insn.Insn.{Insn}
 use Rattle.flt_bpf.specs.Answer.{answer_of}
@@ -7,17 +7,17 @@ use Rattle.flt_bpf.specs.Layout.{is_branch, HasNoJump, JumpsAreNeeded, IsShort}
 use Rattle.flt_bpf.specs.Machine.{machine, Answered, start}
 use Rattle.flt_bpf.specs.Valid.{MOST_INSTRUCTIONS, IsValid}
 
--- a run of a program on a packet of original length n reaches an answer, with no instruction met
--- twice
+-- a run of a program on a packet of original length n reaches an answer, in no more instructions
+-- than the program has
 pub record Answers (prog : List Insn) (p : List ℕ) (n answer : ℕ) : Type 0 where
   pub count : ℕ
   pub answered : machine prog p n (length prog) ≡ Answered answer count
   pub upper_bound : count ≤ length prog
 
 -- a program has at most two instructions more for each test of the wide code, is valid where that
--- code is and the program isn't too long, and gives its answer on each packet. It has jumps only
--- where they are needed, if the code has none, and neither jumps nor more instructions where the code
--- is so short that no target is far
+-- code is and the program isn't too long, and gives the code's answer on each packet on which that
+-- answers. If the code has no jump, the program has jumps only where they are needed; and neither
+-- jumps nor more instructions than the code, if that has at most 256, so that no target is far
 pub record Lays (new wide : List Insn) : Type 0 where
   pub at_most : length new
       ≤ length wide + 2 * count_by (λ i. is_branch (operation_of i.code)) wide

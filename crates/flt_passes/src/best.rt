@@ -23,9 +23,9 @@ const TOO_MANY: usize = 0x4000_0000;
 /// longer than all else that makes a program.
 const FEW_LEFT: usize = 28;
 
-/// Code that was written with more instructions than this, and more than twice as many as it has
-/// now, says the same again and again: it is optimised, since it becomes much shorter, however few
-/// are left.
+/// Code that was written with more instructions than this, half of which (rounded down) are more
+/// than it has now, says the same again and again: it is optimised, since it becomes much shorter,
+/// however few are left.
 const MANY_WRITTEN: usize = 64;
 
 /// Whether code is laid out as it is, without the optimiser: it has `left` instructions, and had

@@ -400,8 +400,8 @@ impl<A: Allocator + Clone> Finder<'_, A> {
         Ok(true)
     }
 
-    /// Makes all notes, of which the first is for the beginning of both programs. Returns whether
-    /// they are found.
+    /// Makes all notes, of which the first is for the beginning of the new program, and for where
+    /// the old run has walked meanwhile. Returns whether they are found.
     fn find_all(&mut self) -> Result<bool, AllocError> {
         if self.arrive_at_note(&START)? != Some(0) {
             return Ok(false);

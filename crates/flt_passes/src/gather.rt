@@ -157,7 +157,8 @@ impl<A: Allocator + Clone> Gathering<A> {
     }
 }
 
-/// How often the field changes from one test to the next: how many loads stand between them.
+/// How often the field changes from one test to the next: how many loads the tests need between
+/// them.
 fn field_changes(links: &[Link]) -> usize {
     links
         .iter()
@@ -238,7 +239,7 @@ impl<A: Allocator + Clone> Gathering<A> {
     }
 
     /// Adds the tests in their new order, each leading to the next one and the last one to the
-    /// chain's exit, and lets the test in front of them lead there.
+    /// chain's exit, and lets the test in front of them lead to the first one.
     fn replace_tests(&mut self, chain: &Chain<A>, sorted: &Sorted<A>) -> Result<(), AllocError> {
         let mut next = chain.exit;
         for (at, link) in sorted.links.iter().enumerate().rev() {

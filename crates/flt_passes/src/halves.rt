@@ -24,7 +24,8 @@ pub(crate) fn test_node(test: Test, k: u32, yes: usize, no: usize) -> Node {
     }
 }
 
-/// One test that leads to the nodes of all ranges. `None`: one isn't enough.
+/// One test that leads to the nodes of all ranges. `None`: one isn't enough, or none is needed,
+/// since there is one range alone.
 fn one_test(ranges: &[Range]) -> Option<Node> {
     match ranges {
         [first, last] if first.is_one_number() => {

@@ -37,8 +37,9 @@ pub(crate) fn loaded_field(node: Node) -> Option<Field> {
     }
 }
 
-/// What A holds where two ways meet: what it holds on both, if that is the same. The first way may
-/// be `Unreached`, the second one not.
+/// What A holds where two ways meet: what it holds on both, if that is the same. Where the first is
+/// `Unreached`, it is that of the second. (The second one is `Unreached` only after a test that no
+/// run reaches; then less may be known.)
 fn common_held(one: Held, other: Held) -> Held {
     if one == Held::Unreached || one == other {
         other

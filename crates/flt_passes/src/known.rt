@@ -180,9 +180,9 @@ pub(crate) fn common_facts<A: Allocator>(
     Ok(facts)
 }
 
-/// The facts after a test, with one on the term that A held: it has a value, which is among the
-/// numbers that the test's outcome `learnt` leaves. Where the term is a number or anything, no fact
-/// comes of it.
+/// The facts after a test, with one on the term of its outcome `learnt`, which is that of A, or by
+/// a test of bits that one masked: it has a value, which is among the numbers that the outcome
+/// leaves. Where the term is a number or anything, no fact comes of it.
 pub(crate) fn facts_after_test<A: Allocator>(
     pieces: &mut Vec<Piece, A>,
     facts: &Facts,

@@ -3,8 +3,8 @@
 //! that it returns the same. `flt_lay` lays the result out as a program.
 //!
 //! `best` and `optimise` alone have contracts. Of the others only safety and termination are
-//! proved, so that their functions have no clauses. An `AllocError` is a failed allocation
-//! everywhere, or an allocator that can't be cloned.
+//! proved, so that their functions have no clauses. An `AllocError` is a failed allocation,
+//! or an allocator that can't be cloned; of `best_of` also code that is too long.
 //!
 //! In comments A and X are the machine's two registers (accumulator and index register), k is an
 //! instruction's constant, and a run is that of the code on one packet. A run *rejects* the packet

@@ -23,8 +23,9 @@ pub enum Pass {
     ThreadFar,
     /// Chains of tests whether fields are numbers go field by field, so that fewer loads are left.
     Gather,
-    /// One instruction for several that do the same, one after the other: a test of bits for a mask
-    /// and a test, a load at a fixed place for one at X.
+    /// One instruction, or two, for several that do the same, one after the other: a test of bits
+    /// for a mask and a test, a load at a fixed place for one at X, a header's length and a load at
+    /// X for those with a sum between.
     Bits,
     /// Tests of A with numbers become a search by halves.
     Search,
@@ -49,7 +50,8 @@ fn apply_pass<A: Allocator + Clone>(
 }
 
 /// The code that passes make of some code, one after the other. `None`: an instruction has an
-/// unknown code, or the result would be more than twice as long, or without an instruction.
+/// unknown code, a run would go on past the end, or the result would be more than twice as long, or
+/// without an instruction.
 pub fn code_after_passes<A: Allocator + Clone>(
     alloc: A,
     code: &[Wide],

@@ -1,6 +1,6 @@
-//! The rules by which an instruction of new code replaces one or two of the old code, where two
-//! runs on the same packet reach both (the *new* run and the *old* one). They are those of
-//! `flt_opt::validator`, by the same names: here they find the notes that it then checks. `Both`
+//! The rules by which an instruction of new code replaces one or two of the old code, or none,
+//! where two runs on the same packet reach both (the *new* run and the *old* one). They are those
+//! of `flt_opt::validator`, by the same names: here they find the notes that it then checks. `Both`
 //! has what is known of both runs' registers there.
 //! Nothing here is trusted, so no function has a clause (lib.rt).
 

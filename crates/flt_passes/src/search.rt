@@ -16,7 +16,8 @@ use std::alloc::{AllocError, Allocator};
 /// alone: of fewer a chain may be made.
 const LEAST_TESTS: usize = 4;
 
-/// The fewest numbers that are worth a search where they lead to more than two nodes.
+/// The fewest numbers that are ranges alone and worth a search, where the ranges lead to more than
+/// two nodes.
 const LEAST_APART: usize = 8;
 
 /// A graph whose tests become searches.

@@ -26,7 +26,7 @@ struct Threading<A: Allocator> {
     /// What is known where runs reach the nodes that wait, in any order.
     waiting: Vec<Known, A>,
     /// For each node the index of its entry in `waiting`, or `NOWHERE` if no run was seen to come
-    /// there.
+    /// there, or runs end there.
     slots: Vec<usize, A>,
     /// The indices of the entries of `waiting` that are used no more.
     free: Vec<usize, A>,
@@ -79,7 +79,7 @@ impl<A: Allocator + Clone> Threading<A> {
     }
 
     /// The turn of the node `at`: what is known of all runs that reach it. It waits no more.
-    /// `None`: no run reaches it.
+    /// `None`: it doesn't wait, since no run reaches it, or runs end there.
     fn take_waiting(&mut self, at: usize) -> Result<Option<Known>, AllocError> {
         let slot = entry_at(&self.slots, at);
         let Some(known) = self.waiting.get(slot).copied() else {
@@ -206,7 +206,8 @@ impl<A: Allocator + Clone> Threading<A> {
     }
 
     /// Leads on the edge of a node that isn't a test, after which this is known. It isn't led to
-    /// another node that is no test: in code that would have to stand there once more.
+    /// another node that is neither a test nor a return: in code that would have to stand there
+    /// once more.
     fn lead_edge(&mut self, at: usize, node: Node, mut known: Known) -> Result<(), AllocError> {
         let reads = self.reads(&known, node.yes);
         known.facts.keep_useful(&reads);

@@ -133,7 +133,8 @@ impl<A: Allocator> Walker<'_, A> {
         })
     }
 
-    /// The old run on the side of the test `insn`, where it is, that holds or doesn't.
+    /// The old run on a side of the test `insn`, where it is: where that holds, or where it
+    /// doesn't.
     fn on_side(&self, way: &Way, insn: Wide, holds: bool) -> Way {
         let skipped = if holds { insn.yes } else { insn.no };
         let here = Arrival {

@@ -172,7 +172,8 @@ impl<A: Allocator + Clone> Writer<'_, A> {
 }
 
 /// The code of a graph whose edges lead to later nodes. A run begins at node 0. `None`: the code
-/// would have more than `most` instructions, or the graph has no node.
+/// would have more than `most` instructions, an edge leads to no node or too far for 32 bits, or
+/// the graph has no node.
 pub(crate) fn write_code<A: Allocator + Clone>(
     alloc: A,
     nodes: &[Node],

@@ -340,7 +340,8 @@ fn has_no_jump(code: &[Wide]) -> bool
 }
 
 /// Whether a program is seen to replace an old one: it does the same by its landings, breaks no
-/// rule but perhaps that on the length, has no more instructions and no more tests, and has no jump. A no says nothing.
+/// rule but perhaps that on the length, has no more instructions and no more tests, and has no
+/// jump. A no says nothing.
 pub fn replaces(code: &[Wide], old: &[Wide], landings: &[Landing]) -> bool
     ensures { IsTrue result → Shortens code.now old.now }
 {

@@ -460,8 +460,8 @@ fn is_load(insn: Wide) -> bool {
 }
 
 /// Whether some load is there twice. Otherwise threading seldom decides anything; a wrong answer
-/// would only take time or leave code as it is, so there is no clause. It calls itself for each instruction:
-/// the code is short.
+/// would only take time or leave code as it is, so there is no clause. It calls itself for each
+/// instruction: the code is short.
 fn repeats_a_load(insns: &[Wide]) -> bool {
     match insns {
         [] => false,
