@@ -86,9 +86,10 @@ pub struct Note {
     /// Which facts hold of the packet.
     pub facts: Span,
     /// The index of the note where the new run goes on; of a test, where it holds. Of a return it
-    /// isn't read.
+    /// isn't read; it may be any where both runs reject the packet there, or it isn't reached.
     pub yes: usize,
-    /// Of a test, the index of the note where the new run goes on if it doesn't hold.
+    /// Of a test, the index of the note where the new run goes on if it doesn't hold; or any, as
+    /// `yes`.
     pub no: usize,
 }
 

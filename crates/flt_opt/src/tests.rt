@@ -51,7 +51,7 @@ fn holding(accumulator: Term) -> Registers {
     }
 }
 
-/// Both runs have the same in A, which is a term, and in X.
+/// Both runs hold this term in A; A and X are the same in both.
 fn same(accumulator: Term) -> Both {
     Both {
         new: holding(accumulator),

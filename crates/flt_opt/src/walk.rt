@@ -72,7 +72,7 @@ pub(crate) struct Stage {
     pub at: usize,
     /// What is known of the registers there.
     pub known: Both,
-    /// What the last tests on this way have shown.
+    /// What the outcome with which the walk began and the last undecided tests on this way show.
     pub learnt: [Learnt; OUTCOMES],
     /// What is known at the goal on the other ways, which have reached it, if there are any.
     pub met: Option<Both>,

@@ -32,7 +32,9 @@ const NOTHING_LIVE: Live = Live {
 /// The bit of the original length.
 const LENGTH_BIT: u64 = 1;
 
-/// The bit of all fields past an IPv4 header: those that are loaded at X.
+/// The bit of all fields past an IPv4 header, and of each load at X. Where X holds a number such a
+/// load is of a field at a fixed place, which has another bit: what is known of it may be dropped
+/// then.
 const PAST_HEADER_BIT: u64 = 2;
 
 /// What is read from the place `at` on, by a list of all places; nothing where there is no such

@@ -67,7 +67,7 @@ fn place_in_front_of(place: usize) -> usize {
 }
 
 /// Whether an instruction ends a block: a run doesn't just go on at the next one, since this is a
-/// test or a return. (Code with a `ja` isn't shortened.)
+/// test or a return. (Code in which a run reaches a `ja` isn't shortened.)
 fn ends_block(insn: Wide) -> bool {
     matches!(
         decode(insn.code),
@@ -120,7 +120,7 @@ fn direct_code(indirect: u16) -> Option<u16> {
 
 /// Code that grows from its end to its beginning, while the old code is read in that order too.
 /// Where something is too far, an instruction lands nowhere, nor do those that go on there land
-/// anywhere; the new code isn't taken then.
+/// anywhere, or it lands where other code stands; the new code isn't taken then.
 #[derive(Drop)]
 struct Shortening<'a> {
     /// The old code.
@@ -502,8 +502,8 @@ fn replacement<A: Allocator>(
 }
 
 /// Code that replaces the old one: it gives the same answers, in no more instructions. Where it
-/// can't be made, as for code with a jump (`ja`), it is the old code. An error is a failed
-/// allocation, or an allocator that cannot be cloned.
+/// can't be made, as for code in which a run reaches a jump (`ja`), it is the old code. An error is
+/// a failed allocation, or an allocator that cannot be cloned.
 pub fn shortened<A: Allocator + Clone>(
     alloc: A,
     insns: Vec<Wide, A>,
