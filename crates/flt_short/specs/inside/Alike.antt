@@ -146,8 +146,8 @@ are_alike c [] ls = true
 are_alike c (i ∷ is) [] = false
 are_alike c (i ∷ is) (l ∷ ls) = stands c l i is ls && are_alike c is ls
 
--- the first instruction of the old code lands where the new code, of this length, begins; of 0 it
--- doesn't
+-- the first instruction of the old code lands where the new code, of this length, begins; code
+-- without instructions has no beginning
 abbrev pub begins : List Landing → ℕ → Bool
 begins [] len = false
 begins (l ∷ ls) len = nat_lt 0 l.place && l.place == len
