@@ -15,9 +15,10 @@ pub record Answers (prog : List Insn) (p : List ℕ) (n answer : ℕ) : Type 0 w
   pub upper_bound : count ≤ length prog
 
 -- a program has at most two instructions more for each test of the wide code, is valid where that
--- code is and the program isn't too long, and gives the code's answer on each packet on which that
--- answers. If the code has no jump, the program has jumps only where they are needed; and neither
--- jumps nor more instructions than the code, if that has at most 256, so that no target is far
+-- code is and the program isn't too long, and returns what the code returns, on each packet for
+-- which that returns. If the code has no jump, the program has jumps only where they are needed;
+-- and neither jumps nor more instructions than the code, if that has at most 256, so that no target
+-- is far
 pub record Lays (new wide : List Insn) : Type 0 where
   pub at_most : length new
       ≤ length wide + 2 * count_by (λ i. is_branch (operation_of i.code)) wide

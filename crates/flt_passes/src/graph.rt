@@ -92,7 +92,8 @@ pub(crate) struct Node {
     pub operation: Operation,
     /// The instruction's constant.
     pub k: u32,
-    /// The index of the node where a run goes on, after a test if it holds; `NOWHERE` if it ends.
+    /// The index of the node where a run goes on, after a test if it holds; `NOWHERE` if it ends,
+    /// or goes on past the end.
     pub yes: usize,
     /// Where a run goes on if a test doesn't hold; of what isn't a test the same as `yes`.
     pub no: usize,

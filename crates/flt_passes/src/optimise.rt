@@ -37,9 +37,9 @@ const LATER_PASSES: [Pass; 5] = [
 #[derive(Drop)]
 pub struct Improved<A: Allocator> {
     pub code: Vec<Wide, A>,
-    /// How many results of passes weren't taken, since they weren't seen to return the same.
+    /// How many results of single passes weren't taken, since they weren't seen to return the same.
     pub refusals: usize,
-    /// How many results of passes were taken.
+    /// How many results of passes were taken: of all of a turn at once, or of single ones.
     pub changes: usize,
 }
 

@@ -284,8 +284,8 @@ impl<A: Allocator + Clone> Searching<A> {
     }
 
     /// Puts other tests in place of a region: a search or a shorter chain, where it has fewer
-    /// tests, or is much quicker. Its first node takes the place of `head`; the region's other
-    /// tests are reached by no run then.
+    /// tests, or for many numbers fewer than twice as many. Its first node takes the place of
+    /// `head`; the region's other tests are reached by no run then.
     fn replace_region(&mut self, head: usize, region: &[usize]) -> Result<(), AllocError> {
         let chain = self.chain_from(head)?;
         let ranges = if chain.exits.len() == region.len() {
