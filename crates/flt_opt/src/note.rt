@@ -8,10 +8,10 @@ use flt_bpf::operation::Width;
 pub struct Load {
     /// How many bytes it takes.
     pub width: Width,
-    /// Where they begin: at this byte of the packet, or this many bytes past the header; there
-    /// modulo 2^32.
+    /// Where they begin: at this byte of the packet; or if there is a `header`, at this and the
+    /// header's length, modulo 2^32. (Right after a header that begins at byte 14 `at` is 14.)
     pub at: u32,
-    /// Where the IPv4 header begins that they are past, if they are past one.
+    /// Where the IPv4 header begins whose length is added to `at`, if one is.
     pub header: Option<u32>,
     /// The bits of the number that are left, if not all of them.
     pub mask: Option<u32>,

@@ -26,14 +26,14 @@ use Rattle.flt_opt.specs.declared.note.Both.{Both}
 abbrev pub header_at : List ℕ → ℕ → Option ℕ
 header_at p at = option_map header_length (field p at Byte)
 
--- the number that begins `at` bytes past the beginning of the packet and a header's length, modulo
--- 2^32, if it is captured; none without a length
+-- the number at a place to which a header's length is added, modulo 2^32, if it is captured; none
+-- without a length
 abbrev pub past : List ℕ → Width → ℕ → Option ℕ → Option ℕ
 past p width at None = None
 past p width at (Some length) = field p ((length + at) % 2 ^ 32) width
 
--- the number at a place past the header that begins at another one, or without a header at a fixed
--- place, if it is captured
+-- the number at a place to which the length of the header is added that begins at another one, if
+-- both are captured; or without a header the number at the place itself, if it is captured
 abbrev pub bare : List ℕ → Width → ℕ → Option ℕ → Option ℕ
 bare p width at None = field p at width
 bare p width at (Some header) = past p width at (header_at p header)
