@@ -33,7 +33,8 @@ past p width at None = None
 past p width at (Some length) = field p ((length + at) % 2 ^ 32) width
 
 -- the number at a place to which the length of the header is added that begins at another one, if
--- both are captured; or without a header the number at the place itself, if it is captured
+-- the number and the header's first byte are captured; without a header the number at the place
+-- itself, if it is captured
 abbrev pub bare : List ℕ → Width → ℕ → Option ℕ → Option ℕ
 bare p width at None = field p at width
 bare p width at (Some header) = past p width at (header_at p header)
