@@ -164,16 +164,16 @@ impl<A: Allocator> Steps<A> {
             (IsPut (hosts_of_kind link kind wanted self.old.numbers) self.old self.new) }
     {
         let at = address_places(link, kind);
-        self.check(kind_test(link, kind))?;
+        self.put_test(kind_test(link, kind))?;
         match wanted {
             Hosts::Net(net) => {
                 let source = address_test(net.mask, net.address, at.source);
                 let destination = address_test(net.mask, net.address, at.destination);
-                self.check_sides(net.direction, &[source], &[destination])?;
+                self.put_sides(net.direction, &[source], &[destination])?;
             }
-            Hosts::Several(direction, first) => self.among_sides(direction, at, first)?,
+            Hosts::Several(direction, first) => self.put_among_sides(direction, at, first)?,
         }
-        self.join(Join::And)
+        self.put_join(Join::And)
     }
 
     /// Adds the steps of `host` and `net` of IPv4, in the headers that their protocol allows:
@@ -191,13 +191,13 @@ impl<A: Allocator> Steps<A> {
             Some(Protocol::Ip) => self.put_hosts_of_kind(link, FrameKind::Ip, wanted),
             Some(Protocol::Arp) => self.put_hosts_of_kind(link, FrameKind::Arp, wanted),
             Some(Protocol::Rarp) => self.put_hosts_of_kind(link, FrameKind::Rarp, wanted),
-            Some(_) => self.check(Elementary::Outcome(false)),
+            Some(_) => self.put_test(Elementary::Outcome(false)),
             None => {
                 self.put_hosts_of_kind(link, FrameKind::Ip, wanted)?;
                 self.put_hosts_of_kind(link, FrameKind::Arp, wanted)?;
                 self.put_hosts_of_kind(link, FrameKind::Rarp, wanted)?;
-                self.join(Join::Or)?;
-                self.join(Join::Or)
+                self.put_join(Join::Or)?;
+                self.put_join(Join::Or)
             }
         }
     }
@@ -205,26 +205,26 @@ impl<A: Allocator> Steps<A> {
     /// Adds the steps of tests of words that all have to hold, each after the one before. One of
     /// which no bit counts is left out in front of another: where its word isn't captured, no later
     /// one is.
-    fn check_words(&mut self, tests: &[Elementary]) -> Result<(), AllocError>
+    fn put_words(&mut self, tests: &[Elementary]) -> Result<(), AllocError>
         ensures { OnOk result (IsPut (all_of (needed_tests tests.now)) self.old self.new) }
     {
         match tests {
-            [] => self.check(Elementary::Outcome(true)),
-            [only] => self.check(last_test(*only)),
+            [] => self.put_test(Elementary::Outcome(true)),
+            [only] => self.put_test(last_test(*only)),
             [first, others @ ..] => {
                 if is_idle(*first) {
-                    return self.check_words(others);
+                    return self.put_words(others);
                 }
-                self.check(*first)?;
-                self.check_words(others)?;
-                self.join(Join::And)
+                self.put_test(*first)?;
+                self.put_words(others)?;
+                self.put_join(Join::And)
             }
         }
     }
 
     /// Adds the steps of the tests of words of the source and of the destination, as a direction
     /// asks for them.
-    fn check_word_sides(
+    fn put_word_sides(
         &mut self,
         direction: Direction,
         source: &[Elementary],
@@ -234,12 +234,12 @@ impl<A: Allocator> Steps<A> {
             (IsPut (needed_sides direction source.now destination.now) self.old self.new) }
     {
         match direction {
-            Direction::One(Side::Source) => self.check_words(source),
-            Direction::One(Side::Destination) => self.check_words(destination),
+            Direction::One(Side::Source) => self.put_words(source),
+            Direction::One(Side::Destination) => self.put_words(destination),
             Direction::Both(join) => {
-                self.check_words(source)?;
-                self.check_words(destination)?;
-                self.join(join)
+                self.put_words(source)?;
+                self.put_words(destination)?;
+                self.put_join(join)
             }
         }
     }
@@ -260,8 +260,8 @@ impl<A: Allocator> Steps<A> {
         // The addresses stand at bytes 8 and 24 of the header (RFC 8200, section 3).
         let source = ip6_tests(prefix, address, start + 8);
         let destination = ip6_tests(prefix, address, start + 24);
-        self.check(kind_test(link, FrameKind::Ip6))?;
-        self.check_word_sides(direction, &source, &destination)?;
-        self.join(Join::And)
+        self.put_test(kind_test(link, FrameKind::Ip6))?;
+        self.put_word_sides(direction, &source, &destination)?;
+        self.put_join(Join::And)
     }
 }

@@ -198,7 +198,7 @@ impl<A: Allocator> Group<A> {
                 )
             }
             // No other type has members.
-            _ => steps.check(Elementary::Outcome(false)),
+            _ => steps.put_test(Elementary::Outcome(false)),
         }
     }
 }

@@ -123,7 +123,7 @@ impl<A: Allocator> Steps<A> {
         );
         match wanted.ports {
             Ports::One(port) => {
-                self.check_sides(
+                self.put_sides(
                     direction,
                     &port_is(port, source),
                     &port_is(port, destination),
@@ -131,7 +131,7 @@ impl<A: Allocator> Steps<A> {
             }
             Ports::Between(first, last) => {
                 let source = port_between(first, last, source);
-                self.check_sides(direction, &source, &port_between(first, last, destination))
+                self.put_sides(direction, &source, &port_between(first, last, destination))
             }
             Ports::Several(first) => {
                 let width = Width::HalfWord;
@@ -140,7 +140,7 @@ impl<A: Allocator> Steps<A> {
                     source,
                     destination,
                 };
-                self.among_sides(direction, at, first)
+                self.put_among_sides(direction, at, first)
             }
         }
     }
@@ -154,9 +154,9 @@ impl<A: Allocator> Steps<A> {
         match header.no_later_fragment {
             None => self.put_port_sides(header, wanted),
             Some(no_later_fragment) => {
-                self.check(no_later_fragment)?;
+                self.put_test(no_later_fragment)?;
                 self.put_port_sides(header, wanted)?;
-                self.join(Join::And)
+                self.put_join(Join::And)
             }
         }
     }
@@ -168,17 +168,17 @@ impl<A: Allocator> Steps<A> {
             (IsPut (transport_ports header wanted self.old.numbers) self.old self.new) }
     {
         match wanted.protocol {
-            Some(Protocol::Tcp) => self.check(header.tcp)?,
-            Some(Protocol::Udp) => self.check(header.udp)?,
+            Some(Protocol::Tcp) => self.put_test(header.tcp)?,
+            Some(Protocol::Udp) => self.put_test(header.udp)?,
             None => {
-                self.check(header.tcp)?;
-                self.check(header.udp)?;
-                self.join(Join::Or)?;
+                self.put_test(header.tcp)?;
+                self.put_test(header.udp)?;
+                self.put_join(Join::Or)?;
             }
-            Some(_) => return self.check(Elementary::Outcome(false)),
+            Some(_) => return self.put_test(Elementary::Outcome(false)),
         }
         self.put_ports_after(header, wanted)?;
-        self.join(Join::And)
+        self.put_join(Join::And)
     }
 
     /// Adds the steps of `port` and `portrange`, after a header of IPv4 or of IPv6.
@@ -186,12 +186,12 @@ impl<A: Allocator> Steps<A> {
         ensures { OnOk result
             (IsPut (port_formula link wanted self.old.numbers) self.old self.new) }
     {
-        self.check(kind_test(link, FrameKind::Ip))?;
+        self.put_test(kind_test(link, FrameKind::Ip))?;
         self.put_transport_ports(ip_transport(link), wanted)?;
-        self.join(Join::And)?;
-        self.check(kind_test(link, FrameKind::Ip6))?;
+        self.put_join(Join::And)?;
+        self.put_test(kind_test(link, FrameKind::Ip6))?;
         self.put_transport_ports(ip6_transport(link), wanted)?;
-        self.join(Join::And)?;
-        self.join(Join::Or)
+        self.put_join(Join::And)?;
+        self.put_join(Join::Or)
     }
 }

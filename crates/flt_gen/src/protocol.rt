@@ -51,14 +51,14 @@ impl<A: Allocator> Steps<A> {
     fn put_ip_proto(&mut self, link: Link, protocol: u32) -> Result<(), AllocError>
         ensures { OnOk result (IsPut (ip_proto link protocol) self.old self.new) }
     {
-        self.check_all(&[kind_test(link, FrameKind::Ip), has_ip_proto(link, protocol)])
+        self.put_tests(&[kind_test(link, FrameKind::Ip), has_ip_proto(link, protocol)])
     }
 
     /// Adds the steps of IPv6 with this next header. Extension headers aren't looked past.
     fn put_ip6_proto(&mut self, link: Link, protocol: u32) -> Result<(), AllocError>
         ensures { OnOk result (IsPut (ip6_proto link protocol) self.old self.new) }
     {
-        self.check_all(&[
+        self.put_tests(&[
             kind_test(link, FrameKind::Ip6),
             has_ip6_proto(link, protocol),
         ])
@@ -70,7 +70,7 @@ impl<A: Allocator> Steps<A> {
     {
         self.put_ip_proto(link, protocol)?;
         self.put_ip6_proto(link, protocol)?;
-        self.join(Join::Or)
+        self.put_join(Join::Or)
     }
 
     /// Adds the steps of a protocol's keyword alone, as `tcp` or `arp`.
@@ -78,11 +78,11 @@ impl<A: Allocator> Steps<A> {
         ensures { OnOk result (IsPut (check_formula link protocol) self.old self.new) }
     {
         match protocol {
-            Protocol::Ether => self.check(kind_test(link, FrameKind::Ethernet)),
-            Protocol::Ip => self.check(kind_test(link, FrameKind::Ip)),
-            Protocol::Ip6 => self.check(kind_test(link, FrameKind::Ip6)),
-            Protocol::Arp => self.check(kind_test(link, FrameKind::Arp)),
-            Protocol::Rarp => self.check(kind_test(link, FrameKind::Rarp)),
+            Protocol::Ether => self.put_test(kind_test(link, FrameKind::Ethernet)),
+            Protocol::Ip => self.put_test(kind_test(link, FrameKind::Ip)),
+            Protocol::Ip6 => self.put_test(kind_test(link, FrameKind::Ip6)),
+            Protocol::Arp => self.put_test(kind_test(link, FrameKind::Arp)),
+            Protocol::Rarp => self.put_test(kind_test(link, FrameKind::Rarp)),
             Protocol::Tcp => self.put_any_proto(link, IPPROTO_TCP.into()),
             Protocol::Udp => self.put_any_proto(link, IPPROTO_UDP.into()),
             Protocol::Icmp => self.put_ip_proto(link, IPPROTO_ICMP.into()),
@@ -104,9 +104,9 @@ impl<A: Allocator> Steps<A> {
         match below {
             Some(Protocol::Ip) => self.put_ip_proto(link, protocol),
             Some(Protocol::Ip6) => self.put_ip6_proto(link, protocol),
-            Some(Protocol::Ether) => self.check(has_type(link, protocol)),
+            Some(Protocol::Ether) => self.put_test(has_type(link, protocol)),
             None => self.put_any_proto(link, protocol),
-            Some(_) => self.check(Elementary::Outcome(false)),
+            Some(_) => self.put_test(Elementary::Outcome(false)),
         }
     }
 
@@ -120,10 +120,10 @@ impl<A: Allocator> Steps<A> {
         ensures { OnOk result
             (IsPut (ether_host link direction address) self.old self.new) }
     {
-        self.check(kind_test(link, FrameKind::Ethernet))?;
+        self.put_test(kind_test(link, FrameKind::Ethernet))?;
         // The source is at byte 6 of a frame, the destination at byte 0.
-        self.check_sides(direction, &mac_tests(6, address), &mac_tests(0, address))?;
-        self.join(Join::And)
+        self.put_sides(direction, &mac_tests(6, address), &mac_tests(0, address))?;
+        self.put_join(Join::And)
     }
 
     /// Adds the steps of `broadcast` or `multicast`, with the protocol before it, or none. With a
@@ -143,20 +143,20 @@ impl<A: Allocator> Steps<A> {
                 self.put_ether_host(link, destination, 0xffff_ffff_ffff)
             }
             (Cast::Multicast, None | Some(Protocol::Ether)) => {
-                self.check_all(&[kind_test(link, FrameKind::Ethernet), is_group_address()])
+                self.put_tests(&[kind_test(link, FrameKind::Ethernet), is_group_address()])
             }
             (Cast::Multicast, Some(Protocol::Ip)) => {
                 // The first byte of the destination address: groups begin at 224.0.0.0.
                 let first = Offset::Fixed(network_offset(link) + 16);
                 let is_group = compares_at(first, Width::Byte, Comparison::AtLeast, 224);
-                self.check_all(&[kind_test(link, FrameKind::Ip), is_group])
+                self.put_tests(&[kind_test(link, FrameKind::Ip), is_group])
             }
             (Cast::Multicast, Some(Protocol::Ip6)) => {
                 // The first byte of an IPv6 destination address: groups are ff00::/8.
                 let is_group = is_at(network_offset(link) + 24, Width::Byte, 255);
-                self.check_all(&[kind_test(link, FrameKind::Ip6), is_group])
+                self.put_tests(&[kind_test(link, FrameKind::Ip6), is_group])
             }
-            (_, Some(_)) => self.check(Elementary::Outcome(false)),
+            (_, Some(_)) => self.put_test(Elementary::Outcome(false)),
         }
     }
 }

@@ -76,14 +76,14 @@ impl<A: Allocator> Steps<A> {
     }
 
     /// Adds a step: a test.
-    pub fn check(&mut self, test: Elementary) -> Result<(), AllocError>
+    pub fn put_test(&mut self, test: Elementary) -> Result<(), AllocError>
         ensures { OnOk result (IsPut (Single test) self.old self.new) }
     {
         self.steps.push(Step::Check(test))
     }
 
     /// Adds a step: whether a field is one of the numbers.
-    pub fn among_all(&mut self, field: MaskedField) -> Result<(), AllocError>
+    pub fn put_among_all(&mut self, field: MaskedField) -> Result<(), AllocError>
         ensures { OnOk result (IsPut (Among field self.old.numbers) self.old self.new) }
     {
         self.steps.push(Step::AmongAll(field))
@@ -91,7 +91,7 @@ impl<A: Allocator> Steps<A> {
 
     /// Adds a step: whether a field is one of the numbers, of which `first` is left out once,
     /// unless there is only one number.
-    pub fn among_others(&mut self, field: MaskedField, first: u32) -> Result<(), AllocError>
+    pub fn put_among_others(&mut self, field: MaskedField, first: u32) -> Result<(), AllocError>
         ensures { OnOk result
             (IsPut (Among field (remaining first self.old.numbers)) self.old self.new) }
     {
@@ -99,30 +99,30 @@ impl<A: Allocator> Steps<A> {
     }
 
     /// Adds a step: an operator between the last two formulas, whose steps are there.
-    pub fn join(&mut self, join: Join) -> Result<(), AllocError>
+    pub fn put_join(&mut self, join: Join) -> Result<(), AllocError>
         ensures { OnOk result (IsJoined join self.old self.new) }
     {
         self.steps.push(Step::Joined(join))
     }
 
     /// Adds the steps of some tests that all have to hold; of no tests, a step that always matches.
-    pub fn check_all(&mut self, tests: &[Elementary]) -> Result<(), AllocError>
+    pub fn put_tests(&mut self, tests: &[Elementary]) -> Result<(), AllocError>
         ensures { OnOk result (IsPut (all_of tests.now) self.old self.new) }
     {
         match tests {
-            [] => self.check(Elementary::Outcome(true)),
-            [only] => self.check(*only),
+            [] => self.put_test(Elementary::Outcome(true)),
+            [only] => self.put_test(*only),
             [first, others @ ..] => {
-                self.check(*first)?;
-                self.check_all(others)?;
-                self.join(Join::And)
+                self.put_test(*first)?;
+                self.put_tests(others)?;
+                self.put_join(Join::And)
             }
         }
     }
 
     /// Adds the steps of the tests of the source and of the destination, as a direction asks for
     /// them.
-    pub fn check_sides(
+    pub fn put_sides(
         &mut self,
         direction: Direction,
         source: &[Elementary],
@@ -132,12 +132,12 @@ impl<A: Allocator> Steps<A> {
             (IsPut (sides direction source.now destination.now) self.old self.new) }
     {
         match direction {
-            Direction::One(Side::Source) => self.check_all(source),
-            Direction::One(Side::Destination) => self.check_all(destination),
+            Direction::One(Side::Source) => self.put_tests(source),
+            Direction::One(Side::Destination) => self.put_tests(destination),
             Direction::Both(join) => {
-                self.check_all(source)?;
-                self.check_all(destination)?;
-                self.join(join)
+                self.put_tests(source)?;
+                self.put_tests(destination)?;
+                self.put_join(join)
             }
         }
     }
@@ -145,7 +145,7 @@ impl<A: Allocator> Steps<A> {
     /// Adds the steps that look for the numbers on a side, or on either. The source is compared
     /// with the first number alone before the destination is looked at, as by tests of one number
     /// after the other.
-    pub fn among_sides(
+    pub fn put_among_sides(
         &mut self,
         direction: Direction,
         at: Sides,
@@ -157,17 +157,17 @@ impl<A: Allocator> Steps<A> {
         let source = whole_field(at.source, at.width);
         let destination = whole_field(at.destination, at.width);
         match direction {
-            Direction::One(Side::Source) => self.among_all(source),
-            Direction::One(Side::Destination) => self.among_all(destination),
+            Direction::One(Side::Source) => self.put_among_all(source),
+            Direction::One(Side::Destination) => self.put_among_all(destination),
             Direction::Both(Join::Or) => {
-                self.check(compares_at(at.source, at.width, Comparison::Equal, first))?;
-                self.among_all(destination)?;
-                self.among_others(source, first)?;
-                self.join(Join::Or)?;
-                self.join(Join::Or)
+                self.put_test(compares_at(at.source, at.width, Comparison::Equal, first))?;
+                self.put_among_all(destination)?;
+                self.put_among_others(source, first)?;
+                self.put_join(Join::Or)?;
+                self.put_join(Join::Or)
             }
             // Several numbers never have this direction (`same_direction` of group.rt).
-            Direction::Both(Join::And) => self.check(Elementary::Outcome(false)),
+            Direction::Both(Join::And) => self.put_test(Elementary::Outcome(false)),
         }
     }
 }

@@ -38,7 +38,7 @@ impl<A: Allocator> Steps<A> {
             }
             Value::Ip6(address, _) => self.put_ip6(link, direction, None, address),
             Value::Mac(address) => self.put_ether_host(link, direction, address),
-            _ => self.check(Elementary::Outcome(false)),
+            _ => self.put_test(Elementary::Outcome(false)),
         }
     }
 
@@ -61,7 +61,7 @@ impl<A: Allocator> Steps<A> {
                     let net = NetTest::new(direction, partial_mask(net.mask), net.address);
                     self.put_hosts(link, protocol, Hosts::Net(net))
                 }
-                None => self.check(Elementary::Outcome(false)),
+                None => self.put_test(Elementary::Outcome(false)),
             },
         }
     }
@@ -89,7 +89,7 @@ impl<A: Allocator> Steps<A> {
                 self.put_ports(link, PortTest::new(protocol, direction, ports))
             }
             (ValueType::Proto, Value::Number(number, _)) => self.put_proto(link, protocol, number),
-            _ => self.check(Elementary::Outcome(false)),
+            _ => self.put_test(Elementary::Outcome(false)),
         }
     }
 }
