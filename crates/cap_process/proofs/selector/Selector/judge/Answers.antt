@@ -49,14 +49,14 @@ returns-clause-exact g c = λ within counted.
     let after : SelectorState = state_of w.passed (marks_in c.keeps.new.window) w.tally in
     let K : Bool → Type 0 = λ b. ReturnsVerdict (count_limit (policy_of w.policy)) (judge_by (policy_of w.policy) state c.args.number p) (Ok b) q after in
     let keeps : K true = subst K c.if-not-branch.false (c.in_ok-keeps.ensures.exact w.passed w.tally judges) in
-    let is : verdict_of c.passing.result q ≡ verdict_if q (is_last (count_limit (policy_of c.if-passed-number.self-inside.policy)) c.if-passed-number.self-inside.passed) =
-    c.passing.ensures q ∙ ap (verdict_if q) (c.is_last-last.ensures ∙ ap (λ (n : Option ℕ). is_last n c.if-passed-number.self-inside.passed) c.count_limit.ensures) in
+    let is : verdict_of c.pass_verdict.result q ≡ verdict_if q (is_last (count_limit (policy_of c.if-passed-number.self-inside.policy)) c.if-passed-number.self-inside.passed) =
+    c.pass_verdict.ensures q ∙ ap (verdict_if q) (c.is_last-last.ensures ∙ ap (λ (n : Option ℕ). is_last n c.if-passed-number.self-inside.passed) c.count_limit.ensures) in
     let few_before : w.passed < c.args.number = (let N : SelectorView → Type 0 = λ v. v.state.passed < c.args.number in subst N (sym c.self.view_is) within) in
     elim c.if-passed-number.branch [
       | then-passed-number b ↦ (let last = rw b.self-inside-is at is in
-          let P : SelectorView → Type 0 = λ v. IsVerdict (judge v.policy v.state c.args.number p) (Ok c.passing.result) q (state_of (w.passed + 1) (marks_in c.keeps.new.window) w.tally) in
+          let P : SelectorView → Type 0 = λ v. IsVerdict (judge v.policy v.state c.args.number p) (Ok c.pass_verdict.result) q (state_of (w.passed + 1) (marks_in c.keeps.new.window) w.tally) in
           rw b.self-inside-is (subst P c.self.view_is
-          (tells-passed (policy_of w.policy) (policy_of c.keeps.new.self) state after c.args.number p q c.passing.result judges c.if-number-ge-NUMBER_END.false keeps c.keeps.ensures.policy last)))
+          (tells-passed (policy_of w.policy) (policy_of c.keeps.new.self) state after c.args.number p q c.pass_verdict.result judges c.if-number-ge-NUMBER_END.false keeps c.keeps.ensures.policy last)))
       | else-passed-number b ↦ absurd (omega arith)
     ]
 
