@@ -1,4 +1,5 @@
-//! Hosts or ports that are looked for together.
+//! Hosts or ports that are looked for together. They come from the last one to the first, so each is
+//! put in front of the others.
 
 ghost use Rattle.std.specs.Prelude.{◌≡◌, ◌≤◌, if◌then◌else◌, Some, None, length, IfOk, OnOk};
 ghost use Rattle.std.specs.List.{insert};
@@ -18,7 +19,8 @@ use std::alloc::{AllocError, Allocator};
 use std::marker::Model;
 
 /// How many hosts or ports are looked for together at most. Each is put in its place among the
-/// others, so that a group takes time by the square of its length.
+/// others, so that a group takes time by the square of its length. `MOST_SPLITS` of `flt_opt` and
+/// `flt_passes` (12) go as deep as a search by halves among as many.
 const MOST_TOGETHER: usize = 4096;
 
 /// Hosts or ports with the same protocol and direction: the address or number of the one that

@@ -1,4 +1,6 @@
-//! What waits during the walk over an expression's nodes, from the last one to the first.
+//! What waits in the lists of `Walk` (walk.rt) while it goes over an expression's nodes, from the
+//! last one to the first: left operands of truths (parts that are yes or no) and of numbers, and the
+//! protocols of a relation's accessors, whose tests are emitted once its operands are.
 
 ghost use Rattle.std.specs.Prelude.{◌≡◌, OnOk};
 ghost use Rattle.flt_gen.specs.inside.Emitted.{equals, without_protocol, with_accessor};
@@ -21,7 +23,7 @@ pub struct LeftTruth {
 pub enum Waiting {
     /// An accessor: the number is its index.
     Index(Protocol),
-    /// A left operand comes after the number, which is the right one. It goes into this word of
+    /// The number is a right operand. The left one comes after it, and goes into this word of
     /// memory.
     Left(u32),
 }

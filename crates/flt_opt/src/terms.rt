@@ -23,7 +23,7 @@ pub fn is_known(term: Term) -> bool
     !matches!(term, Term::Anything)
 }
 
-/// Whether two terms are the same.
+/// Whether two terms are the same. (A function, so that `==` has a clause.)
 pub fn same_term(one: Term, other: Term) -> bool
     ensures { IsTrue result → one ≡ other }
 {
@@ -209,8 +209,9 @@ pub fn after_new(operation: Operation, k: u32, both: Both) -> Both
     }
 }
 
-/// The term that an operation puts into A; that of X for the load of a header's length. Of a load
-/// from the packet it has a value only where its bytes are captured, and there the load leads on.
+/// The term that A holds after an operation, whether that put it there or not; of the load of a
+/// header's length the term of X. Of a load from the packet it has a value only where its bytes are
+/// captured, and there the load leads on.
 pub fn made_term(operation: Operation, k: u32, registers: Registers) -> Term
     ensures { result ≡ made_term operation k registers }
 {

@@ -1,10 +1,16 @@
-//! How far the old run goes by what is known: to a goal, or to a rejection.
+//! How far the old run goes by what is known: to a goal (`walk`), or to a rejection (`rejects`).
 //!
-//! Where what is known decides a test, the walk takes that side. Where it doesn't, one side has to
-//! lead to the goal, and the walk goes on along the other one: what is known at the goal in the end
-//! is what is known on all ways that met there.
+//! On the way to a goal it passes only what can't fail and touches no word of memory. Where what is
+//! known decides a test, the walk takes that side. Where it doesn't, one side has to lead to the
+//! goal, and the walk goes on along the other one: what is known at the goal in the end is what is
+//! known on all ways that met there.
 //!
-//! In clauses `p` is the captured bytes of a packet, and `n` its original length.
+//! On the way to a rejection it also passes stores and what may fail, since a run that fails rejects
+//! the packet too. Where what is known doesn't decide a test, both sides have to lead to one.
+//!
+//! In clauses `p` is the captured bytes of a packet, and `n` its original length. `jt` and `jf` are
+//! `yes` and `no` of a wide instruction. `2 ^ 62` is more than any index of code, so that what is
+//! added to one for a jump can't overflow.
 
 ghost use Rattle.std.specs.Prelude.{◌≡◌, ℕ, List, ◌+◌, ◌^◌, ◌<◌, ◌∷◌, Some, None, IfSome, IsSome};
 ghost use Rattle.std.specs.Prelude.{IsTrue, slice_get};
@@ -24,7 +30,8 @@ use flt_bpf::Wide;
 use flt_bpf::operation::{Operation, Test, decode};
 
 /// How many instructions `walk` passes at most, on all its ways together, and `rejects` from one
-/// undecided test to the next: so a call ends soon, whatever the notes say.
+/// undecided test to the next, of which at most four follow on a way (`one_way_rejects`): so a call
+/// ends soon, whatever the notes say.
 pub(crate) const MOST_STEPS: u32 = 8192;
 
 /// Whether a run with these registers is sure to go on at the next instruction after an operation
@@ -260,7 +267,8 @@ pub(crate) fn is_rejection(insn: Wide) -> bool
 pub(crate) struct Start {
     /// The index of the instruction.
     pub at: usize,
-    /// From how many undecided tests, one after the other, both ways may still be followed.
+    /// From how many undecided tests, one after the other, both ways may still be followed. It shows
+    /// that the calls end; `one_way_rejects` says no sooner, since it keeps four outcomes at most.
     pub splits: u32,
 }
 

@@ -249,7 +249,7 @@ impl<A: Allocator + Clone> Finder<'_, A> {
     }
 
     /// Both runs after an instruction of the new program that isn't a test, which it does by a
-    /// rule.
+    /// rule. (The new code has no `ja`: `write` puts none.)
     fn way_after(&self, way: &Way, insn: Wide, operation: Operation, rule: Rule) -> Way {
         let both = match rule {
             Rule::Own => after_new(operation, insn.k, way.arrival.both),

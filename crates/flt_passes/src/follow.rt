@@ -54,7 +54,7 @@ struct Follower<'a, A: Allocator> {
     pieces: &'a [Piece],
     /// What is known of the run at the beginning.
     known: &'a Known,
-    /// What the undecided tests have shown on whose sides it is.
+    /// What the undecided tests on its way have shown.
     learnt: Vec<Learnt, A>,
     /// The nodes that were met to which the edge may lead (`may_lead_to`), the nearest first.
     trail: Vec<usize, A>,

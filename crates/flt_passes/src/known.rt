@@ -180,9 +180,9 @@ pub(crate) fn common_facts<A: Allocator>(
     Ok(facts)
 }
 
-/// The facts after a test, with one on the term of its outcome `learnt`, which is that of A, or by
-/// a test of bits that one masked: it has a value, which is among the numbers that the outcome
-/// leaves. Where the term is a number or anything, no fact comes of it.
+/// The facts after a test with the outcome `learnt`, and one on the outcome's term (A's; by a test
+/// of bits A's, masked): it has a value, which is among the numbers that the outcome leaves. Where
+/// the term is a number or anything, no fact comes of it.
 pub(crate) fn facts_after_test<A: Allocator>(
     pieces: &mut Vec<Piece, A>,
     facts: &Facts,
@@ -261,7 +261,8 @@ impl Known {
     }
 
     /// Whether the result of a node, which is no test, is known before a run does it: of a load
-    /// from the packet, that its bytes are captured, of any other node, which term it makes.
+    /// from the packet, that its bytes are captured; of any other node, which term A holds after
+    /// it, even if the node puts nothing into A.
     pub(crate) fn tells_result_of(&self, node: Node) -> bool {
         let term = made_term(node.operation, node.k, self.registers);
         if !loads_from_packet(node.operation) {

@@ -1,5 +1,5 @@
-//! The passes by name, and the code that some of them make of other code. Nothing here is trusted,
-//! so no function has a clause (lib.rt).
+//! The passes by name, and the code that a list of them makes of other code. Which are made, and in
+//! what order, `optimise` says. Nothing here is trusted, so no function has a clause (lib.rt).
 
 use crate::bits::join_instructions;
 use crate::gather::gather_tests;

@@ -7,6 +7,8 @@
 //! place that may be one (`find_goal`). Then all ways have to lead there (`walk_past_tests`): one
 //! side of each such test is walked to the goal, and the walk goes on along the other. Where they
 //! don't, the next pattern is tried (`walk_to_some_goal`).
+//!
+//! `common_both` is here for `finder` too, which joins the ways to a draft by it.
 
 use crate::graph::place_after;
 use crate::known::{Facts, common_registers, loads_from_packet};
@@ -56,7 +58,7 @@ struct Way {
     here: Arrival,
     /// A load was passed whose bytes may not be captured, so the packet may have been rejected.
     may_fail: bool,
-    /// What the last undecided tests have shown on whose sides it is.
+    /// What the last undecided tests on its way have shown.
     learnt: [Learnt; OUTCOMES],
 }
 
