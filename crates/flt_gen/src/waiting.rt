@@ -1,5 +1,5 @@
-//! What waits in the lists of `Walk` (walk.rt) while it goes over an expression's nodes, from the
-//! last one to the first: left operands of truths (parts that are yes or no) and of numbers, and the
+//! What waits in the lists of `Walk` (walk.rt) while it takes an expression's nodes, from the last
+//! one to the first: left operands of truths (parts that are yes or no) and of numbers, and the
 //! protocols of a relation's accessors, whose tests are emitted once its operands are.
 
 ghost use Rattle.std.specs.Prelude.{◌≡◌, OnOk};

@@ -119,8 +119,8 @@ fn direct_code(indirect: u16) -> Option<u16> {
 }
 
 /// Code that grows from its end to its beginning, while the old code is read in that order too.
-/// Where something is too far, an instruction lands nowhere, nor do those that go on there land
-/// anywhere, or it lands where other code stands; the new code isn't taken then.
+/// Where a target is too far or there is no room, an instruction lands nowhere, and so do those that
+/// go on there; or it lands where other code stands. Either way the new code isn't taken.
 #[derive(Drop)]
 struct Shortening<'a> {
     /// The old code.
@@ -448,6 +448,7 @@ impl Shortening<'_> {
             self.emit_plain(at, load, index_after(at, 2));
         } else if let Some((length, load)) = self.header_load_at(at) {
             self.emit_plain(at, load, index_after(at, 4));
+            // It goes on at the load, whose landing `at` has until now.
             self.emit_plain(at, length, at);
         } else if let Some(insn) = self.insn_at(at) {
             self.emit_alone(at, insn);
