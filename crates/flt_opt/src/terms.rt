@@ -209,9 +209,9 @@ pub fn after_new(operation: Operation, k: u32, both: Both) -> Both
     }
 }
 
-/// The term that A holds after an operation, whether that put it there or not; of the load of a
-/// header's length the term of X. Of a load from the packet it has a value only where its bytes are
-/// captured, and there the load leads on.
+/// The term by which one sees whether an operation leads on: of a load from the packet it has a
+/// value only where its bytes are captured. It is what A holds after the operation, even if that
+/// puts nothing into A; of the load of a header's length it is what X holds.
 pub fn made_term(operation: Operation, k: u32, registers: Registers) -> Term
     ensures { result ≡ made_term operation k registers }
 {

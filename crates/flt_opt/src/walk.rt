@@ -268,7 +268,8 @@ pub(crate) struct Start {
     /// The index of the instruction.
     pub at: usize,
     /// From how many undecided tests, one after the other, both ways may still be followed. It shows
-    /// that the calls end; `one_way_rejects` says no sooner, since it keeps four outcomes at most.
+    /// that the calls end; `one_way_rejects` gives up before that, since it keeps four outcomes at
+    /// most.
     pub splits: u32,
 }
 

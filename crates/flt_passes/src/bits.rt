@@ -162,6 +162,7 @@ pub(crate) fn join_instructions<A: Allocator + Clone>(
     }
     let lives = lives_of_graph(alloc.clone()?, &nodes)?;
     let mut is_changed = false;
+    // From the first to the last, so that those after this one are still those of `lives`.
     for at in 0..nodes.len() {
         if let Some(node) = nodes.get(at).copied()
             && let Some(other) = joined_node(&mut nodes, &lives, node)?

@@ -261,7 +261,8 @@ impl<A: Allocator + Clone> Gathering<A> {
         field == new_field || !live_at(&self.lives, chain.exit).accumulator
     }
 
-    /// Puts the chain in order that begins at the node `head`, if one does, and that saves a load.
+    /// Puts the chain that begins at the node `head` in order, if one begins there and a load is
+    /// saved by it.
     fn gather_chain(&mut self, head: usize) -> Result<(), AllocError> {
         let Some(node) = self.nodes.get(head).copied() else {
             return Ok(());

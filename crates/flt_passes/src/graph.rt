@@ -39,41 +39,41 @@ fn is_jump_code(code: u16) -> bool {
 /// For each instruction of some code, how many nodes there are from its own to the end; for a `ja`,
 /// from the node where it leads. 0: it leads past the end. Nodes are counted from the end because a
 /// `ja` only leads forward, so where it leads is known when it is met.
-fn places_from_end<A: Allocator>(alloc: A, code: &[Wide]) -> Result<Vec<usize, A>, AllocError> {
-    let mut places = vec![in alloc; 0; code.len()]?;
+fn nodes_to_end<A: Allocator>(alloc: A, code: &[Wide]) -> Result<Vec<usize, A>, AllocError> {
+    let mut to_end = vec![in alloc; 0; code.len()]?;
     let mut count: usize = 0;
     for (at, insn) in code.iter().enumerate().rev() {
-        let mut place = count.saturating_add(1);
+        let mut left = count.saturating_add(1);
         if is_jump_code(insn.code) {
-            place = places.get(place_after(at, insn.k)).copied().unwrap_or(0);
+            left = to_end.get(place_after(at, insn.k)).copied().unwrap_or(0);
         } else {
-            count = place;
+            count = left;
         }
-        if let Some(placed) = places.get_mut(at) {
-            *placed = place;
+        if let Some(entry) = to_end.get_mut(at) {
+            *entry = left;
         }
     }
-    Ok(places)
+    Ok(to_end)
 }
 
 /// For each instruction of some code, the index of the node that it is in the graph.
 #[derive(Drop)]
 struct Indices<'a> {
-    /// What `places_from_end` gives for the code.
-    places: &'a [usize],
+    /// What `nodes_to_end` gives for the code.
+    to_end: &'a [usize],
 }
 
 impl Indices<'_> {
     /// How many nodes the graph has: those from the one where runs begin to the end. The code may
     /// begin with a `ja`, and no run reaches what that skips.
     fn count(&self) -> usize {
-        self.places.first().copied().unwrap_or(0)
+        self.to_end.first().copied().unwrap_or(0)
     }
 
     /// The index of the node of the instruction `at`, or for a `ja` of the one where it leads.
     /// `NOWHERE`: there is none, or it is in front of where runs begin.
     fn index_of(&self, at: usize) -> usize {
-        match self.places.get(at) {
+        match self.to_end.get(at) {
             Some(place) if *place > 0 => self.count().checked_sub(*place).unwrap_or(NOWHERE),
             _ => NOWHERE,
         }
@@ -146,8 +146,8 @@ pub(crate) fn nodes_of_code<A: Allocator + Clone>(
     alloc: A,
     code: &[Wide],
 ) -> Result<Option<Vec<Node, A>>, AllocError> {
-    let places = places_from_end(alloc.clone()?, code)?;
-    let indices = Indices { places: &places };
+    let to_end = nodes_to_end(alloc.clone()?, code)?;
+    let indices = Indices { to_end: &to_end };
     let mut nodes = Vec::with_capacity(alloc, indices.count())?;
     for (at, insn) in code.iter().enumerate() {
         let Some(operation) = decode(insn.code) else {

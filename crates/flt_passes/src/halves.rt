@@ -1,4 +1,5 @@
-//! A search by halves for the range in which A is: tests "at least", which end in tests "equal".
+//! For the pass `Search`: a search by halves for the range in which A is. Tests "at least" part the
+//! ranges, and the last one is mostly a test "equal".
 //! Nothing here is trusted, so no function has a clause (lib.rt).
 
 use crate::graph::Node;

@@ -1,4 +1,4 @@
-//! Where tests of A lead, as ranges of the numbers of 32 bits that A may be.
+//! For the pass `Search`: where tests of A lead, as ranges of the numbers of 32 bits that A may be.
 //! Nothing here is trusted, so no function has a clause (lib.rt).
 
 use crate::graph::Node;
@@ -34,7 +34,7 @@ pub(crate) fn side_of_test(node: Node, test: Test, number: u32) -> usize {
 
 /// Adds the numbers after the last range, up to `high`, at the end of the ranges: they lead to the
 /// node `exit`. Where the last range leads there too, it is made longer. The ranges begin at 0 and
-/// have no gaps.
+/// have no gaps, and `high` is greater than the last one's.
 pub(crate) fn extend_ranges<A: Allocator>(
     ranges: &mut Vec<Range, A>,
     high: u32,

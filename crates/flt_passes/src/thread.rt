@@ -2,7 +2,8 @@
 //! far as what is known on every way to it decides the tests there (jump threading). So where a
 //! first test has shown that a packet is TCP, an edge to a second test for that leads on to where
 //! the second one goes. Nodes are taken from the first to the last; a node *waits* from the first
-//! run that is seen to reach it until its turn, when all runs to it have been seen.
+//! run that is seen to reach it until its turn, when all runs to it have been seen. How far an edge
+//! may lead, `follow` finds.
 //! Nothing here is trusted, so no function has a clause (lib.rt).
 
 use crate::follow::farthest_node;
@@ -26,7 +27,8 @@ struct Threading<A: Allocator> {
     /// What is known where runs reach the nodes that wait, in any order.
     waiting: Vec<Known, A>,
     /// For each node the index of its entry in `waiting`, or `NOWHERE` if no run was seen to come
-    /// there, or runs end there.
+    /// there, or runs end there. It isn't cleared after the node's turn: edges lead to later nodes,
+    /// so nothing arrives there any more.
     slots: Vec<usize, A>,
     /// The indices of the entries of `waiting` that are used no more.
     free: Vec<usize, A>,
@@ -120,14 +122,6 @@ impl<A: Allocator + Clone> Threading<A> {
             return false;
         };
         node.flow() != Flow::GoesOn || known.tells_result_of(*node)
-    }
-
-    /// Leads the beginning of all runs on, which is at the node `to`. Returns where they begin
-    /// then.
-    fn lead_start(&mut self, known: &Known, to: usize) -> Result<usize, AllocError> {
-        let to = self.farthest_target(known, to)?;
-        self.arrive(to, *known)?;
-        Ok(to)
     }
 }
 
@@ -241,13 +235,14 @@ impl<A: Allocator + Clone> Threading<A> {
         }
     }
 
-    /// Leads all edges on. Returns the index of the node where runs begin then.
-    fn lead_all(&mut self) -> Result<usize, AllocError> {
-        let entry = self.lead_start(&AT_START, 0)?;
+    /// Leads all edges on. Runs still begin at the first node: no fact is known there, so the
+    /// beginning itself isn't led on.
+    fn lead_all(&mut self) -> Result<(), AllocError> {
+        self.arrive(0, AT_START)?;
         for at in 0..self.nodes.len() {
             self.lead_node(at)?;
         }
-        Ok(entry)
+        Ok(())
     }
 }
 
@@ -269,9 +264,9 @@ pub(crate) fn thread_edges<A: Allocator + Clone>(
         nodes,
         is_changed: false,
     };
-    let entry = threading.lead_all()?;
-    if entry == 0 && !threading.is_changed {
+    threading.lead_all()?;
+    if !threading.is_changed {
         return Ok(threading.nodes);
     }
-    order_nodes(alloc, &threading.nodes, entry)
+    order_nodes(alloc, &threading.nodes, 0)
 }

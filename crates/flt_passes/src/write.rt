@@ -71,7 +71,8 @@ impl<A: Allocator + Clone> Writer<'_, A> {
     }
 
     /// Puts the instruction of the node `at` in front. Where it can't stand there, or there is no
-    /// room for it, the node has no place then.
+    /// room for it, the node has no place then; nor has one that leads to it, up to the first node,
+    /// and `write_code` gives `None`.
     fn put_node(&mut self, at: usize) -> Result<(), AllocError> {
         let insn = self.node(at).and_then(|node| self.next_insn(node));
         let mut place = 0;
