@@ -1,4 +1,4 @@
--- The status that a refused filter ends a command with.
+-- The status that a command ends with whose filter, or whose expression to compile, is refused.
 use Rattle.std.specs.Prelude.{ℕ}
 use Rattle.flt_words.specs.declared.fault.ExprFault.TheVariants as expression
 use Rattle.flt_bpf.specs.declared.fault.ListingFault.TheVariants as listing

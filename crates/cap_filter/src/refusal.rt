@@ -1,4 +1,4 @@
-//! Why a filter is refused.
+//! Why a filter, or an expression to compile, is refused.
 ghost use Rattle.std.specs.Prelude.{◌≡◌};
 ghost use Rattle.cap_filter.specs.Refusals.{refusal_status};
 

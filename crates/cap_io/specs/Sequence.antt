@@ -12,7 +12,8 @@ pub data Event : Type 0 where
   Packet : (input : ℕ) → (p : Placed) → Event
   InputEnd : (input : ℕ) → (kind : Option Kind) → (size : ℕ) → Event
 
--- how the order ends: with all inputs, or by the fault of one at an offset
+-- how the order ends: with all inputs (of a job also with the last packet that its count allows),
+-- or by the fault of one at an offset
 pub data SequenceEnd : Type 0 where
   Complete : SequenceEnd
   FaultIn : (input : ℕ) → (fault : Fault) → (offset : ℕ) → SequenceEnd

@@ -39,7 +39,7 @@ expression_message text = codes "capkit: expression: " ++ text ++ line_feed
 abbrev pub code_message : List ℕ → List ℕ
 code_message text = codes "capkit: code: " ++ text ++ line_feed
 
--- a refused filter, or out of memory for it
+-- a refused filter, or an expression that isn't compiled, or out of memory for it
 abbrev pub refusal_message : Refusal → List ℕ
 refusal_message (Expression expression.Memory) = no_memory_message
 refusal_message (Expression fault) = expression_message (message_of fault)

@@ -59,7 +59,7 @@ initial_state = record { passed = 0; window = []; tally = nothing_counted }
 -- what becomes of a packet; with a packet that passes, what it passes as
 pub data Verdict : Type 0 where
   Pass : (p : Captured) → Verdict
-  -- it passes, and nothing after it is read
+  -- it passes, and the job ends
   PassLast : (p : Captured) → Verdict
   Skip : Verdict
   Refuse : (fault : Fault) → Verdict

@@ -79,8 +79,8 @@ fault_outcome output messages = record { output = output; messages = messages; s
 
 -- ---- what a run leaves
 
--- Why an input is cut short after these whole units: a read failed, and the device wasn't sure of
--- the last of the bytes that decide what follows; or there was no memory for its next unit, whose
+-- Why an input is cut short after these whole units: `read failed`, where the device wasn't sure of
+-- the last of the bytes that decide what follows (that it did fail isn't stated); or there was no memory for its next unit, whose
 -- header states more bytes than each that the block held, or which describes an interface.
 abbrev pub IsWhyCut : Fault → FreshInput → (done rest : List ℕ) → Declared → Type 0
 IsWhyCut fault input done rest declared =
@@ -102,7 +102,8 @@ pub record IsCutInput (call : Call) (place : ℕ) (held : Items) : Type 0 where
 -- what it defines where an input is cut short;
 -- what is written of some events, where there was no memory to write the next packet;
 -- nothing but a message, where there was no memory to begin. No clause can say that an allocation
--- failed, so this may always be left, but then it is exactly this.
+-- failed: so each case of no memory may be left wherever its facts hold, the last one, and that of a
+-- filter or an expression, always; but then it is exactly this.
 pub data IsOutcome (asked : Assignment) (call : Call) : Outcome → Type 0 where
   of_packets : (work : Work) → IsWork asked call work
       → IsOutcome asked call (outcome work call.names (whole_inputs call))
