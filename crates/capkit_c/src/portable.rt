@@ -11,7 +11,7 @@ use flt_bpf::operation::{AluOperation, Operand, Operation, Register, Source, dec
 const MOST_ATTACHED: usize = 4096;
 
 /// How many words of memory a program has.
-const WORDS: u32 = 16;
+const WORDS: u32 = flt_bpf::WORDS as u32;
 
 /// 2^31, the greatest bit of 32. From here on Linux takes a load's offset as negative, which means
 /// something else there. And where X, the index register, and an offset are both below it, their

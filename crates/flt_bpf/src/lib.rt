@@ -20,7 +20,7 @@ mod writing;
 
 pub use fault::{CheckFault, ListingFault};
 pub use insn::Insn;
-pub use machine::compute;
+pub use machine::{WORDS, compute};
 pub use program::{Program, check, check_insns, run, run_any, run_insns};
 pub use reading::read_listing;
 pub use registers::{reads_accumulator, reads_index, sets_accumulator, sets_index};

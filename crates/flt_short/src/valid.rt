@@ -8,11 +8,8 @@ ghost use Rattle.flt_bpf.specs.Check.{ends_in_return, IsFaultless, IsValidUnless
 ghost use Rattle.flt_bpf.specs.Instructions.{operation_of};
 ghost use Rattle.flt_bpf.specs.Layout.{is_branch};
 
-use flt_bpf::Wide;
 use flt_bpf::operation::{AluOperation, Operand, Operation, Source, decode};
-
-/// How many words of memory there are.
-const WORDS: u32 = 16;
+use flt_bpf::{WORDS, Wide};
 
 /// Whether arithmetic with this constant is allowed: no division by 0, no shift by 32 or more.
 fn allows_constant(operator: AluOperation, k: u32) -> bool
@@ -37,7 +34,7 @@ fn is_faultless(insn: Wide, following: usize) -> bool
         Some(Operation::JumpIf(_, _)) => {
             (insn.yes as usize) < following && (insn.no as usize) < following
         }
-        Some(Operation::Load(_, Source::Memory) | Operation::Store(_)) => insn.k < WORDS,
+        Some(Operation::Load(_, Source::Memory) | Operation::Store(_)) => (insn.k as usize) < WORDS,
         Some(Operation::Compute(operator, Operand::Constant)) => allows_constant(operator, insn.k),
         Some(_) => true,
     }

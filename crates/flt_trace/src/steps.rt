@@ -13,10 +13,7 @@ ghost use Rattle.flt_trace.specs.Trace.{Traces, step_state};
 ghost use Rattle.flt_trace.specs.inside.Trace.{flow_next};
 
 use flt_bpf::operation::{Operand, Operation, Register, Source, Test, Width, decode};
-use flt_bpf::{Insn, compute};
-
-/// How many words of memory the machine has.
-const WORDS: usize = 16;
+use flt_bpf::{Insn, WORDS, compute};
 
 /// Where a run is before one instruction, and what it works on.
 #[repr(C)]
