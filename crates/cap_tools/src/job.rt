@@ -470,8 +470,8 @@ impl<I: Input, O: Output, E: Output, A: Allocator + Copy + Drop> Job<I, O, E, A>
 /// Runs a proper command. `names` are those of the inputs, then of the output. It returns the
 /// status, 0 where all went well, 1 after a fault, a failed write or a lack of memory, 2 where an
 /// expression or a listing is refused, and hands back the output and the messages' device. Where
-/// there is no memory to begin the job, nothing is written but a message. Of a message that can't be
-/// written a prefix may be.
+/// there is no memory to begin the job, nothing is written but a message. Of a message that can't
+/// be written a prefix may be.
 pub fn run<I, O, E, A>(
     alloc: A,
     command: Command<A>,

@@ -1,5 +1,5 @@
-//! Hosts or ports that are looked for together. They come from the last one to the first, so each is
-//! put in front of the others.
+//! Hosts or ports that are looked for together. They come from the last one to the first, so each
+//! is put in front of the others.
 
 ghost use Rattle.std.specs.Prelude.{◌≡◌, ◌≤◌, if◌then◌else◌, Some, None, length, IfOk, OnOk};
 ghost use Rattle.std.specs.List.{insert};

@@ -1,4 +1,6 @@
-//! Programs of expressions.
+//! The program of an expression, by all stages: its arithmetic is folded, the walk writes plain
+//! code, which is threaded and shortened, and `best_of` lays it out, optimised before where that
+//! helps.
 
 ghost use Rattle.std.specs.Prelude.{◌≡◌, ◌≤◌, IfOk, reverse};
 ghost use Rattle.flt_gen.specs.Correct.{IsProgramOf};

@@ -10,6 +10,15 @@
 //! - A: joins the group. One test for both is emitted, and `finish_truth` makes its entry the
 //!   target of `tcp` if that matches.
 //! - `tcp` is emitted. Nothing waits, so the program begins at its entry.
+//!
+//! `tcp[13] + len > 5` has the nodes 13, `tcp[..]`, `len`, `+`, 5, `>`. From the last one on:
+//!
+//! - `>` and 5 become one test (`emit_both_nodes`).
+//! - `+`: its left operand waits in `numbers`, with the word of memory (`slot`) for it.
+//! - `len`: its load is emitted, and in front of that the store of the left operand, which is next.
+//! - `tcp[..]`: its load is emitted, and it waits in `numbers` for its index.
+//! - 13: the index. Its protocol goes into `accessors`. Nothing waits in `numbers`, so the tests of
+//!   `accessors` are emitted in front (`finish_relation`).
 
 ghost use Rattle.std.specs.Prelude.{◌≡◌, true, Some, None, if◌then◌else◌, OnOk, IfOk, reverse};
 ghost use Rattle.flt_emit.specs.inside.Code.{block};
@@ -253,7 +262,8 @@ impl<A: Allocator + Clone> Walk<A> {
         self.emit_steps(steps)
     }
 
-    /// Emits a primitive or a negation. A value whose qualifiers aren't filled in yet is no.
+    /// Emits a primitive or a negation. A value whose qualifiers aren't filled in matches no
+    /// packet; a `Checked` expression has none.
     fn emit_truth_node(
         &mut self,
         link: Link,
@@ -327,8 +337,9 @@ impl<A: Allocator + Clone> Walk<A> {
     }
 
     /// Emits the code of the group that waits, if it has members: another operand of an `or` stands
-    /// in front of it. That waits then, and goes on at the group's code where it doesn't match. An
-    /// `or` that was the last node has its right operand next (`begin_right`).
+    /// in front of it. That operand is next, and goes on at the group's code where it doesn't
+    /// match. Before that, if the last node was an `or`, its left operand begins to wait
+    /// (`begin_right`).
     fn flush_group(&mut self, link: Link, steps: &mut Steps<A>) -> Result<(), AllocError>
         ensures { OnOk result (self.new ≡ flush_group link self.old) }
     {

@@ -18,8 +18,9 @@ use crate::note::{Fact, Piece, Span, Term};
 use crate::terms::{is_known, masked, same_term};
 use flt_bpf::operation::Test;
 
-/// An outcome of a test, as what it shows: a term's value, if it has one, is in one of two pieces. If `A = 80` has
-/// failed, these are 0 to 79 and 81 on; where one piece says it all, both are that one.
+/// An outcome of a test, as what it shows: a term's value, if it has one, is in one of two pieces.
+/// If `A = 80` has failed, these are 0 to 79 and 81 on; where one piece says it all, both are that
+/// one.
 #[derive(Clone, Copy)]
 pub struct Learnt {
     pub term: Term,
@@ -204,8 +205,8 @@ fn joined_outcome(one: &Learnt, other: &Learnt) -> Option<Learnt>
 }
 
 /// The outcomes that a walk keeps, with one more: joined with another one on its term, or else in
-/// place of the oldest. The first one, with which the walk began, stays as it is; from the second on
-/// the newest comes first.
+/// place of the oldest. The first one, with which the walk began, stays as it is; from the second
+/// on the newest comes first.
 pub fn with_newest(learnt: [Learnt; OUTCOMES], shown: Learnt) -> [Learnt; OUTCOMES]
     ensures { (p : List ℕ) (n : ℕ) → LearntHolds p n shown → AllLearnt p n learnt
         → AllLearnt p n result }

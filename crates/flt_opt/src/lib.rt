@@ -6,9 +6,9 @@
 //! numbers a term may be, `follows` whether one knowledge gives another one, `walk` how far the
 //! old run goes meanwhile, and `validator` looks at the notes one by one.
 //!
-//! In comments A and X are the machine's two registers (accumulator and index register), and k is an
-//! instruction's constant. How notes work is told in `docs/inside/COMPILER.md`, "Whether a program
-//! may replace another one".
+//! In comments A and X are the machine's two registers (accumulator and index register), and k is
+//! an instruction's constant. How notes work is told in `docs/inside/COMPILER.md`, "Whether a
+//! program may replace another one".
 #![tactic(auto)]
 
 mod facts;

@@ -36,9 +36,9 @@ use crate::walk::{MOST_STEPS, Stage, Start, goes_on, is_rejection, rejects, walk
 use flt_bpf::operation::{AluOperation, Operand, Operation, Test, decode};
 use flt_bpf::{Wide, reads_accumulator, reads_index};
 
-/// How many undecided tests deep, each on a side of the one before, `walk` looks for a note's place,
-/// and past how many, one after the other, `rejects` goes both ways: as deep as a search by halves
-/// among 4,096 = 2^12 numbers.
+/// How many undecided tests deep, each on a side of the one before, `walk` looks for a note's
+/// place, and past how many, one after the other, `rejects` goes both ways: as deep as a search by
+/// halves among 4,096 = 2^12 numbers.
 const MOST_SPLITS: u32 = 12;
 
 /// Two programs and the notes on them.

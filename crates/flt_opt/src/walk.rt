@@ -5,8 +5,9 @@
 //! goal, and the walk goes on along the other one: what is known at the goal in the end is what is
 //! known on all ways that met there.
 //!
-//! On the way to a rejection it also passes stores and what may fail, since a run that fails rejects
-//! the packet too. Where what is known doesn't decide a test, both sides have to lead to one.
+//! On the way to a rejection it also passes stores and what may fail, since a run that fails
+//! rejects the packet too. Where what is known doesn't decide a test, both sides have to lead to
+//! one.
 //!
 //! In clauses `p` is the captured bytes of a packet, and `n` its original length. `jt` and `jf` are
 //! `yes` and `no` of a wide instruction. `2 ^ 62` is more than any index of code, so that what is
@@ -267,9 +268,9 @@ pub(crate) fn is_rejection(insn: Wide) -> bool
 pub(crate) struct Start {
     /// The index of the instruction.
     pub at: usize,
-    /// From how many undecided tests, one after the other, both ways may still be followed. It shows
-    /// that the calls end; `one_way_rejects` gives up before that, since it keeps four outcomes at
-    /// most.
+    /// From how many undecided tests, one after the other, both ways may still be followed. It
+    /// shows that the calls end; `one_way_rejects` gives up before that, since it keeps four
+    /// outcomes at most.
     pub splits: u32,
 }
 

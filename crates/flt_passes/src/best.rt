@@ -69,8 +69,8 @@ fn optimise_and_lay_out<A: Allocator + Clone>(
 
 /// A program that returns what wide code returns: the code laid out, or optimised before, where it
 /// has more than a few instructions, or was written with many, more than twice as many as are left,
-/// and what the optimiser finds is a program no longer than that. `plain` is code as `flt_short` left
-/// it, and `written` is how many instructions it had before that.
+/// and what the optimiser finds is a program no longer than that. `plain` is code as `flt_short`
+/// left it, and `written` is how many instructions it had before that.
 ///
 /// An error is a failed allocation, an allocator that cannot be cloned, or that the code has 2^30
 /// instructions or more.

@@ -180,9 +180,9 @@ pub(crate) fn common_facts<A: Allocator>(
     Ok(facts)
 }
 
-/// The facts after a test with the outcome `learnt`, and one on the outcome's term (A's; by a test
-/// of bits A's, masked): it has a value, which is among the numbers that the outcome leaves. Where
-/// the term is a number or anything, no fact comes of it.
+/// The facts after a test: those before it, and one on the term of its outcome `learnt` (what A
+/// holds, masked if the test is one of bits): it has a value, which is among the numbers that the
+/// outcome leaves. Where the term is a number or anything, no fact comes of it.
 pub(crate) fn facts_after_test<A: Allocator>(
     pieces: &mut Vec<Piece, A>,
     facts: &Facts,

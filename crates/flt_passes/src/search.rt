@@ -12,8 +12,8 @@ use crate::ranges::{Range, count_single_numbers, extend_ranges, side_of_test};
 use flt_bpf::operation::Test;
 use std::alloc::{AllocError, Allocator};
 
-/// The fewest tests of a region that are worth a search, and the fewest numbers that are ranges
-/// alone: of fewer a chain may be made.
+/// The fewest tests of a region that is replaced at all, and the fewest numbers alone that are
+/// searched by halves: of fewer a chain is made where one can be, and it has to be shorter.
 const LEAST_TESTS: usize = 4;
 
 /// The fewest numbers that are ranges alone and worth a search, where the ranges lead to more than
@@ -25,7 +25,8 @@ const LEAST_APART: usize = 8;
 struct Searching<A: Allocator> {
     alloc: A,
     nodes: Vec<Node, A>,
-    /// How many edges lead to each node.
+    /// How many edges led to each node as the pass began. It isn't counted anew: no added node is
+    /// part of a region.
     edge_counts: Vec<usize, A>,
     /// For each node the index of the head of its region, or `NOWHERE` if it is in none.
     heads: Vec<usize, A>,

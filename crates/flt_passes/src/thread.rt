@@ -3,7 +3,8 @@
 //! first test has shown that a packet is TCP, an edge to a second test for that leads on to where
 //! the second one goes. Nodes are taken from the first to the last; a node *waits* from the first
 //! run that is seen to reach it until its turn, when all runs to it have been seen. How far an edge
-//! may lead, `follow` finds.
+//! may lead, `follow` finds. `ThreadFar` also goes past tests that aren't decided, where both sides
+//! come together (`splits`).
 //! Nothing here is trusted, so no function has a clause (lib.rt).
 
 use crate::follow::farthest_node;
@@ -116,7 +117,7 @@ impl<A: Allocator + Clone> Threading<A> {
     }
 
     /// Whether a run of which this is known might go on past the node `at`: past a test, or a node
-    /// whose result is known. Past no other one it can, so it need not be followed.
+    /// whose result is known. Past others it seldom can, so that isn't tried.
     fn may_pass(&self, known: &Known, at: usize) -> bool {
         let Some(node) = self.nodes.get(at) else {
             return false;

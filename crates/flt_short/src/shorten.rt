@@ -119,8 +119,8 @@ fn direct_code(indirect: u16) -> Option<u16> {
 }
 
 /// Code that grows from its end to its beginning, while the old code is read in that order too.
-/// Where a target is too far or there is no room, an instruction lands nowhere, and so do those that
-/// go on there; or it lands where other code stands. Either way the new code isn't taken.
+/// Where a target is too far or there is no room, an instruction lands nowhere, and so do those
+/// that go on there; or it lands where other code stands. Either way the new code isn't taken.
 #[derive(Drop)]
 struct Shortening<'a> {
     /// The old code.
