@@ -60,7 +60,8 @@ pub fn generate<A: Allocator + Clone, B: Allocator>(
     // `best_of` goes by how much shorter the code has become: where much of it goes, it said the
     // same again and again, and the optimiser finds more.
     let written = code.len();
-    let short = shortened(alloc.clone()?, threaded(code))?;
+    let moved = threaded(alloc.clone()?, code)?;
+    let short = shortened(alloc.clone()?, moved)?;
     let best = best_of(alloc, short, written)?;
     match check(best) {
         Ok(program) => Ok(program),

@@ -219,7 +219,7 @@ module _ (p : List ℕ) where
       (λ _. decided_right xs f v n b h.1 is)
 
   -- a field is one of two numbers
-  pub record IsEither (f : Field) (a b : ℕ) : Type 0 where
+  record IsEither (f : Field) (a b : ℕ) : Type 0 where
     pub number : ℕ
     pub is : value_of p f ≡ Some number
     pub either : (number ≡ a) ⊎ (number ≡ b)
@@ -235,7 +235,7 @@ module _ (p : List ℕ) where
       subst (λ (t : ℕ × ℕ). IsEither f t.0 t.1) pair (record { number = q.0; is = q.1.0; either = q.1.1 })
   the_two_right _ f later two h g e = g e
 
-  pub one_of_right : (xs : List Fact) (f : Field) (two : ℕ × ℕ) → AllSay xs → two_numbers_of xs f ≡ Some two → IsEither f two.0 two.1
+  one_of_right : (xs : List Fact) (f : Field) (two : ℕ × ℕ) → AllSay xs → two_numbers_of xs f ≡ Some two → IsEither f two.0 two.1
   one_of_right [] f two h = λ e. cc
   one_of_right (x ∷ xs) f two h =
       by_test (λ z. z ≡ Some two → IsEither f two.0 two.1) (same_field x.field f) _ _
@@ -325,7 +325,7 @@ module _ (p : List ℕ) where
   pub nothing_holds : (s : State) → Holds nothing_known s
   nothing_holds s = record { a = tt; x = tt; facts = nothing_says 5 }
 
-  pub fact_holds : (k : Known) (f : Field) (c : Claim) (s : State) → Holds k s → is_said c (value_of p f) ≡ true → Holds (with_fact k f c) s
+  fact_holds : (k : Known) (f : Field) (c : Claim) (s : State) → Holds k s → is_said c (value_of p f) ≡ true → Holds (with_fact k f c) s
   fact_holds k f c s y h = record { a = y.a; x = y.x; facts = set_says k.facts _ _ y.facts h }
 
   held_there : (mask o : Option ℕ) (a : ℕ) → masked mask o ≡ Some a → (v : ℕ) × (o ≡ Some v)
@@ -365,12 +365,12 @@ module _ (p : List ℕ) where
       let same : q.number ≡ v = cc in
       two_said v n two.0 two.1 (subst (λ m. (m ≡ two.0) ⊎ (m ≡ two.1)) same q.either) e
 
-  tested_field : (k : Known) (f : Field) (n : ℕ) (outcome : Bool) (s : State) → Holds k s → value_of p f ≡ Some s.accumulator → (s.accumulator == n) ≡ outcome → Holds (known_by k f n outcome) s
-  tested_field k f n outcome s y is e =
-      fact_holds k f _ s y (subst (λ o. is_said (claim_after outcome n (two_numbers_of k.facts f)) o ≡ true) (sym is) (claimed outcome s.accumulator n f (two_numbers_of k.facts f) is (λ two. λ g. one_of_right k.facts f two y.facts g) e))
+  pub tested_field : (k : Known) (f : Field) (v n : ℕ) (outcome : Bool) (s : State) → Holds k s → value_of p f ≡ Some v → (v == n) ≡ outcome → Holds (known_by k f n outcome) s
+  tested_field k f v n outcome s y is e =
+      fact_holds k f _ s y (subst (λ o. is_said (claim_after outcome n (two_numbers_of k.facts f)) o ≡ true) (sym is) (claimed outcome v n f (two_numbers_of k.facts f) is (λ two. λ g. one_of_right k.facts f two y.facts g) e))
 
   tested_by : (t : Test) (o : Operand) (h : Held) (k : Known) (i : Insn) (outcome : Bool) (s : State) → HeldHolds h s → Holds k s → test_holds t s.accumulator (operand_value o i.k s.index) ≡ outcome → Holds (known_by_test (Some (JumpIf t o)) h k i.k outcome) s
-  tested_by Equal Constant (held.Field f) k i outcome s x y e = tested_field k f i.k outcome s y x e
+  tested_by Equal Constant (held.Field f) k i outcome s x y e = tested_field k f s.accumulator i.k outcome s y x e
   tested_by _ _ _ k i outcome s x y e = y
 
   pub tested : (t : Test) (o : Operand) (k : Known) (i : Insn) (outcome : Bool) (s : State) → Holds k s → test_holds t s.accumulator (operand_value o i.k s.index) ≡ outcome → Holds (known_by_test (Some (JumpIf t o)) k.held k i.k outcome) s

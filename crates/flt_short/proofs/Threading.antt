@@ -1,6 +1,6 @@
 -- Threaded code returns the same, and keeps its length, its tests and what breaks no rule.
-use Rattle.std.proofs.Common.{◌≡◌, ℕ, zero, suc, ◌+◌, ◌%◌, ◌^◌, ◌<◌, ◌≤◌, List, [], ◌∷◌, length, count_by, get_or, cond, Bool, true, false, Option, Some, None, refl, sym, ap, ◌∙◌, subst, arith}
-use Rattle.std.specs.Prelude.{replicate, nat_lt, ◌&&◌, if◌then◌else◌, slice_get}
+use Rattle.std.proofs.Common.{◌≡◌, ℕ, zero, suc, ◌+◌, ◌%◌, ◌^◌, ◌<◌, List, [], ◌∷◌, length, count_by, get_or, cond, Bool, true, false, Option, Some, None, refl, sym, ap, ◌∙◌, subst, arith}
+use Rattle.std.specs.Prelude.{nat_lt, ◌&&◌, if◌then◌else◌, slice_get}
 use Rattle.std.specs.Option.{option_map}
 use Rattle.std.proofs.lemmas.Bool.Decides.{nat_tests}
 use Rattle.std.proofs.lemmas.List.Sums.{sum_by-cons}
@@ -23,54 +23,32 @@ use Rattle.flt_short.specs.Threads.{Threads}
 use Rattle.flt_short.specs.declared.facts.Held.{Held}
 use Rattle.flt_short.specs.declared.facts.Held.TheVariants as held_variant
 use Rattle.flt_short.specs.declared.facts.Known.{Known}
-use Rattle.flt_short.specs.declared.arrivals.Arrivals.{Arrivals}
-use Rattle.flt_short.specs.inside.Arrivals.{at_start, first_at, known_at, arrived, ended}
-use Rattle.flt_short.specs.inside.Facts.{nothing_known, masked_by, masked_held, held_if_some, held_without_index, known_after, known_by_test}
-use Rattle.flt_short.specs.inside.Threads.{ends, ends_at, came, threaded_offset, threaded_by, threaded_if, threaded_insn, with_arrivals_by, with_arrivals_if, with_arrivals, flow, threaded}
-use Rattle.flt_short.proofs.Basics.{by_test, both_true}
+use Rattle.flt_short.specs.inside.Arrivals.{at_start, known_at, arrived}
+use Rattle.flt_short.specs.inside.Facts.{masked_by, masked_held, held_if_some, held_without_index, known_after, known_by_test}
+use Rattle.flt_short.specs.inside.Threads.{threaded_offset, threaded_by, threaded_if, threaded_insn, with_arrivals_by, with_arrivals_if, with_arrivals, flow, threaded}
+use Rattle.flt_short.proofs.Basics.{both_true}
 use Rattle.flt_short.proofs.Arriving.{HoldsAt, start_holds, raised_at, raised_keeps}
 use Rattle.flt_short.proofs.Flow.{by_code, threaded_code}
 use Rattle.flt_short.proofs.Knowing.{loaded, masked, value_at, loaded_at, HeldHolds, Holds, tested}
 use Rattle.flt_short.proofs.Walks.{known_step, moved_same, moved_inside}
 
 module _ (p : List ℕ) (n : ℕ) where
-  -- where a test leads
-  ended_keeps : (seen : Arrivals) (from place q : ℕ) (s : State) → from ≤ q → HoldsAt p seen q s → HoldsAt p (ended seen from place) q s
-  ended_keeps seen from place q s l x =
-      by_test (λ bs. HoldsAt p bs q s) (nat_lt (first_at seen.kept place) (length seen.kept)) seen (arrived seen from place nothing_known)
-      (λ _. x)
-      (λ _. raised_keeps p seen from place nothing_known s q l x)
+  -- what was known holds still
+  by_keeps : (op : Option Operation) (from : ℕ) (k : Known) (i : Insn) (seen : List Known) (q : ℕ) (s : State) → HoldsAt p seen q s → HoldsAt p (with_arrivals_by from op k i seen) q s
+  by_keeps (Some (JumpIf t o)) from k i seen q s x =
+      raised_keeps p (arrived seen (from + i.jt) (known_by_test (Some (JumpIf t o)) k.held k i.k true)) (from + i.jf) _ q s (raised_keeps p seen (from + i.jt) _ q s x)
+  by_keeps (Some Jump) from k i seen q s x = raised_keeps p seen (from + i.k) k q s x
+  by_keeps (Some ReturnConstant) from k i seen q s x = x
+  by_keeps (Some ReturnAccumulator) from k i seen q s x = x
+  by_keeps op from k i seen q s x = raised_keeps p seen from (known_after op k i) q s x
 
-  came_keeps : (c : List Insn) (from skipped : ℕ) (k : Known) (seen : Arrivals) (q : ℕ) (s : State) → from ≤ q → HoldsAt p seen q s → HoldsAt p (came from skipped k c seen) q s
-  came_keeps c from skipped k seen q s l x =
-      by_test (λ bs. HoldsAt p bs q s) (ends_at c skipped) (ended seen from (from + skipped)) (arrived seen from (from + skipped) k)
-      (λ _. ended_keeps seen from (from + skipped) q s l x)
-      (λ _. raised_keeps p seen from (from + skipped) k s q l x)
-
-  came_raised : (c : List Insn) (from skipped : ℕ) (k : Known) (seen : Arrivals) (s : State) → ends_at c skipped ≡ false → Holds p k s → HoldsAt p (came from skipped k c seen) (from + skipped) s
-  came_raised c from skipped k seen s e x =
-      subst (λ b. HoldsAt p (if b then ended seen from (from + skipped) else arrived seen from (from + skipped) k) (from + skipped) s) (sym e) (raised_at p seen from (from + skipped) k s x)
-
-  by_keeps : (op : Option Operation) (from : ℕ) (k : Known) (i : Insn) (c : List Insn) (seen : Arrivals) (q : ℕ) (s : State) → from ≤ q → HoldsAt p seen q s → HoldsAt p (with_arrivals_by from op k i c seen) q s
-  by_keeps (Some (JumpIf t o)) from k i c seen q s l x = (
-      let yes = known_by_test (Some (JumpIf t o)) k.held k i.k true in
-      came_keeps c from i.jf (known_by_test (Some (JumpIf t o)) k.held k i.k false) (came from i.jt yes c seen) q s l (came_keeps c from i.jt yes seen q s l x))
-  by_keeps (Some Jump) from k i c seen q s l x = raised_keeps p seen from (from + i.k) k s q l x
-  by_keeps (Some ReturnConstant) from k i c seen q s l x = x
-  by_keeps (Some ReturnAccumulator) from k i c seen q s l x = x
-  by_keeps op from k i c seen q s l x = raised_keeps p seen from from (known_after op k i) s q l x
-
-  if_keeps : (h : Held) (op : Option Operation) (from : ℕ) (k : Known) (i : Insn) (c : List Insn) (seen : Arrivals) (q : ℕ) (s : State) → from ≤ q → HoldsAt p seen q s → HoldsAt p (with_arrivals_if h from op k i c seen) q s
-  if_keeps held_variant.Unreached op from k i c seen q s l x = x
-  if_keeps h op from k i c seen q s l x = by_keeps op from k i c seen q s l x
+  if_keeps : (h : Held) (op : Option Operation) (from : ℕ) (k : Known) (i : Insn) (seen : List Known) (q : ℕ) (s : State) → HoldsAt p seen q s → HoldsAt p (with_arrivals_if h from op k i seen) q s
+  if_keeps held_variant.Unreached op from k i seen q s x = x
+  if_keeps h op from k i seen q s x = by_keeps op from k i seen q s x
 
   -- the code after an instruction has the same answers wherever that is known
-  abbrev Alike : ℕ → List Insn → List Insn → Arrivals → Type 0
+  abbrev Alike : ℕ → List Insn → List Insn → List Known → Type 0
   Alike from c d seen = (m : ℕ) (t : State) → HoldsAt p seen (from + m) t → answer_of c p n m t ≡ answer_of d p n m t
-
-  -- and wherever it ends
-  abbrev EndsAlike : List Insn → List Insn → Type 0
-  EndsAlike c d = (m : ℕ) (t : State) → ends_at d m ≡ true → answer_of c p n m t ≡ answer_of d p n m t
 
   module _ (c d : List Insn) where
     abbrev Same : Next → Type 0
@@ -112,11 +90,11 @@ module _ (p : List ℕ) (n : ℕ) where
       by (Some old) q = tt
       by None q = ap (masked (Some m)) (ap (value_at p f.code f.k) (sym q) ∙ x) ∙ e
 
-  module _ (from : ℕ) (k : Known) (i : Insn) (is d : List Insn) (ends : EndsAlike d is) (seen : Arrivals) (s : State) (x : Holds p k s) where
-    plain : (op : Option Operation) (t : State) → Alike from d is (arrived seen from from (known_after op k i)) → Holds p (known_after op k i) t → answer_of d p n 0 t ≡ answer_of is p n 0 t
+  module _ (from : ℕ) (k : Known) (i : Insn) (is d : List Insn) (seen : List Known) (s : State) (x : Holds p k s) where
+    plain : (op : Option Operation) (t : State) → Alike from d is (arrived seen from (known_after op k i)) → Holds p (known_after op k i) t → answer_of d p n 0 t ≡ answer_of is p n 0 t
     plain op t f h =
         let none : from ≡ from + 0 = omega arith in
-        f 0 t (subst (λ q. HoldsAt p (arrived seen from from (known_after op k i)) q t) none (raised_at p seen from from (known_after op k i) t h))
+        f 0 t (subst (λ q. HoldsAt p (arrived seen from (known_after op k i)) q t) none (raised_at p seen from (known_after op k i) t h))
 
     -- A is another number, of which nothing is known
     anyhow : (op : Option Operation) (v : ℕ) → known_after op k i ≡ record { held = held_variant.Unknown; index = k.index; facts = k.facts } → Holds p (known_after op k i) (record s { accumulator = v })
@@ -135,14 +113,7 @@ module _ (p : List ℕ) (n : ℕ) where
         by (held_variant.Field f) y = record { a = y; x = x.x; facts = x.facts }
         by (held_variant.AtIndex code at) y = record { a = y; x = x.x; facts = x.facts }
 
-    by_end : (m : ℕ) → (ends_at is m ≡ false → answer_of d p n m s ≡ answer_of is p n m s) → answer_of d p n m s ≡ answer_of is p n m s
-    by_end m f = by (ends_at is m) refl
-      where
-        by : (b : Bool) → ends_at is m ≡ b → answer_of d p n m s ≡ answer_of is p n m s
-        by true e = ends m s e
-        by false e = f e
-
-    here : (op : Option Operation) → operation_of i.code ≡ op → Alike from d is (with_arrivals_by from op k (threaded_by op k i is) is seen) → answer_after (answer_of d p n) (does_if_known op (threaded_by op k i is) p n s) ≡ answer_after (answer_of is p n) (does_if_known op i p n s)
+    here : (op : Option Operation) → operation_of i.code ≡ op → Alike from d is (with_arrivals_by from op k (threaded_by op k i is) seen) → answer_after (answer_of d p n) (does_if_known op (threaded_by op k i is) p n s) ≡ answer_after (answer_of is p n) (does_if_known op i p n s)
     here None e f = refl
     here (Some (JumpIf t o)) e f =
         let yes = known_by_test (Some (JumpIf t o)) k.held k i.k true in
@@ -151,11 +122,10 @@ module _ (p : List ℕ) (n : ℕ) where
         let b = threaded_offset other is i.jf in
         way_same d is (test_holds t s.accumulator (operand_value o i.k s.index)) a b i.jt i.jf s
         (λ g. let h = tested p t o k i true s x g in
-        let there : from ≤ from + a = omega arith in
-        by_end a (λ e. f a s (came_keeps is from b other (came from a yes is seen) (from + a) s there (came_raised is from a yes seen s e h))) ∙ moved_same p n is yes i.jt s h)
+        f a s (raised_keeps p (arrived seen (from + a) yes) (from + b) other (from + a) s (raised_at p seen (from + a) yes s h)) ∙ moved_same p n is yes i.jt s h)
         (λ g. let h = tested p t o k i false s x g in
-        by_end b (λ e. f b s (came_raised is from b other (came from a yes is seen) s e h)) ∙ moved_same p n is other i.jf s h)
-    here (Some Jump) e f = f i.k s (raised_at p seen from (from + i.k) k s x)
+        f b s (raised_at p (arrived seen (from + a) yes) (from + b) other s h) ∙ moved_same p n is other i.jf s h)
+    here (Some Jump) e f = f i.k s (raised_at p seen (from + i.k) k s x)
     here (Some (LoadAbsolute w)) e f = into_same d is Accumulator (field p i.k w) s (λ v g. plain (Some (LoadAbsolute w)) (record s { accumulator = v }) f (record { a = ap (λ o. loaded o p i.k) e ∙ g; x = x.x; facts = x.facts }))
     here (Some (LoadIndirect w)) e f = into_same d is Accumulator (field p ((s.index + i.k) % 2 ^ 32) w) s (λ v g. plain (Some (LoadIndirect w)) (record s { accumulator = v }) f (record { a = ap (λ o. loaded_at o p s.index i.k) e ∙ g; x = x.x; facts = x.facts }))
     here (Some ReturnConstant) e f = refl
@@ -183,17 +153,17 @@ module _ (p : List ℕ) (n : ℕ) where
     here (Some CopyToIndex) e f = plain (Some CopyToIndex) _ f (elsewhere s.accumulator)
     here (Some CopyToAccumulator) e f = plain (Some CopyToAccumulator) _ f (anyhow (Some CopyToAccumulator) s.index refl)
 
-    at_top : Alike from d is (with_arrivals_by from (operation_of i.code) k (threaded_by (operation_of i.code) k i is) is seen) → answer_of (threaded_by (operation_of i.code) k i is ∷ d) p n 0 s ≡ answer_of (i ∷ is) p n 0 s
+    at_top : Alike from d is (with_arrivals_by from (operation_of i.code) k (threaded_by (operation_of i.code) k i is) seen) → answer_of (threaded_by (operation_of i.code) k i is ∷ d) p n 0 s ≡ answer_of (i ∷ is) p n 0 s
     at_top f =
         ap (answer_after (answer_of d p n)) (known_step p n (threaded_by (operation_of i.code) k i is) (operation_of i.code) s (ap operation_of (by_code (operation_of i.code) k i is)))
         ∙ here (operation_of i.code) refl f
         ∙ sym (ap (answer_after (answer_of is p n)) (known_step p n i (operation_of i.code) s refl))
 
-  reached : (h : Held) (from : ℕ) (op : Option Operation) (k : Known) (j : Insn) (c : List Insn) (seen : Arrivals) (s : State) → HeldHolds p h s → with_arrivals_if h from op k j c seen ≡ with_arrivals_by from op k j c seen
-  reached held_variant.Unreached from op k j c seen s x = absurd x
-  reached held_variant.Unknown from op k j c seen s x = refl
-  reached (held_variant.Field f) from op k j c seen s x = refl
-  reached (held_variant.AtIndex code m) from op k j c seen s x = refl
+  reached : (h : Held) (from : ℕ) (op : Option Operation) (k : Known) (j : Insn) (seen : List Known) (s : State) → HeldHolds p h s → with_arrivals_if h from op k j seen ≡ with_arrivals_by from op k j seen
+  reached held_variant.Unreached from op k j seen s x = absurd x
+  reached held_variant.Unknown from op k j seen s x = refl
+  reached (held_variant.Field f) from op k j seen s x = refl
+  reached (held_variant.AtIndex code m) from op k j seen s x = refl
 
   reached_insn : (h : Held) (op : Option Operation) (k : Known) (i : Insn) (is : List Insn) (s : State) → HeldHolds p h s → threaded_by op k i is ≡ threaded_if h op k i is
   reached_insn held_variant.Unreached op k i is s x = absurd x
@@ -201,59 +171,34 @@ module _ (p : List ℕ) (n : ℕ) where
   reached_insn (held_variant.Field f) op k i is s x = refl
   reached_insn (held_variant.AtIndex code m) op k i is s x = refl
 
-  -- the code has the same answers where it ends
-  end_step : (op : Option Operation) (i : Insn) (c d : List Insn) (k : Known) (s : State) → operation_of i.code ≡ op → ends op ≡ true → answer_of (threaded_insn op k i d ∷ c) p n 0 s ≡ answer_of (i ∷ d) p n 0 s
-  end_step (Some ReturnConstant) i c d k s e t =
-      let same : threaded_insn (Some ReturnConstant) k i d ≡ i = stays_there k.held in
-      ap (λ (j : Insn). answer_of (j ∷ c) p n 0 s) same
-      ∙ ap (answer_after (answer_of c p n)) (known_step p n i (Some ReturnConstant) s e)
-      ∙ sym (ap (answer_after (answer_of d p n)) (known_step p n i (Some ReturnConstant) s e))
-    where
-      stays_there : (h : Held) → threaded_if h (Some ReturnConstant) k i d ≡ i
-      stays_there held_variant.Unreached = refl
-      stays_there _ = refl
-  end_step _ i c d k s e t = cc
-
-  ends_same : (is : List Insn) (at : ℕ) (seen : Arrivals) → EndsAlike (flow at seen is) is
-  ends_same [] at seen m s e = refl
-  ends_same (i ∷ is) at seen (suc m) s e =
-      let op = operation_of i.code in
-      let k = known_at seen at in
-      ends_same is (suc at) (with_arrivals (suc at) op k (threaded_insn op k i is) is seen) m s e
-  ends_same (i ∷ is) at seen zero s e =
-      let op = operation_of i.code in
-      let k = known_at seen at in
-      end_step op i (flow (suc at) (with_arrivals (suc at) op k (threaded_insn op k i is) is seen) is) is k s refl e
-
-  -- and where what is known holds
-  answers_same : (is : List Insn) (at : ℕ) (seen : Arrivals) (m : ℕ) (s : State) → HoldsAt p seen (at + m) s → answer_of (flow at seen is) p n m s ≡ answer_of is p n m s
+  -- the code has the same answers where what is known holds
+  answers_same : (is : List Insn) (at : ℕ) (seen : List Known) (m : ℕ) (s : State) → HoldsAt p seen (at + m) s → answer_of (flow at seen is) p n m s ≡ answer_of is p n m s
   answers_same [] at seen m s x = refl
   answers_same (i ∷ is) at seen (suc m) s x =
       let op = operation_of i.code in
       let k = known_at seen at in
       let j = threaded_insn op k i is in
       let there : at + suc m ≡ suc at + m = omega arith in
-      let after : suc at ≤ suc at + m = omega arith in
-      answers_same is (suc at) (with_arrivals (suc at) op k j is seen) m s (if_keeps k.held op (suc at) k j is seen (suc at + m) s after (subst (λ q. HoldsAt p seen q s) there x))
+      answers_same is (suc at) (with_arrivals (suc at) op k j seen) m s (if_keeps k.held op (suc at) k j seen (suc at + m) s (subst (λ q. HoldsAt p seen q s) there x))
   answers_same (i ∷ is) at seen zero s x =
       let op = operation_of i.code in
       let k = known_at seen at in
       let j = threaded_by op k i is in
       let here : at + 0 ≡ at = omega arith in
       let holds : Holds p k s = subst (λ q. HoldsAt p seen q s) here x in
-      let after = with_arrivals (suc at) op k j is seen in
-      subst (λ (t : Insn). answer_of (t ∷ flow (suc at) (with_arrivals (suc at) op k t is seen) is) p n 0 s ≡ answer_of (i ∷ is) p n 0 s) (reached_insn k.held op k i is s holds.a)
-      (at_top (suc at) k i is (flow (suc at) after is) (ends_same is (suc at) after) seen s holds
-      (λ m t y. answers_same is (suc at) after m t (subst (λ gs. HoldsAt p gs (suc at + m) t) (sym (reached k.held (suc at) op k j is seen s holds.a)) y)))
+      let after = with_arrivals (suc at) op k j seen in
+      subst (λ (t : Insn). answer_of (t ∷ flow (suc at) (with_arrivals (suc at) op k t seen) is) p n 0 s ≡ answer_of (i ∷ is) p n 0 s) (reached_insn k.held op k i is s holds.a)
+      (at_top (suc at) k i is (flow (suc at) after is) seen s holds
+      (λ m t y. answers_same is (suc at) after m t (subst (λ gs. HoldsAt p gs (suc at + m) t) (sym (reached k.held (suc at) op k j seen s holds.a)) y)))
 
   threaded_answers : (is : List Insn) (s : State) → answer_of (threaded is) p n 0 s ≡ answer_of is p n 0 s
-  threaded_answers is s = answers_same is 0 at_start 0 s (start_holds p s)
+  threaded_answers is s = answers_same is 0 (at_start (length is)) 0 s (start_holds p (length is) s)
 
-length_flow : (at : ℕ) (seen : Arrivals) (is : List Insn) → length (flow at seen is) ≡ length is
+length_flow : (at : ℕ) (seen : List Known) (is : List Insn) → length (flow at seen is) ≡ length is
 length_flow at seen [] = refl
 length_flow at seen (i ∷ is) =
     let k = known_at seen at in
-    ap suc (length_flow (suc at) (with_arrivals (suc at) (operation_of i.code) k (threaded_insn (operation_of i.code) k i is) is seen) is)
+    ap suc (length_flow (suc at) (with_arrivals (suc at) (operation_of i.code) k (threaded_insn (operation_of i.code) k i is) seen) is)
 
 -- faults
 passes : (b : Bool) (f : CheckFault) → unless b f ≡ None → b ≡ true
@@ -283,13 +228,13 @@ fault_is : (i : Insn) (op : Option Operation) (m : ℕ) → operation_of i.code 
 unfolding fault_of
 fault_is i op m e = ap (λ o. fault_if_known o i m) e
 
-faultless_flow : (at : ℕ) (seen : Arrivals) (is : List Insn) → IsFaultless is → IsFaultless (flow at seen is)
+faultless_flow : (at : ℕ) (seen : List Known) (is : List Insn) → IsFaultless is → IsFaultless (flow at seen is)
 faultless_flow at seen [] f = tt
 faultless_flow at seen (i ∷ is) f =
     let op = operation_of i.code in
     let k = known_at seen at in
     let j = threaded_insn op k i is in
-    let bs = with_arrivals (suc at) op k j is seen in (
+    let bs = with_arrivals (suc at) op k j seen in (
       ap (fault_of j) (length_flow (suc at) bs is)
           ∙ fault_is j op (length is) (ap operation_of (threaded_code op k i is))
           ∙ threaded_fault k.held op k i is (sym (fault_is i op (length is) refl) ∙ f.0),
@@ -301,7 +246,7 @@ ends_after : (i : Insn) (c : List Insn) → 0 < length c → ends_in_return (i �
 ends_after i [] l = absurd (omega arith)
 ends_after i (j ∷ c) l = refl
 
-ends_flow : (at : ℕ) (seen : Arrivals) (is : List Insn) → ends_in_return (flow at seen is) ≡ ends_in_return is
+ends_flow : (at : ℕ) (seen : List Known) (is : List Insn) → ends_in_return (flow at seen is) ≡ ends_in_return is
 ends_flow at seen [] = refl
 ends_flow at seen (i ∷ []) =
     ap (λ c. ends_in_return (record i { code = c } ∷ [])) (threaded_code (operation_of i.code) (known_at seen at) i [])
@@ -309,37 +254,37 @@ ends_flow at seen (i ∷ j ∷ is) =
     let op = operation_of i.code in
     let k = known_at seen at in
     let t = threaded_insn op k i (j ∷ is) in
-    let bs = with_arrivals (suc at) op k t (j ∷ is) seen in
+    let bs = with_arrivals (suc at) op k t seen in
     let long = length_flow (suc at) bs (j ∷ is) in
     ends_after t (flow (suc at) bs (j ∷ is)) (omega arith) ∙ ends_flow (suc at) bs (j ∷ is)
 
-tests_flow : (at : ℕ) (seen : Arrivals) (is : List Insn) → count_by (λ i. is_branch (operation_of i.code)) (flow at seen is) ≡ count_by (λ i. is_branch (operation_of i.code)) is
+tests_flow : (at : ℕ) (seen : List Known) (is : List Insn) → count_by (λ i. is_branch (operation_of i.code)) (flow at seen is) ≡ count_by (λ i. is_branch (operation_of i.code)) is
 tests_flow at seen [] = refl
 tests_flow at seen (i ∷ is) =
     let op = operation_of i.code in
     let k = known_at seen at in
     let j = threaded_insn op k i is in
-    let rest = flow (suc at) (with_arrivals (suc at) op k j is seen) is in
+    let rest = flow (suc at) (with_arrivals (suc at) op k j seen) is in
     let test = λ (m : Insn). cond (is_branch (operation_of m.code)) 1 0 in
     let new : count_by (λ m. is_branch (operation_of m.code)) (j ∷ rest) ≡ test j + count_by (λ m. is_branch (operation_of m.code)) rest = sum_by-cons test j rest in
     let old : count_by (λ m. is_branch (operation_of m.code)) (i ∷ is) ≡ test i + count_by (λ m. is_branch (operation_of m.code)) is = sum_by-cons test i is in
     let same : test j ≡ test i = ap (λ c. cond (is_branch (operation_of c)) 1 0) (threaded_code op k i is) in
-    new ∙ ap (λ m. m + count_by (λ m'. is_branch (operation_of m'.code)) rest) same ∙ ap (λ m. test i + m) (tests_flow (suc at) (with_arrivals (suc at) op k j is seen) is) ∙ sym old
+    new ∙ ap (λ m. m + count_by (λ m'. is_branch (operation_of m'.code)) rest) same ∙ ap (λ m. test i + m) (tests_flow (suc at) (with_arrivals (suc at) op k j seen) is) ∙ sym old
 
-code_at : (at : ℕ) (seen : Arrivals) (is : List Insn) (m : ℕ) (e : Insn) → (get_or (flow at seen is) m e).code ≡ (get_or is m e).code
+code_at : (at : ℕ) (seen : List Known) (is : List Insn) (m : ℕ) (e : Insn) → (get_or (flow at seen is) m e).code ≡ (get_or is m e).code
 code_at at seen [] m e = refl
 code_at at seen (i ∷ is) zero e = threaded_code (operation_of i.code) (known_at seen at) i is
 code_at at seen (i ∷ is) (suc m) e =
     let k = known_at seen at in
-    code_at (suc at) (with_arrivals (suc at) (operation_of i.code) k (threaded_insn (operation_of i.code) k i is) is seen) is m e
+    code_at (suc at) (with_arrivals (suc at) (operation_of i.code) k (threaded_insn (operation_of i.code) k i is) seen) is m e
 
-pub threads : (new old : List Insn) → new ≡ threaded old → Threads new old
-threads new old e = subst (λ c. Threads c old) (sym e) (record {
-  same_length = length_flow 0 at_start old;
-  branches = tests_flow 0 at_start old;
-  sound = λ v. record { faultless = faultless_flow 0 at_start old v.faultless; ends = ends_flow 0 at_start old ∙ v.ends };
+pub threads : (new old : List Insn) (seen : List Known) → seen ≡ at_start (length old) → new ≡ flow 0 seen old → Threads new old
+threads new old seen f e = subst (λ c. Threads c old) (sym (e ∙ ap (λ gs. flow 0 gs old) f)) (record {
+  same_length = length_flow 0 (at_start (length old)) old;
+  branches = tests_flow 0 (at_start (length old)) old;
+  sound = λ v. record { faultless = faultless_flow 0 (at_start (length old)) old v.faultless; ends = ends_flow 0 (at_start (length old)) old ∙ v.ends };
   runs = λ p n. threaded_answers p n old start;
-  no_jump = λ h. λ m e l f. (let long = length_flow 0 at_start old in h m e (omega arith) (sym (code_at 0 at_start old m e) ∙ f));
+  no_jump = λ h. λ m e l f. (let long = length_flow 0 (at_start (length old)) old in h m e (omega arith) (sym (code_at 0 (at_start (length old)) old m e) ∙ f));
 })
 
 -- code stays as it is

@@ -1,6 +1,6 @@
 -- A run may go on where a walk ends in place of where it began.
-use Rattle.std.proofs.Common.{◌≡◌, ℕ, zero, suc, ◌+◌, ◌%◌, ◌^◌, ◌<◌, List, [], ◌∷◌, length, Bool, true, Option, Some, None, refl, sym, ap, ◌∙◌, subst, arith, inl, inr}
-use Rattle.std.specs.Prelude.{◌==◌, nat_lt, ◌||◌, if◌then◌else◌, slice_get, bit_and}
+use Rattle.std.proofs.Common.{◌≡◌, ℕ, zero, suc, ◌+◌, ◌%◌, ◌^◌, ◌<◌, List, [], ◌∷◌, length, Bool, true, false, Option, Some, None, refl, sym, ap, ◌∙◌, subst, arith, inl, inr}
+use Rattle.std.specs.Prelude.{◌==◌, nat_lt, ◌&&◌, ◌||◌, if◌then◌else◌, slice_get, bit_and}
 use Rattle.std.specs.Option.{is_none, option_map}
 use Rattle.std.proofs.lemmas.Bool.Decides.{nat_tests}
 use Rattle.flt_bpf.specs.declared.insn.Insn.{Insn}
@@ -17,16 +17,15 @@ use Rattle.flt_bpf.specs.Instructions.{operation_of}
 use Rattle.flt_bpf.specs.Machine.{Next, Goes, Ends, Lost, step as does_step, does_if_known, into, word_into, field, header_length}
 use Rattle.flt_bpf.specs.Answer.{answer_of, answer_after}
 use Rattle.flt_short.specs.declared.facts.Field.{Field}
-use Rattle.flt_short.specs.declared.facts.Claim.TheVariants.{Is}
 use Rattle.flt_short.specs.declared.facts.Held.{Held}
 use Rattle.flt_short.specs.declared.facts.Held.TheVariants as held
 use Rattle.flt_short.specs.declared.facts.Known.{Known}
 use Rattle.flt_short.specs.declared.thread.Spot.{Spot}
 use Rattle.flt_short.specs.declared.thread.Reached.{Reached}
-use Rattle.flt_short.specs.inside.Facts.{same_field, decided, two_numbers_of, with_fact, is_captured, masked_field, masked_by}
-use Rattle.flt_short.specs.inside.Threads.{field_at, other_field, spot_at, past_decided, past_test_of, past_masked, past_mask_of, holds_load, holds_header, past_insn, ignores_accumulator, ignores_accumulator_if_there, is_free_by, is_free_at, is_free, can_stop, step_if_there, walk_on, walk, FUEL, walk_from, two_of, tests_at, two_at_field, two_numbers_at, target_by, target, threaded_offset}
+use Rattle.flt_short.specs.inside.Facts.{same_field, decided, known_by, is_captured, masked_field, masked_by}
+use Rattle.flt_short.specs.inside.Threads.{field_at, other_field, spot_at, past_decided, past_test_of, past_masked, past_mask_of, holds_load, holds_header, past_insn, ignores_accumulator, ignores_accumulator_if_there, is_free_by, is_free_at, is_free, can_stop, step_if_there, walk_on, walk, FUEL, walk_from, number_at, target_by, target, threaded_offset}
 use Rattle.flt_short.proofs.Basics.{by_test, both_true, either_true}
-use Rattle.flt_short.proofs.Knowing.{is_said, loaded, masked, value_at, value_of, loaded_at, numbers, same_value, same_number, HeldHolds, IndexHolds, Holds, IsEither, captured_there, decided_right, one_of_right, fact_holds}
+use Rattle.flt_short.proofs.Knowing.{loaded, masked, value_at, value_of, loaded_at, numbers, same_value, HeldHolds, IndexHolds, Holds, captured_there, decided_right, tested_field}
 
 module _ (p : List ℕ) (n : ℕ) where
   pub known_step : (j : Insn) (op : Option Operation) (s : State) → operation_of j.code ≡ op → does_step j p n s ≡ does_if_known op j p n s
@@ -255,26 +254,30 @@ module _ (p : List ℕ) (n : ℕ) where
           (λ t. stops s from spot w (both_true (nat_lt spot.place (length c)) (is_none spot.other || is_free c spot.place) t).1)
           (λ _. e)
 
-      walk_next : (go_on : Reached → Reached) (r : Reached) → Walks s from r.spot → IsSame r.best → ((q : Reached) → Walks s from q.spot → IsSame q.best → IsSame (go_on q).best) → IsSame (walk_on go_on c r (step_if_there (slice_get c r.spot.place) k r.spot)).best
-      walk_next go_on r w e later = there (slice_get c r.spot.place) refl
-        where
-          go : (i : Insn) (o : Option Spot) → slice_get c r.spot.place ≡ Some i → past_insn (operation_of i.code) k i r.spot ≡ o → IsSame (walk_on go_on c r o).best
-          go i None g q = e
-          go i (Some spot) g q =
-              let next = step_good (operation_of i.code) i r.spot spot g refl q w in
-              later (record { spot = spot; best = if can_stop c spot then spot.place else r.best }) next (best_same spot r.best next e)
+      -- so the walk is right, and where it is a run may be
+      abbrev IsRight : Reached → Type 0
+      IsRight r = Walks s from r.spot × IsSame r.best
 
-          there : (o : Option Insn) → slice_get c r.spot.place ≡ o → IsSame (walk_on go_on c r (step_if_there o k r.spot)).best
-          there None g = e
+      walk_next : (go_on : Reached → Reached) (r : Reached) → IsRight r → ((q : Reached) → IsRight q → IsRight (go_on q)) → IsRight (walk_on go_on c r (step_if_there (slice_get c r.spot.place) k r.spot))
+      walk_next go_on r w later = there (slice_get c r.spot.place) refl
+        where
+          go : (i : Insn) (o : Option Spot) → slice_get c r.spot.place ≡ Some i → past_insn (operation_of i.code) k i r.spot ≡ o → IsRight (walk_on go_on c r o)
+          go i None g q = w
+          go i (Some spot) g q =
+              let next = step_good (operation_of i.code) i r.spot spot g refl q w.0 in
+              later (record { spot = spot; best = if can_stop c spot then spot.place else r.best }) (next, best_same spot r.best next w.1)
+
+          there : (o : Option Insn) → slice_get c r.spot.place ≡ o → IsRight (walk_on go_on c r (step_if_there o k r.spot))
+          there None g = w
           there (Some i) g = go i (past_insn (operation_of i.code) k i r.spot) g refl
 
-      walk_same : (fuel : ℕ) (r : Reached) → Walks s from r.spot → IsSame r.best → IsSame (walk fuel k c r).best
+      walk_right : (fuel : ℕ) (r : Reached) → IsRight r → IsRight (walk fuel k c r)
       unfolding walk
-      walk_same zero r w e = e
-      walk_same (suc fuel) r w e = walk_next (walk fuel k c) r w e (λ q v f. walk_same fuel q v f)
+      walk_right zero r w = w
+      walk_right (suc fuel) r w = walk_next (walk fuel k c) r w (λ q v. walk_right fuel q v)
 
-      walked_same : IsSame (walk_from k c from).best
-      walked_same = walk_same FUEL (record { spot = spot_at from None; best = from }) (record { a = s.accumulator; is = refl; same = refl }) refl
+      walked_right : IsRight (walk_from k c from)
+      walked_right = walk_right FUEL (record { spot = spot_at from None; best = from }) (record { a = s.accumulator; is = refl; same = refl }, refl)
 
     -- the walks end inside the code
     best_inside : (spot : Spot) (best : ℕ) → best < length c → (if can_stop c spot then spot.place else best) < length c
@@ -295,49 +298,44 @@ module _ (p : List ℕ) (n : ℕ) where
     walked_inside : (k : Known) (from : ℕ) → from < length c → (walk_from k c from).best < length c
     walked_inside k from l = walk_inside FUEL k (record { spot = spot_at from None; best = from }) l
 
-    -- where a field is one of two numbers
+    -- where both outcomes of a test lead to one place
     target_inside : (k : Known) (from : ℕ) → from < length c → target k c from < length c
-    target_inside k from l = by (two_numbers_at k c (walk_from k c from).spot)
+    target_inside k from l = by (field_at k.held (walk_from k c from).spot.other) (number_at c (walk_from k c from).spot.place)
       where
-        by : (o : Option (Field × ℕ × ℕ)) → target_by o k c from (walk_from k c from).best < length c
-        by None = walked_inside k from l
-        by (Some two) =
-            by_test (λ m. m < length c) ((walk_from (with_fact k two.0 (Is two.1)) c from).best == (walk_from (with_fact k two.0 (Is two.2)) c from).best) _ _
-            (λ _. walked_inside (with_fact k two.0 (Is two.1)) from l)
+        by : (o : Option Field) (m : Option ℕ) → target_by o m k c from (walk_from k c from).best < length c
+        by None m = walked_inside k from l
+        by (Some f) None = walked_inside k from l
+        by (Some f) (Some v) =
+            by_test (λ m. m < length c) (nat_lt (walk_from k c from).best (walk_from (known_by k f v true) c from).best && (walk_from (known_by k f v true) c from).best == (walk_from (known_by k f v false) c from).best) _ _
+            (λ _. walked_inside (known_by k f v true) from l)
             (λ _. walked_inside k from l)
 
-    two_of_field : (k : Known) (s : State) (f : Option Field) (two : Field × ℕ × ℕ) → Holds p k s → two_at_field k f ≡ Some two → IsEither p two.0 two.1 two.2
-    two_of_field k s None two h e = cc
-    two_of_field k s (Some f) two h e = by (two_numbers_of k.facts f) refl e
-      where
-        by : (o : Option (ℕ × ℕ)) → two_numbers_of k.facts f ≡ o → two_of f o ≡ Some two → IsEither p two.0 two.1 two.2
-        by None q e' = cc
-        by (Some pair) q e' =
-            let same : (f, pair.0, pair.1) ≡ two = cc in
-            subst (λ (t : Field × ℕ × ℕ). IsEither p t.0 t.1 t.2) same (one_of_right p k.facts f pair h.facts q)
-
-    two_is : (k : Known) (s : State) (end : Spot) (two : Field × ℕ × ℕ) → Holds p k s → two_numbers_at k c end ≡ Some two → IsEither p two.0 two.1 two.2
-    two_is k s end two h =
-        by_test (λ o. o ≡ Some two → IsEither p two.0 two.1 two.2) (tests_at c end.place) (two_at_field k (field_at k.held end.other)) None
-        (λ _. λ e. two_of_field k s (field_at k.held end.other) two h e)
-        (λ _. λ e. cc)
-
     target_same : (k : Known) (from : ℕ) (s : State) → Holds p k s → answer_of c p n (target k c from) s ≡ answer_of c p n from s
-    target_same k from s h = by (two_numbers_at k c (walk_from k c from).spot) refl
+    target_same k from s h = by (field_at k.held end.spot.other) refl (number_at c end.spot.place)
       where
-        by : (o : Option (Field × ℕ × ℕ)) → two_numbers_at k c (walk_from k c from).spot ≡ o → answer_of c p n (target_by o k c from (walk_from k c from).best) s ≡ answer_of c p n from s
-        by None q = walked_same k s h from
-        by (Some two) q =
-            let first = walk_from (with_fact k two.0 (Is two.1)) c from in
-            let second = walk_from (with_fact k two.0 (Is two.2)) c from in
-            let is = two_is k s (walk_from k c from).spot two h q in
-            let said = λ (a : ℕ) (e : is.number ≡ a). fact_holds p k two.0 (Is a) s h (subst (λ o. is_said (Is a) o ≡ true) (sym is.is) (same_number is.number a e)) in
-            by_test (λ m. answer_of c p n m s ≡ answer_of c p n from s) (first.best == second.best) _ _
-            (λ t. elim is.either [
-              | inl e ↦ walked_same (with_fact k two.0 (Is two.1)) s (said two.1 e) from
-              | inr e ↦ ap (λ m. answer_of c p n m s) (numbers first.best second.best t) ∙ walked_same (with_fact k two.0 (Is two.2)) s (said two.2 e) from
-            ])
-            (λ _. walked_same k s h from)
+        end : Reached
+        end = walk_from k c from
+
+        right : Walks s from end.spot × (answer_of c p n end.best s ≡ answer_of c p n from s)
+        right = walked_right k s h from
+
+        by : (o : Option Field) → field_at k.held end.spot.other ≡ o → (m : Option ℕ) → answer_of c p n (target_by o m k c from end.best) s ≡ answer_of c p n from s
+        by None q m = right.1
+        by (Some f) q None = right.1
+        by (Some f) q (Some v) =
+            let first = walk_from (known_by k f v true) c from in
+            let second = walk_from (known_by k f v false) c from in
+            let a = right.0.a in
+            let is = field_is k.held end.spot.other f s a h.a right.0.is q in
+            let by_outcome : (b : Bool) → (a == v) ≡ b → answer_of c p n (walk_from (known_by k f v b) c from).best s ≡ answer_of c p n from s = λ b e. (walked_right (known_by k f v b) s (tested_field p k f a v b s h is e) from).1 in
+            by_test (λ m. answer_of c p n m s ≡ answer_of c p n from s) (nat_lt end.best first.best && first.best == second.best) _ _
+            (λ t. let one = numbers first.best second.best (both_true (nat_lt end.best first.best) (first.best == second.best) t).1 in
+            either_way (a == v) (by_outcome (a == v) refl) one)
+            (λ _. right.1)
+          where
+            either_way : (b : Bool) → answer_of c p n (walk_from (known_by k f v b) c from).best s ≡ answer_of c p n from s → (walk_from (known_by k f v true) c from).best ≡ (walk_from (known_by k f v false) c from).best → answer_of c p n (walk_from (known_by k f v true) c from).best s ≡ answer_of c p n from s
+            either_way true e one = e
+            either_way false e one = ap (λ m. answer_of c p n m s) one ∙ e
 
     pub moved_same : (k : Known) (from : ℕ) (s : State) → Holds p k s → answer_of c p n (threaded_offset k c from) s ≡ answer_of c p n from s
     moved_same k from s h =

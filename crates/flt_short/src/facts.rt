@@ -20,7 +20,7 @@ ghost use Rattle.flt_short.specs.inside.Facts.{holds_field};
 ghost use Rattle.flt_short.specs.inside.Facts.{is_captured, masked_field, masked_held};
 ghost use Rattle.flt_short.specs.inside.Facts.{held_without_index};
 ghost use Rattle.flt_short.specs.inside.Facts.{held_after, index_after, known_after, claim_after};
-ghost use Rattle.flt_short.specs.inside.Facts.{known_by_test, nothing_known, unreached};
+ghost use Rattle.flt_short.specs.inside.Facts.{known_by, known_by_test, nothing_known, unreached};
 
 use flt_bpf::Wide;
 use flt_bpf::operation::{AluOperation, Operand, Operation, Register, Test, decode};
@@ -326,7 +326,7 @@ pub fn decided(facts: &[Fact], field: &Field, number: u32) -> Option<bool>
 }
 
 /// The two numbers of which a field is one, if a fact claims that.
-pub fn two_numbers_of(facts: &[Fact], field: &Field) -> Option<(u32, u32)>
+fn two_numbers_of(facts: &[Fact], field: &Field) -> Option<(u32, u32)>
     ensures { result ≡ two_numbers_of facts.now field.now }
 {
     match facts {
@@ -372,7 +372,7 @@ fn place_for(facts: &[Fact], fact: &Fact) -> usize
 
 /// Adds a fact: it takes the place of one that gives way to it, else that of the last one, which is
 /// lost.
-pub fn add_fact(known: &mut Known, field: Field, claim: Claim)
+fn add_fact(known: &mut Known, field: Field, claim: Claim)
     ensures { known.new ≡ with_fact known.old field claim }
 {
     let fact = Fact { field, claim };
@@ -523,6 +523,14 @@ fn claim_by_outcome(facts: &[Fact], field: &Field, number: u32, outcome: bool) -
     }
 }
 
+/// Adds to what is known what the outcome of the test whether a field is a number shows.
+pub fn learn_number(known: &mut Known, field: Field, number: u32, outcome: bool)
+    ensures { known.new ≡ known_by known.old field number outcome }
+{
+    let claim = claim_by_outcome(&known.facts, &field, number, outcome);
+    add_fact(known, field, claim);
+}
+
 /// Adds to what is known what the outcome of a test shows. Only a test for equality shows
 /// something, while A holds a field.
 pub fn learn(known: &mut Known, insn: Wide, outcome: bool)
@@ -531,8 +539,7 @@ pub fn learn(known: &mut Known, insn: Wide, outcome: bool)
 {
     if let Some(Operation::JumpIf(Test::Equal, Operand::Constant)) = decode(insn.code) {
         if let Held::Field(field) = known.held {
-            let claim = claim_by_outcome(&known.facts, &field, insn.k, outcome);
-            add_fact(known, field, claim);
+            learn_number(known, field, insn.k, outcome);
         }
     }
 }

@@ -16,9 +16,8 @@ use flt_bpf::operation::{AluOperation, Operand, Operation, Register, Source, Tes
 use flt_bpf::{Wide, reads_accumulator, reads_index, sets_accumulator, sets_index};
 use std::alloc::{AllocError, Allocator};
 
-/// The most instructions of code whose tests are shared: in longer code they aren't, since the
-/// optimiser makes less of it then, and shares them itself.
-const MOST_SHARED: usize = 256;
+/// The factor of a multiplicative hash: 2^64 divided by the golden ratio, to the next odd number.
+const HASH_FACTOR: usize = 0x9E37_79B9_7F4A_7C15;
 
 /// The landing of an instruction that isn't in the new code.
 const NOWHERE: Landing = Landing {
@@ -118,6 +117,19 @@ fn direct_code(indirect: u16) -> Option<u16> {
     }
 }
 
+/// How many entries the table of tests has for code of a length: a power of two, and more than the
+/// code has tests.
+fn table_len(len: usize) -> usize {
+    let mut entries: usize = 16;
+    for _ in 0..32 {
+        if entries > len {
+            break;
+        }
+        entries = entries.saturating_mul(2);
+    }
+    entries
+}
+
 /// Code that grows from its end to its beginning, while the old code is read in that order too.
 /// Where a target is too far or there is no room, an instruction lands nowhere, and so do those
 /// that go on there; or it lands where other code stands. Either way the new code isn't taken.
@@ -133,8 +145,9 @@ struct Shortening<'a> {
     backwards: &'a mut [Wide],
     /// How many instructions the new code has.
     len: usize,
-    /// Whether a test that is there already isn't put again.
-    shares_tests: bool,
+    /// The places of the new code's tests, each at the first free entry from the one on where it is
+    /// looked for first (`first_entry`). 0 is free.
+    tests: &'a mut [usize],
 }
 
 impl Shortening<'_> {
@@ -144,6 +157,40 @@ impl Shortening<'_> {
         if let Some(free) = self.backwards.get_mut(self.len) {
             *free = insn;
             self.len = self.len.saturating_add(1);
+            if let Some(Operation::JumpIf(_, _)) = decode(insn.code) {
+                self.note_test(insn);
+            }
+        }
+    }
+
+    /// The entry of the table where a test with these targets is looked for first.
+    fn first_entry(&self, insn: Wide, yes: usize, no: usize) -> usize {
+        let mut mixed = usize::from(insn.code);
+        for part in [insn.k as usize, yes, no] {
+            mixed = mixed.wrapping_mul(HASH_FACTOR).wrapping_add(part);
+        }
+        (mixed.wrapping_mul(HASH_FACTOR) >> 32) & self.tests.len().saturating_sub(1)
+    }
+
+    /// The entry of the table after this one; after the last one it is the first.
+    fn entry_after(&self, entry: usize) -> usize {
+        entry.wrapping_add(1) & self.tests.len().saturating_sub(1)
+    }
+
+    /// Notes in the table the test that was put last.
+    fn note_test(&mut self, test: Wide) {
+        let top = self.len.saturating_sub(1);
+        let yes = top.saturating_sub(test.yes as usize);
+        let no = top.saturating_sub(test.no as usize);
+        let mut entry = self.first_entry(test, yes, no);
+        for _ in 0..self.tests.len() {
+            match self.tests.get_mut(entry) {
+                Some(place) if *place == 0 => {
+                    *place = self.len;
+                    return;
+                }
+                _ => entry = self.entry_after(entry),
+            }
         }
     }
 
@@ -304,18 +351,24 @@ impl Shortening<'_> {
     /// one. Of several it is one after the same instruction as this one is after (`is_front_at`),
     /// if there is such a one, since that instruction can be shared too.
     fn find_same_test(&self, at: usize, insn: Wide, yes: usize, no: usize) -> Option<usize> {
-        let low = yes.max(no);
         let mut found = None;
-        for place in (low..self.len).rev() {
-            if self.stands_before(place, insn) && self.has_targets(place, yes, no) {
-                let test = place_in_front_of(place);
+        let mut entry = self.first_entry(insn, yes, no);
+        for _ in 0..self.tests.len() {
+            let test = self.tests.get(entry).copied().unwrap_or(0);
+            if test == 0 {
+                break;
+            }
+            let place = test.saturating_sub(1);
+            if place >= yes.max(no)
+                && self.stands_before(place, insn)
+                && self.has_targets(place, yes, no)
+            {
                 if self.is_front_at(test, at) {
                     return Some(test);
                 }
-                if found.is_none() {
-                    found = Some(test);
-                }
+                found = Some(test);
             }
+            entry = self.entry_after(entry);
         }
         found
     }
@@ -326,10 +379,8 @@ impl Shortening<'_> {
         if yes == 0 || no == 0 {
             return None;
         }
-        if self.shares_tests {
-            if let Some(place) = self.find_same_test(at, insn, yes, no) {
-                return Some(place);
-            }
+        if let Some(place) = self.find_same_test(at, insn, yes, no) {
+            return Some(place);
         }
         let top = self.len;
         let test = with_offsets(insn, top.saturating_sub(yes), top.saturating_sub(no))?;
@@ -477,13 +528,18 @@ impl Shortening<'_> {
 
 /// Shortens the code `insns` into the space `backwards`, from the last instruction to the first,
 /// and notes the landings. Returns how many instructions the new code has.
-fn shorten(insns: &[Wide], landings: &mut [Landing], backwards: &mut [Wide]) -> usize {
+fn shorten(
+    insns: &[Wide],
+    landings: &mut [Landing],
+    backwards: &mut [Wide],
+    tests: &mut [usize],
+) -> usize {
     let mut shortening = Shortening {
         insns,
         landings,
         backwards,
         len: 0,
-        shares_tests: insns.len() <= MOST_SHARED,
+        tests,
     };
     shortening.read_all()
 }
@@ -493,10 +549,11 @@ fn replacement<A: Allocator>(
     insns: &[Wide],
     landings: &mut [Landing],
     mut backwards: Vec<Wide, A>,
+    tests: &mut [usize],
 ) -> Option<Vec<Wide, A>>
     ensures { IfSome result (λ short. Shortens short.items insns.now) }
 {
-    let len = shorten(insns, landings, &mut backwards);
+    let len = shorten(insns, landings, &mut backwards, tests);
     backwards.truncate(len);
     backwards.reverse();
     replaces(&backwards, insns, landings).then_some(backwards)
@@ -512,8 +569,9 @@ pub fn shortened<A: Allocator + Clone>(
     ensures { IfOk result (λ short. Shortens short.items insns.items) }
 {
     let mut landings = vec![in alloc.clone()?; NOWHERE; insns.len()]?;
-    let backwards = vec![in alloc; EMPTY; insns.len()]?;
-    match replacement(&insns, &mut landings, backwards) {
+    let backwards = vec![in alloc.clone()?; EMPTY; insns.len()]?;
+    let mut tests = vec![in alloc; 0; table_len(insns.len())]?;
+    match replacement(&insns, &mut landings, backwards, &mut tests) {
         Some(short) => Ok(short),
         None => Ok(insns),
     }

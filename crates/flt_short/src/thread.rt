@@ -4,28 +4,26 @@
 //! In a walk a place is an index of the code that follows the test. Clauses cite definitions of the
 //! same names; what follows from these is `Threads`, the contract of `threaded`.
 
-ghost use Rattle.std.specs.Prelude.{◌≡◌, ◌<◌, ◌^◌, nat_lt, if◌then◌else◌, length};
+ghost use Rattle.std.specs.Prelude.{IfOk, ◌≡◌, ◌<◌, ◌^◌, nat_lt, if◌then◌else◌, length};
 ghost use Rattle.flt_bpf.specs.Instructions.{operation_of};
 ghost use Rattle.flt_short.specs.Threads.{Threads};
 ghost use Rattle.flt_short.specs.inside.Threads.{field_at, other_field, past_test, past_mask};
 ghost use Rattle.flt_short.specs.inside.Threads.{holds_load, holds_header, past_insn, is_free};
 ghost use Rattle.flt_short.specs.inside.Threads.{ignores_accumulator, ignores_accumulator_at};
-ghost use Rattle.flt_short.specs.declared.facts.Claim.TheVariants.{Is};
-ghost use Rattle.flt_short.specs.inside.Facts.{with_fact};
-ghost use Rattle.flt_short.specs.inside.Threads.{can_stop, walk, walk_from, tests_at};
-ghost use Rattle.flt_short.specs.inside.Threads.{two_numbers_at, target, threaded_offset};
-ghost use Rattle.flt_short.specs.inside.Threads.{ends_at, came};
+ghost use Rattle.flt_short.specs.inside.Facts.{known_by};
+ghost use Rattle.flt_short.specs.inside.Threads.{can_stop, walk, walk_from, number_at};
+ghost use Rattle.flt_short.specs.inside.Threads.{target, threaded_offset};
 ghost use Rattle.flt_short.specs.inside.Threads.{threaded_test, threaded_insn};
-ghost use Rattle.flt_short.specs.inside.Threads.{with_ways, with_arrivals, flow, threaded};
+ghost use Rattle.flt_short.specs.inside.Threads.{with_ways, with_arrivals, flow};
 
-use crate::arrivals::Arrivals;
+use crate::arrivals::{arrive, at_start, known_at};
 use crate::facts::{
-    Claim, Field, Held, Known, add_fact, decided, is_captured, learn, masked_field, pass_insn,
-    same_field, two_numbers_of,
+    Field, Held, Known, decided, is_captured, learn, learn_number, masked_field, pass_insn,
+    same_field,
 };
 use flt_bpf::Wide;
 use flt_bpf::operation::{AluOperation, Operand, Operation, Register, Test, decode};
-use std::alloc::Allocator;
+use std::alloc::{AllocError, Allocator};
 
 /// How many instructions a walk passes at most, so that it ends soon.
 const FUEL: usize = 128;
@@ -271,60 +269,56 @@ fn walk_from(known: &Known, code: &[Wide], from: usize) -> Reached
     reached
 }
 
-/// Whether the instruction at a place tests whether A is a number.
-fn tests_at(code: &[Wide], place: usize) -> bool
-    ensures { result ≡ tests_at code.now place }
+/// The number with which the instruction at a place compares A, if it tests whether A is a number.
+fn number_at(code: &[Wide], place: usize) -> Option<u32>
+    ensures { result ≡ number_at code.now place }
 {
     match code.get(place) {
-        None => false,
-        Some(insn) => matches!(
-            decode(insn.code),
-            Some(Operation::JumpIf(Test::Equal, Operand::Constant))
-        ),
-    }
-}
-
-/// The field that A would hold where a walk ended at a test of it, and the two numbers of which it
-/// is one. `None`: there is no such test, or no two numbers are known, so that nothing is gained by
-/// a walk for each.
-fn two_numbers_at(known: &Known, code: &[Wide], spot: Spot) -> Option<(Field, u32, u32)>
-    ensures { result ≡ two_numbers_at known.now code.now spot }
-{
-    if !tests_at(code, spot.place) {
-        return None;
-    }
-    match field_at(known.held, spot.other) {
         None => None,
-        Some(field) => match two_numbers_of(&known.facts, &field) {
-            None => None,
-            Some((one, other)) => Some((field, one, other)),
+        Some(insn) => match decode(insn.code) {
+            Some(Operation::JumpIf(Test::Equal, Operand::Constant)) => Some(insn.k),
+            _ => None,
         },
     }
 }
 
-/// The last place where a run may go on in place of the place `from`, if a field is this number.
-fn target_if(known: &Known, field: Field, number: u32, code: &[Wide], from: usize) -> usize
-    ensures { result ≡ (walk_from (with_fact known.now field (Is number)) code.now from).best }
+/// The last place where a run may go on in place of the place `from`, if the test whether a field
+/// is a number has this outcome.
+fn target_after(
+    known: &Known,
+    field: Field,
+    number: u32,
+    outcome: bool,
+    code: &[Wide],
+    from: usize,
+) -> usize
+    ensures { result ≡ (walk_from (known_by known.now field number outcome) code.now from).best }
 {
     let mut known = *known;
-    add_fact(&mut known, field, Claim::Is(number));
+    learn_number(&mut known, field, number, outcome);
     walk_from(&known, code, from).best
 }
 
 /// The last place where a run may go on in place of the place `from`. Where the walk ends at a test
-/// of a field that is one of two numbers, it is where both numbers lead, if that is one place.
+/// whether a field is a number, it is where both outcomes lead, if that is one place further on.
 /// Places are indices of the code after the test.
 fn target(known: &Known, code: &[Wide], from: usize) -> usize
     ensures { result ≡ target known.now code.now from }
 {
     let end = walk_from(known, code, from);
-    match two_numbers_at(known, code, end.spot) {
-        None => end.best,
-        Some((field, one, other)) => {
-            let first = target_if(known, field, one, code, from);
-            let second = target_if(known, field, other, code, from);
-            if first == second { first } else { end.best }
+    match (
+        field_at(known.held, end.spot.other),
+        number_at(code, end.spot.place),
+    ) {
+        (Some(field), Some(number)) => {
+            let first = target_after(known, field, number, true, code, from);
+            if end.best < first && first == target_after(known, field, number, false, code, from) {
+                first
+            } else {
+                end.best
+            }
         }
+        _ => end.best,
     }
 }
 
@@ -341,35 +335,11 @@ fn threaded_offset(known: &Known, following: &[Wide], skipped: u32) -> u32
     }
 }
 
-/// Whether a run ends at a place by returning a constant.
-fn ends_at(code: &[Wide], place: usize) -> bool
-    ensures { result ≡ ends_at code.now place }
-{
-    match code.get(place) {
-        None => false,
-        Some(insn) => matches!(decode(insn.code), Some(Operation::ReturnConstant)),
-    }
-}
-
-/// Notes that a run goes on with this known, after some instructions of the code, which begins at
-/// the place `from` of the whole code.
-fn note_arrival(arrivals: &mut Arrivals, from: usize, skipped: u32, known: &Known, code: &[Wide])
-    requires { from < 2 ^ 63 }
-    ensures { arrivals.new ≡ came from skipped known.now code.now arrivals.old }
-{
-    let place = from + skipped as usize;
-    if ends_at(code, skipped as usize) {
-        arrivals.arrive_at_end(from, place);
-    } else {
-        arrivals.arrive(from, place, known);
-    }
-}
-
 /// The test with each target as far on as what is known decides. Notes what is known at both. The
 /// instruction after the test is at the place `from` of the whole code. What is known `here`
 /// changes to what is known where the test fails.
 fn thread_test(
-    arrivals: &mut Arrivals,
+    seen: &mut [Known],
     from: usize,
     here: &mut Known,
     insn: Wide,
@@ -377,8 +347,7 @@ fn thread_test(
 ) -> Wide
     requires { from < 2 ^ 63 }
     ensures insn { result ≡ threaded_test (operation_of insn.code) here.old insn following.now }
-    ensures arrivals { arrivals.new
-        ≡ with_ways from (operation_of insn.code) here.old result following.now arrivals.old }
+    ensures seen { seen.new ≡ with_ways from (operation_of insn.code) here.old result seen.old }
 {
     let mut yes = *here;
     learn(&mut yes, insn, true);
@@ -389,8 +358,8 @@ fn thread_test(
         no: threaded_offset(here, following, insn.no),
         k: insn.k,
     };
-    note_arrival(arrivals, from, insn.yes, &yes, following);
-    note_arrival(arrivals, from, insn.no, here, following);
+    arrive(seen, from + insn.yes as usize, &yes);
+    arrive(seen, from + insn.no as usize, here);
     insn
 }
 
@@ -398,7 +367,7 @@ fn thread_test(
 /// what is known where the run goes on. The next instruction is at the place `from` of the whole
 /// code. What is known `here` may change, and isn't needed any more.
 fn thread_insn(
-    arrivals: &mut Arrivals,
+    seen: &mut [Known],
     from: usize,
     here: &mut Known,
     insn: Wide,
@@ -406,48 +375,48 @@ fn thread_insn(
 ) -> Wide
     requires { from < 2 ^ 63 }
     ensures insn { result ≡ threaded_insn (operation_of insn.code) here.old insn following.now }
-    ensures arrivals { arrivals.new
-        ≡ with_arrivals from (operation_of insn.code) here.old result following.now arrivals.old }
+    ensures seen { seen.new ≡ with_arrivals from (operation_of insn.code) here.old result seen.old }
 {
     if let Held::Unreached = here.held {
         return insn;
     }
     match decode(insn.code) {
-        Some(Operation::JumpIf(_, _)) => thread_test(arrivals, from, here, insn, following),
+        Some(Operation::JumpIf(_, _)) => thread_test(seen, from, here, insn, following),
         Some(Operation::Jump) => {
-            arrivals.arrive(from, from + insn.k as usize, here);
+            arrive(seen, from + insn.k as usize, here);
             insn
         }
         Some(Operation::ReturnConstant | Operation::ReturnAccumulator) => insn,
         _ => {
             pass_insn(here, insn);
-            arrivals.arrive(from, from, here);
+            arrive(seen, from, here);
             insn
         }
     }
 }
 
 /// Threads all instructions, each by what is known where runs reach it from those in front.
-fn thread_all(arrivals: &mut Arrivals, insns: &mut [Wide])
-    ensures { insns.new ≡ flow 0 arrivals.old insns.old }
+fn thread_all(seen: &mut [Known], insns: &mut [Wide])
+    ensures { insns.new ≡ flow 0 seen.old insns.old }
 {
     let mut at = 0;
     // The label names the loop in its proof.
     'insns: while at < insns.len() {
-        let mut here = arrivals.known_at(at);
+        let mut here = known_at(seen, at);
         let old = insns[at];
-        let insn = thread_insn(arrivals, at + 1, &mut here, old, &insns[at + 1..]);
+        let insn = thread_insn(seen, at + 1, &mut here, old, &insns[at + 1..]);
         insns[at] = insn;
         at += 1;
     }
 }
 
-/// The same code, in which each test goes on as far as what is known there decides. Here the
-/// contract defines the code; that of `threaded` states what follows.
-fn threaded_insns<A: Allocator>(mut insns: Vec<Wide, A>) -> Vec<Wide, A>
-    ensures { result.items ≡ threaded insns.items }
+/// The same code, in which each test goes on as far as what is known there decides: `seen` is what
+/// is known at each place before the code is read. Here the contract defines the code; that of
+/// `threaded` states what follows.
+fn threaded_insns<A: Allocator>(seen: &mut [Known], mut insns: Vec<Wide, A>) -> Vec<Wide, A>
+    ensures { result.items ≡ flow 0 seen.old insns.items }
 {
-    thread_all(&mut Arrivals::at_start(), &mut insns);
+    thread_all(seen, &mut insns);
     insns
 }
 
@@ -476,13 +445,14 @@ fn repeats_a_load(insns: &[Wide]) -> bool {
 }
 
 /// The same code, in which each test goes on as far as what is known there decides. It returns the
-/// same on each packet. It takes no memory. Short code in which no load is there twice stays as it
-/// is, since hardly anything is decided in it.
-pub fn threaded<A: Allocator>(insns: Vec<Wide, A>) -> Vec<Wide, A>
-    ensures { Threads result.items insns.items }
+/// same on each packet. Short code in which no load is there twice stays as it is, since hardly
+/// anything is decided in it. An error is a failed allocation.
+pub fn threaded<A: Allocator>(alloc: A, insns: Vec<Wide, A>) -> Result<Vec<Wide, A>, AllocError>
+    ensures { IfOk result (λ new. Threads new.items insns.items) }
 {
     if insns.len() <= SHORT_CODE && !repeats_a_load(&insns) {
-        return insns;
+        return Ok(insns);
     }
-    threaded_insns(insns)
+    let mut seen = at_start(alloc, insns.len())?;
+    Ok(threaded_insns(&mut seen, insns))
 }

@@ -11,15 +11,13 @@ use Rattle.flt_bpf.specs.declared.operation.Test.TheVariants.{Equal}
 use Rattle.flt_bpf.specs.declared.operation.AluOperation.TheVariants.{And}
 use Rattle.flt_bpf.specs.Instructions.{operation_of}
 use Rattle.flt_short.specs.declared.facts.Field.{Field}
-use Rattle.flt_short.specs.declared.facts.Claim.TheVariants.{Is}
 use Rattle.flt_short.specs.declared.facts.Held.{Held}
 use Rattle.flt_short.specs.declared.facts.Held.TheVariants as held
 use Rattle.flt_short.specs.declared.facts.Known.{Known}
 use Rattle.flt_short.specs.declared.thread.Spot.{Spot}
 use Rattle.flt_short.specs.declared.thread.Reached.{Reached}
-use Rattle.flt_short.specs.declared.arrivals.Arrivals.{Arrivals}
-use Rattle.flt_short.specs.inside.Facts.{same_field, decided, two_numbers_of, with_fact, is_captured, masked_field, known_after, known_by_test}
-use Rattle.flt_short.specs.inside.Arrivals.{at_start, known_at, arrived, ended}
+use Rattle.flt_short.specs.inside.Facts.{same_field, decided, is_captured, masked_field, known_after, known_by, known_by_test}
+use Rattle.flt_short.specs.inside.Arrivals.{at_start, known_at, arrived}
 
 -- the field that A would hold where a walk is, if it would hold one: the other one of the spot, if
 -- there is one, or else what A holds where the walk began
@@ -154,53 +152,38 @@ FUEL = 128
 abbrev pub walk_from : Known → List Insn → ℕ → Reached
 walk_from k c from = walk FUEL k c (record { spot = spot_at from None; best = from })
 
--- a field with the two numbers, if there are two
-abbrev pub two_of : Field → Option (ℕ × ℕ) → Option (Field × ℕ × ℕ)
-two_of f None = None
-two_of f (Some two) = Some (f, two.0, two.1)
+-- the number with which an instruction compares A, if it tests whether A is a number
+abbrev pub number_by : Option Operation → Insn → Option ℕ
+number_by (Some (JumpIf Equal Constant)) i = Some i.k
+number_by _ i = None
 
--- an operation tests whether A is a number
-abbrev pub tests : Option Operation → Bool
-tests (Some (JumpIf Equal Constant)) = true
-tests _ = false
+-- the number with which the instruction, if there is one, compares A
+abbrev pub number_if_there : Option Insn → Option ℕ
+number_if_there None = None
+number_if_there (Some i) = number_by (operation_of i.code) i
 
--- the instruction, if there is one, tests whether A is a number
-abbrev pub tests_if_there : Option Insn → Bool
-tests_if_there None = false
-tests_if_there (Some i) = tests (operation_of i.code)
+-- the number with which the instruction at a place compares A, if it tests whether A is a number
+abbrev pub number_at : List Insn → ℕ → Option ℕ
+number_at c place = number_if_there (slice_get c place)
 
--- the instruction at a place tests whether A is a number
-abbrev pub tests_at : List Insn → ℕ → Bool
-tests_at c place = tests_if_there (slice_get c place)
-
--- this field, if there is one, with the two numbers of which it is known to be one
-abbrev pub two_at_field : Known → Option Field → Option (Field × ℕ × ℕ)
-two_at_field k None = None
-two_at_field k (Some f) = two_of f (two_numbers_of k.facts f)
-
--- the field that A would hold where a walk ended at a test of it, with the two numbers of which it
--- is one
-abbrev pub two_numbers_at : Known → List Insn → Spot → Option (Field × ℕ × ℕ)
-two_numbers_at k c s =
-    if tests_at c s.place then two_at_field k (field_at k.held s.other) else None
-
--- the place that two walks reach, if both reach the same, or else the place `best`
+-- the place that the walks by both outcomes of a test reach, if both reach the same, further on
+-- than the place `best`, or else that one
 abbrev pub agreed : ℕ → ℕ → ℕ → ℕ
-agreed first second best = if first == second then first else best
+agreed first second best = if nat_lt best first && first == second then first else best
 
--- where a run may go on in place of the place `from`: at `best`, or where the walks with either of
--- the two numbers that a field may be agree
-abbrev pub target_by : Option (Field × ℕ × ℕ) → Known → List Insn → ℕ → ℕ → ℕ
-target_by None k c from best = best
-target_by (Some two) k c from best =
-    agreed (walk_from (with_fact k two.0 (Is two.1)) c from).best
-    (walk_from (with_fact k two.0 (Is two.2)) c from).best best
+-- where a run may go on in place of the place `from`: at `best`, or, if the walk ended at a test
+-- whether this field is this number, where the walks by both outcomes agree
+abbrev pub target_by : Option Field → Option ℕ → Known → List Insn → ℕ → ℕ → ℕ
+target_by (Some f) (Some n) k c from best =
+    agreed (walk_from (known_by k f n true) c from).best
+    (walk_from (known_by k f n false) c from).best best
+target_by _ _ k c from best = best
 
 -- the last place where a run may go on in place of the place `from`
 abbrev pub target : Known → List Insn → ℕ → ℕ
 target k c from =
     let end = walk_from k c from in
-    target_by (two_numbers_at k c end.spot) k c from end.best
+    target_by (field_at k.held end.spot.other) (number_at c end.spot.place) k c from end.best
 
 -- how many instructions a test skips once its target is as far on as what is known decides, in
 -- place of `skipped`; as many as before where that is 2^32 or more
@@ -231,61 +214,41 @@ threaded_if h op k i c = threaded_by op k i c
 abbrev pub threaded_insn : Option Operation → Known → Insn → List Insn → Insn
 threaded_insn op k i c = threaded_if k.held op k i c
 
--- an operation ends the run by returning its constant
-abbrev pub ends : Option Operation → Bool
-ends (Some ReturnConstant) = true
-ends _ = false
+-- what is known at each place once runs go on where a test leads; the code after it begins at the
+-- place `from`
+abbrev pub with_ways : ℕ → Option Operation → Known → Insn → List Known → List Known
+with_ways from op k i seen =
+    arrived (arrived seen (from + i.jt) (known_by_test op k.held k i.k true))
+    (from + i.jf) (known_by_test op k.held k i.k false)
 
--- the instruction is there, and ends the run by returning its constant
-abbrev pub ends_if_there : Option Insn → Bool
-ends_if_there None = false
-ends_if_there (Some i) = ends (operation_of i.code)
+-- what is known at each place once runs go on after an instruction with this operation
+abbrev pub with_arrivals_by : ℕ → Option Operation → Known → Insn → List Known → List Known
+with_arrivals_by from (Some (JumpIf test operand)) k i seen =
+    with_ways from (Some (JumpIf test operand)) k i seen
+with_arrivals_by from (Some Jump) k i seen = arrived seen (from + i.k) k
+with_arrivals_by from (Some ReturnConstant) k i seen = seen
+with_arrivals_by from (Some ReturnAccumulator) k i seen = seen
+with_arrivals_by from op k i seen = arrived seen from (known_after op k i)
 
--- a run ends at a place by returning a constant
-abbrev pub ends_at : List Insn → ℕ → Bool
-ends_at c place = ends_if_there (slice_get c place)
+-- what is known at each place once runs go on after an instruction; what A holds says whether a run
+-- comes there, and if none does, nothing is added
+abbrev pub with_arrivals_if : Held → ℕ → Option Operation → Known → Insn → List Known → List Known
+with_arrivals_if held.Unreached from op k i seen = seen
+with_arrivals_if h from op k i seen = with_arrivals_by from op k i seen
 
--- what is noted once a run skips some instructions of the code, which begins at the place `from` of
--- the whole code, and goes on with this known
-abbrev pub came : ℕ → ℕ → Known → List Insn → Arrivals → Arrivals
-came from skipped k c seen =
-    if ends_at c skipped then ended seen from (from + skipped)
-    else arrived seen from (from + skipped) k
-
--- what is noted once runs go on where a test leads; the code after it begins at the place `from`
-abbrev pub with_ways : ℕ → Option Operation → Known → Insn → List Insn → Arrivals → Arrivals
-with_ways from op k i c seen =
-    came from i.jf (known_by_test op k.held k i.k false) c
-    (came from i.jt (known_by_test op k.held k i.k true) c seen)
-
--- what is noted once runs go on after an instruction with this operation
-abbrev pub with_arrivals_by : ℕ → Option Operation → Known → Insn → List Insn → Arrivals → Arrivals
-with_arrivals_by from (Some (JumpIf test operand)) k i c seen =
-    with_ways from (Some (JumpIf test operand)) k i c seen
-with_arrivals_by from (Some Jump) k i c seen = arrived seen from (from + i.k) k
-with_arrivals_by from (Some ReturnConstant) k i c seen = seen
-with_arrivals_by from (Some ReturnAccumulator) k i c seen = seen
-with_arrivals_by from op k i c seen = arrived seen from from (known_after op k i)
-
--- what is noted once runs go on after an instruction; what A holds says whether a run comes there,
--- and if none does, nothing is added
-abbrev pub with_arrivals_if : Held → ℕ → Option Operation → Known → Insn → List Insn → Arrivals → Arrivals
-with_arrivals_if held.Unreached from op k i c seen = seen
-with_arrivals_if h from op k i c seen = with_arrivals_by from op k i c seen
-
--- what is noted once runs go on after an instruction; the next one is at the place `from`
-abbrev pub with_arrivals : ℕ → Option Operation → Known → Insn → List Insn → Arrivals → Arrivals
-with_arrivals from op k i c seen = with_arrivals_if k.held from op k i c seen
+-- what is known at each place once runs go on after an instruction; the next one is at `from`
+abbrev pub with_arrivals : ℕ → Option Operation → Known → Insn → List Known → List Known
+with_arrivals from op k i seen = with_arrivals_if k.held from op k i seen
 
 -- the code from the place `at` on, with the targets of its tests as far as what is known decides;
 -- `seen` is what the code in front of it has noted
-abbrev pub flow : ℕ → Arrivals → List Insn → List Insn
+abbrev pub flow : ℕ → List Known → List Insn → List Insn
 flow at seen [] = []
 flow at seen (i ∷ is) =
     let k = known_at seen at in
     let j = threaded_insn (operation_of i.code) k i is in
-    j ∷ flow (suc at) (with_arrivals (suc at) (operation_of i.code) k j is seen) is
+    j ∷ flow (suc at) (with_arrivals (suc at) (operation_of i.code) k j seen) is
 
 -- a whole program with the targets of its tests as far as what is known decides
 abbrev pub threaded : List Insn → List Insn
-threaded is = flow 0 at_start is
+threaded is = flow 0 (at_start (length is)) is

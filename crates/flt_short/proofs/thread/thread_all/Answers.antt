@@ -1,5 +1,5 @@
 -- Each instruction is done in its turn.
-use Rattle.std.proofs.Common.{◌≡◌, ◌+◌, ◌∙◌, sym, ap, length, drop, arith}
+use Rattle.std.proofs.Common.{◌≡◌, ◌+◌, ◌∙◌, sym, ap, length, arith}
 use Rattle.std.proofs.lemmas.List.{length-set, take_rest}
 use Rattle.flt_short.proofs.Flow.{flow_from, flow_step, flow_all}
 use Rattle.flt_short.proofs.thread.thread_all.Goals as goal
@@ -13,7 +13,7 @@ insns-preserved c =
     record {
       within = omega arith;
       shape = long ∙ i.shape;
-      same = sym (flow_step c.insns.at c.insns.arrivals c.thread_insn-insn.new.arrivals c.insns.insns _ _ c.thread_insn-insn.result _ inside c.index-insns-at.is (take_rest c.insns.insns (c.insns.at + 1)) c.known_at-here.ensures c.thread_insn-insn.ensures.arrivals c.thread_insn-insn.ensures.insn) ∙ i.same;
+      same = sym (flow_step c.insns.at c.insns.seen c.thread_insn-insn.new.seen c.insns.insns _ _ c.thread_insn-insn.result _ inside c.index-insns-at.is (take_rest c.insns.insns (c.insns.at + 1)) c.known_at-here.ensures c.thread_insn-insn.ensures.seen c.thread_insn-insn.ensures.insn) ∙ i.same;
     }
 
 pub returns : goal.returns
@@ -22,4 +22,4 @@ returns c =
     let within = i.within in
     let no = c.insns-test.false in
     let at_end : length c.insns.insns ≡ c.insns.at = omega arith in
-    sym (flow_all c.insns.at c.insns.arrivals c.insns.insns) ∙ ap (λ k. flow_from k c.insns.at c.insns.arrivals c.insns.insns) at_end ∙ i.same
+    sym (flow_all c.insns.at c.insns.seen c.insns.insns) ∙ ap (λ k. flow_from k c.insns.at c.insns.seen c.insns.insns) at_end ∙ i.same

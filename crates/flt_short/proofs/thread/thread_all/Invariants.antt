@@ -8,7 +8,7 @@ abbrev pub invariant-insns : goal.invariant-insns
 invariant-insns l = record {
   shape : length l.insns ≡ length l.initial.insns;
   within : l.at ≤ length l.insns;
-  same : flow_from l.at l.at l.arrivals l.insns ≡ flow 0 l.initial.arrivals l.initial.insns;
+  same : flow_from l.at l.at l.seen l.insns ≡ flow 0 l.initial.seen l.initial.insns;
 }
 
 abbrev pub decreases-insns : goal.decreases-insns
