@@ -1,5 +1,5 @@
 -- Code that is alike has the answers of the old code, and a run of it meets no more instructions.
-use Rattle.std.proofs.Common.{◌≡◌, ℕ, zero, suc, ◌+◌, ◌-◌, ◌%◌, ◌^◌, ◌<◌, ◌≤◌, List, [], ◌∷◌, length, drop, Bool, true, false, Option, Some, None, refl, sym, ap, ◌∙◌, subst, arith}
+use Rattle.std.proofs.Common.{◌≡◌, ◌⊎◌, inl, inr, ℕ, zero, suc, ◌+◌, ◌-◌, ◌%◌, ◌^◌, ◌<◌, ◌≤◌, List, [], ◌∷◌, length, drop, length-drop, Bool, true, false, Option, Some, None, refl, sym, ap, ◌∙◌, subst, arith}
 use Rattle.std.specs.Prelude.{◌≢◌, All, count_by, ◌==◌, nat_lt, nat_le, ◌&&◌, ◌||◌, not, if◌then◌else◌, slice_get, slice_set, bit_and}
 use Rattle.std.specs.Option.{option_map}
 use Rattle.std.proofs.lemmas.Bool.Decides.{nat_tests}
@@ -16,17 +16,17 @@ use Rattle.flt_bpf.specs.declared.operation.AluOperation.TheVariants as arithmet
 use Rattle.flt_bpf.specs.declared.operation.Width.{Width}
 use Rattle.flt_bpf.specs.declared.operation.Width.TheVariants.{Word, HalfWord, Byte}
 use Rattle.flt_bpf.specs.Instructions.{code_of, operation_of}
-use Rattle.flt_bpf.specs.Machine.{Next, Goes, Ends, Lost, step, does, does_if_known, into, word_into, into_word, test_holds, field, compute, header_length, Answered, run_from, progress_after, step_if_there, machine, start}
+use Rattle.flt_bpf.specs.Machine.{Next, Goes, Ends, Lost, step, does, does_if_known, into, word_into, into_word, with_register, operand_value, test_holds, field, compute, header_length, Answered, run_from, progress_after, step_if_there, machine, start}
 use Rattle.flt_short.specs.declared.alike.Landing.{Landing}
 use Rattle.flt_bpf.specs.Check.{IsValidUnlessLong}
 use Rattle.flt_bpf.specs.Layout.{JUMP, is_branch}
 use Rattle.flt_short.specs.Alike.{Shortens}
-use Rattle.flt_bpf.specs.Registers.{reads_accumulator, reads_index}
-use Rattle.flt_short.specs.inside.Alike.{MASK, EQUAL, implies, landing_fits_at, landing_fits, goes_on, same_step, one_test, ANY_BIT, direct_code, is_code, direct_load, is_indirect, adds_header, loads_alike, header_load, code_from, stands_at, stands, are_alike, begins}
+use Rattle.flt_bpf.specs.Registers.{reads_accumulator, reads_index, sets_accumulator, sets_index}
+use Rattle.flt_short.specs.inside.Alike.{MASK, EQUAL, implies, landing_fits_at, landing_fits, goes_on, same_step, one_test, ANY_BIT, direct_code, is_code, direct_load, is_indirect, adds_header, loads_alike, header_load, rejects, is_sure, goes_on_or_rejects, same_target, goes_on_alike, are_copies, lands_at_if, lands_at, left_out, code_from, stands_at, stands, are_alike, begins}
 use Rattle.flt_bpf.specs.Answer.{answer_of, answer_after}
 use Rattle.flt_bpf.proofs.Checking.{parts}
 use Rattle.flt_bpf.proofs.Suffix.{answer_drop, machine_answers, valid_if_short}
-use Rattle.flt_short.proofs.Basics.{both_true}
+use Rattle.flt_short.proofs.Basics.{both_true, either_true}
 use Rattle.flt_short.proofs.Basics.{tail}
 
 -- how many instructions a run meets after an instruction, and from a place on
@@ -60,14 +60,15 @@ drop_at [] k j e = cc
 drop_at (i ∷ c) zero j e = let same : i ≡ j = cc in ap (λ z. z ∷ c) same
 drop_at (i ∷ c) (suc k) j e = drop_at c k j e
 
--- from a place on, code is as good as the old code: it has the same answer in no more instructions
+-- from a place on, code is as good as the old code: where that has an answer, it has the same, and in
+-- no more instructions
 pub record AsGood (d is : List Insn) (p : List ℕ) (n far k : ℕ) (t s : State) : Type 0 where
-  pub same : answer_of d p n far t ≡ answer_of is p n k s
+  pub same : (answer : ℕ) → answer_of is p n k s ≡ Some answer → answer_of d p n far t ≡ Some answer
   pub upper_bound : steps_of d p n far t ≤ steps_of is p n k s
 
 -- the same after an instruction
 record Follows (d is : List Insn) (p : List ℕ) (n : ℕ) (u v : Next) : Type 0 where
-  same : answer_after (answer_of d p n) u ≡ answer_after (answer_of is p n) v
+  same : (answer : ℕ) → answer_after (answer_of is p n) v ≡ Some answer → answer_after (answer_of d p n) u ≡ Some answer
   upper_bound : steps_after (steps_of d p n) u ≤ steps_after (steps_of is p n) v
 
 -- A and X may differ
@@ -156,7 +157,7 @@ module _ (p : List ℕ) (n : ℕ) where
         let upper_bound = good.upper_bound in
         let steps : steps_of following p n far (other s u v) ≡ steps_of (tail c m.place) p n 0 (other s u v) = sym (steps_drop following p n far (other s u v)) ∙ ap (λ z. steps_of z p n 0 (other s u v)) same_code in
         record {
-          same = sym (answer_drop following p n far (other s u v)) ∙ ap (λ z. answer_of z p n 0 (other s u v)) same_code ∙ good.same;
+          same = λ b eb. sym (answer_drop following p n far (other s u v)) ∙ ap (λ z. answer_of z p n 0 (other s u v)) same_code ∙ good.same b eb;
           upper_bound = omega arith;
         }
 
@@ -172,10 +173,10 @@ module _ (p : List ℕ) (n : ℕ) where
       goes u v g = record { same = g.same; upper_bound = g.upper_bound }
 
       ends : (u v : ℕ) → u ≡ v → Follows following is p n (Ends u) (Ends v)
-      ends u v e = record { same = ap Some e; upper_bound = omega arith }
+      ends u v e = record { same = λ b eb. ap Some e ∙ eb; upper_bound = omega arith }
 
       lost : Follows following is p n Lost Lost
-      lost = record { same = refl; upper_bound = omega arith }
+      lost = record { same = λ b eb. eb; upper_bound = omega arith }
 
       to_a : (o : Option ℕ) → landing_fits ls 0 0 l.place true l.index ≡ true → Follows following is p n (into Accumulator o t) (into Accumulator o s)
       to_a None f = ends 0 0 refl
@@ -259,7 +260,7 @@ module _ (p : List ℕ) (n : ℕ) where
       let steps_old = ap (steps_after (steps_of is p n)) old in
       let upper_bound = g.upper_bound in
       record {
-        same = ap (answer_after (answer_of d p n)) new ∙ g.same ∙ sym (ap (answer_after (answer_of is p n)) old);
+        same = λ b eb. ap (answer_after (answer_of d p n)) new ∙ g.same b (sym (ap (answer_after (answer_of is p n)) old) ∙ eb);
         upper_bound = omega arith;
       }
 
@@ -332,7 +333,7 @@ module _ (p : List ℕ) (n : ℕ) where
       let steps_first = ap (steps_after (steps_of (u ∷ is) p n)) first in
       let steps_second = ap (steps_after (steps_of is p n)) second in
       record {
-        same = ap (answer_after (answer_of d p n)) new ∙ g.same ∙ sym (ap (answer_after (answer_of (u ∷ is) p n)) first ∙ ap (answer_after (answer_of is p n)) second);
+        same = λ b eb. ap (answer_after (answer_of d p n)) new ∙ g.same b (sym (ap (answer_after (answer_of (u ∷ is) p n)) first ∙ ap (answer_after (answer_of is p n)) second) ∙ eb);
         upper_bound = omega arith;
       }
     where
@@ -386,12 +387,12 @@ module _ (p : List ℕ) (n : ℕ) where
       let steps_second = ap (steps_after (steps_of (v ∷ is) p n)) second in
       let steps_third = ap (steps_after (steps_of is p n)) third in
       record {
-        same = ap (answer_after (answer_of d p n)) new ∙ g.same ∙ sym (ap (answer_after (answer_of (u ∷ v ∷ is) p n)) first ∙ ap (answer_after (answer_of (v ∷ is) p n)) second ∙ ap (answer_after (answer_of is p n)) third);
+        same = λ b eb. ap (answer_after (answer_of d p n)) new ∙ g.same b (sym (ap (answer_after (answer_of (u ∷ v ∷ is) p n)) first ∙ ap (answer_after (answer_of (v ∷ is) p n)) second ∙ ap (answer_after (answer_of is p n)) third) ∙ eb);
         upper_bound = omega arith;
       }
     where
       loads : (c is : List Insn) (ls : List Landing) (l : Landing) (u v : Insn) (all : AllLand c (u ∷ v ∷ is) ls) (low : l.place ≤ length c) (s : State) (a x : ℕ) → landing_fits ls 2 0 l.place true false ≡ true → (o : Option ℕ) → Follows (tail c (l.place - 1)) is p n (into Accumulator o (other s a x)) (into Accumulator o s)
-      loads c is ls l u v all low s a x f None = record { same = refl; upper_bound = omega arith }
+      loads c is ls l u v all low s a x f None = record { same = λ b eb. eb; upper_bound = omega arith }
       loads c is ls l u v all low s a x f (Some y) =
           let w = fit c (u ∷ v ∷ is) ls l all low 2 0 true false f (record s { accumulator = y }) y x (λ q. refl) (λ q. cc) in
           record { same = w.same; upper_bound = w.upper_bound }
@@ -413,7 +414,7 @@ module _ (p : List ℕ) (n : ℕ) where
     beyond = tail c (l.place - 1 - 1)
 
     loaded : (s : State) (a x : ℕ) (o : Option ℕ) → Follows beyond is p n (into Accumulator o (other s a x)) (into Accumulator o s)
-    loaded s a x None = record { same = refl; upper_bound = omega arith }
+    loaded s a x None = record { same = λ b eb. eb; upper_bound = omega arith }
     loaded s a x (Some y) =
         let r = fit c (t ∷ u ∷ v ∷ w ∷ is) ls (record l { place = l.place - 1 }) all (omega arith) 4 0 true false fitting (record s { accumulator = y }) y x (λ q. refl) (λ q. cc) in
         record { same = r.same; upper_bound = r.upper_bound }
@@ -436,12 +437,12 @@ module _ (p : List ℕ) (n : ℕ) where
         let steps_second = ap (steps_after (steps_of (w ∷ is) p n)) second in
         let steps_third = ap (steps_after (steps_of is p n)) third in
         record {
-          same = ap (answer_after (answer_of beyond p n)) new ∙ g.same ∙ sym (ap (answer_after (answer_of (v ∷ w ∷ is) p n)) first ∙ ap (answer_after (answer_of (w ∷ is) p n)) second ∙ ap (answer_after (answer_of is p n)) third);
+          same = λ b eb. ap (answer_after (answer_of beyond p n)) new ∙ g.same b (sym (ap (answer_after (answer_of (v ∷ w ∷ is) p n)) first ∙ ap (answer_after (answer_of (w ∷ is) p n)) second ∙ ap (answer_after (answer_of is p n)) third) ∙ eb);
           upper_bound = omega arith;
         }
 
     measures : (s : State) (a x : ℕ) (o : Option ℕ) → s.accumulator ≡ i.k → Follows (j ∷ beyond) (u ∷ v ∷ w ∷ is) p n (into Index o (other s a x)) (into Index o s)
-    measures s a x None number = record { same = refl; upper_bound = omega arith }
+    measures s a x None number = record { same = λ b eb. eb; upper_bound = omega arith }
     measures s a x (Some h) number = let r = measured s a h number in record { same = r.same; upper_bound = r.upper_bound }
 
   header_good : (c is : List Insn) (ls : List Landing) (l : Landing) (t u v w : Insn) (all : AllLand c (t ∷ u ∷ v ∷ w ∷ is) ls) (low : l.place ≤ length c) (h j i : Insn) (js : List Insn) → j ∷ js ≡ tail c (l.place - 1) → header_load (h ∷ j ∷ js) l i (t ∷ u ∷ v ∷ w ∷ is) ls ≡ true → (s : State) (a x : ℕ) → AsGood (h ∷ tail c (l.place - 1)) (i ∷ t ∷ u ∷ v ∷ w ∷ is) p n 0 0 (other s a x) s
@@ -487,10 +488,264 @@ module _ (p : List ℕ) (n : ℕ) where
       let steps_first = ap (steps_after (steps_of (t ∷ u ∷ v ∷ w ∷ is) p n)) first in
       let steps_second = ap (steps_after (steps_of (u ∷ v ∷ w ∷ is) p n)) second in
       let good : AsGood (h ∷ d) (i ∷ t ∷ u ∷ v ∷ w ∷ is) p n 0 0 (other s a x) s = record {
-        same = ap (answer_after (answer_of d p n)) new ∙ g.same ∙ sym (ap (answer_after (answer_of (t ∷ u ∷ v ∷ w ∷ is) p n)) first ∙ ap (answer_after (answer_of (u ∷ v ∷ w ∷ is) p n)) second);
+        same = λ b eb. ap (answer_after (answer_of d p n)) new ∙ g.same b (sym (ap (answer_after (answer_of (t ∷ u ∷ v ∷ w ∷ is) p n)) first ∙ ap (answer_after (answer_of (u ∷ v ∷ w ∷ is) p n)) second) ∙ eb);
         upper_bound = omega arith;
       } in
       subst (λ z. AsGood (h ∷ z) (i ∷ t ∷ u ∷ v ∷ w ∷ is) p n 0 0 (other s a x) s) rest good
+
+  -- an instruction that is left out
+  return_is : operation_of 6 ≡ Some ReturnConstant
+  unfolding operation_of
+  return_is = refl
+
+  rejected : (j : Insn) (js : List Insn) (s : State) → rejects j ≡ true → (answer_of (j ∷ js) p n 0 s ≡ Some 0) × (steps_of (j ∷ js) p n 0 s ≡ 1)
+  rejected j js s e =
+      let q = both_true (j.code == 6) (j.k == 0) e in
+      let q0 = q.0 in
+      let q1 = q.1 in
+      let code : j.code ≡ 6 = grind (arith, nat_tests) in
+      let k : j.k ≡ 0 = grind (arith, nat_tests) in
+      let does = knows_step j (Some ReturnConstant) s (ap operation_of code ∙ return_is) in
+      (ap (answer_after (answer_of js p n)) does ∙ ap Some k, ap (λ o. suc (steps_after (steps_of js p n) o)) does)
+
+  -- what an operation does that can't fail: A and X are others, if it sets them
+  record Sets (op : Operation) (o : Next) (s : State) : Type 0 where
+    a : ℕ
+    x : ℕ
+    goes : o ≡ Goes 0 (other s a x)
+    keeps_a : not (sets_accumulator op) ≡ true → a ≡ s.accumulator
+    keeps_x : not (sets_index op) ≡ true → x ≡ s.index
+
+  sets_a : (op : Operation) (o : Next) (s : State) (v : ℕ) → o ≡ Goes 0 (other s v s.index) → sets_accumulator op ≡ true → Sets op o s
+  sets_a op o s v e t = record { a = v; x = s.index; goes = e; keeps_a = λ h. cc; keeps_x = λ h. refl }
+
+  sets_x : (op : Operation) (o : Next) (s : State) (v : ℕ) → o ≡ Goes 0 (other s s.accumulator v) → sets_index op ≡ true → Sets op o s
+  sets_x op o s v e t = record { a = s.accumulator; x = v; goes = e; keeps_a = λ h. refl; keeps_x = λ h. cc }
+
+  sure_sets : (op : Operation) (i : Insn) (s : State) → is_sure op ≡ true → Sets op (does op i p n s) s
+  sure_sets (Load Accumulator Immediate) i s e = sets_a _ _ s i.k refl refl
+  sure_sets (Load Accumulator Length) i s e = sets_a _ _ s n refl refl
+  sure_sets (Load Index Immediate) i s e = sets_x _ _ s i.k refl refl
+  sure_sets (Load Index Length) i s e = sets_x _ _ s n refl refl
+  sure_sets (Compute arithmetic.Add o) i s e = sets_a _ _ s _ refl refl
+  sure_sets (Compute arithmetic.Subtract o) i s e = sets_a _ _ s _ refl refl
+  sure_sets (Compute arithmetic.Multiply o) i s e = sets_a _ _ s _ refl refl
+  sure_sets (Compute arithmetic.Or o) i s e = sets_a _ _ s _ refl refl
+  sure_sets (Compute arithmetic.And o) i s e = sets_a _ _ s _ refl refl
+  sure_sets (Compute arithmetic.ShiftLeft o) i s e = sets_a _ _ s _ refl refl
+  sure_sets (Compute arithmetic.ShiftRight o) i s e = sets_a _ _ s _ refl refl
+  sure_sets (Compute arithmetic.ExclusiveOr o) i s e = sets_a _ _ s _ refl refl
+  sure_sets Negate i s e = sets_a _ _ s _ refl refl
+  sure_sets CopyToIndex i s e = sets_x _ _ s _ refl refl
+  sure_sets CopyToAccumulator i s e = sets_a _ _ s _ refl refl
+  sure_sets _ i s e = cc
+
+  -- the run goes on, or ends with 0, or the machine is lost
+  abbrev GoesOn : Next → Type 0
+  GoesOn o = (o ≡ Ends 0) ⊎ ((o ≡ Lost) ⊎ ((t : State) × (o ≡ Goes 0 t)))
+
+  into_goes : (r : _) (o : Option ℕ) (s : State) → GoesOn (into r o s)
+  into_goes r None s = inl refl
+  into_goes r (Some v) s = inr (inr (with_register r v s, refl))
+
+  word_goes : (r : _) (o : Option ℕ) (s : State) → GoesOn (word_into r o s)
+  word_goes r None s = inr (inl refl)
+  word_goes r (Some v) s = into_goes r (Some v) s
+
+  stored_goes : (b : Bool) (t : State) → GoesOn (if b then Goes 0 t else Lost)
+  stored_goes true t = inr (inr (t, refl))
+  stored_goes false t = inr (inl refl)
+
+  goes_or_ends : (op : Operation) (i : Insn) (s : State) → goes_on_or_rejects op ≡ true → GoesOn (does op i p n s)
+  goes_or_ends (LoadAbsolute w) i s e = into_goes Accumulator _ s
+  goes_or_ends (LoadIndirect w) i s e = into_goes Accumulator _ s
+  goes_or_ends (Load r Immediate) i s e = into_goes r (Some i.k) s
+  goes_or_ends (Load r Length) i s e = into_goes r (Some n) s
+  goes_or_ends (Load r Memory) i s e = word_goes r _ s
+  goes_or_ends LoadHeaderLength i s e = into_goes Index _ s
+  goes_or_ends (Store r) i s e = stored_goes _ _
+  goes_or_ends (Compute o d) i s e = into_goes Accumulator _ s
+  goes_or_ends Negate i s e = into_goes Accumulator (Some _) s
+  goes_or_ends CopyToIndex i s e = into_goes Index (Some _) s
+  goes_or_ends CopyToAccumulator i s e = into_goes Accumulator (Some _) s
+  goes_or_ends _ i s e = cc
+
+  -- copies do the same
+  same_tails : (c : List Insn) (x y : ℕ) → length (drop x c) ≡ length (drop y c) → drop x c ≡ drop y c
+  same_tails [] x y e = drop_none x ∙ sym (drop_none y)
+  same_tails (i ∷ c) zero zero e = refl
+  same_tails (i ∷ c) zero (suc y) e = absurd (omega (arith, length-drop y c))
+  same_tails (i ∷ c) (suc x) zero e = absurd (omega (arith, length-drop x c))
+  same_tails (i ∷ c) (suc x) (suc y) e = same_tails c x y e
+
+  module _ (is js : List Insn) (s : State) where
+    led : (far near : ℕ) → drop far is ≡ drop near js → Follows js is p n (Goes near s) (Goes far s)
+    led far near e =
+        let old = sym (steps_drop is p n far s) ∙ ap (λ z. steps_of z p n 0 s) e ∙ steps_drop js p n near s in
+        record {
+          same = λ b eb. sym (sym (answer_drop is p n far s) ∙ ap (λ z. answer_of z p n 0 s) e ∙ answer_drop js p n near s) ∙ eb;
+          upper_bound = omega arith;
+        }
+
+    ways_follow : (b : Bool) (hit miss near next : ℕ) → drop hit is ≡ drop near js → drop miss is ≡ drop next js → Follows js is p n (Goes (if b then near else next) s) (Goes (if b then hit else miss) s)
+    ways_follow true hit miss near next e f = led hit near e
+    ways_follow false hit miss near next e f = led miss next f
+
+  module _ (is js : List Insn) (rest : (t : State) → AsGood js is p n 0 0 t t) (s : State) where
+    into_follows : (r : _) (o : Option ℕ) → Follows js is p n (into r o s) (into r o s)
+    into_follows r None = record { same = λ b eb. eb; upper_bound = omega arith }
+    into_follows r (Some v) = let g = rest (with_register r v s) in record { same = g.same; upper_bound = g.upper_bound }
+
+    word_follows : (r : _) (o : Option ℕ) → Follows js is p n (word_into r o s) (word_into r o s)
+    word_follows r None = record { same = λ b eb. eb; upper_bound = omega arith }
+    word_follows r (Some v) = into_follows r (Some v)
+
+    stored_follows : (b : Bool) (t : State) → Follows js is p n (if b then Goes 0 t else Lost) (if b then Goes 0 t else Lost)
+    stored_follows true t = let g = rest t in record { same = g.same; upper_bound = g.upper_bound }
+    stored_follows false t = record { same = λ b eb. eb; upper_bound = omega arith }
+
+  copies_good : (c one two : List Insn) (x y : ℕ) → one ≡ drop x c → two ≡ drop y c → are_copies one two ≡ true → (s : State) → AsGood two one p n 0 0 s s
+  copies_good c [] two x y d e f s = cc
+  copies_good c (i ∷ is) [] x y d e f s = cc
+  copies_good c (i ∷ is) (j ∷ js) x y d e f s =
+      let q = both_true (i.code == j.code && i.k == j.k) (goes_on_alike (operation_of i.code) i (length is) j (length js) (are_copies is js)) f in
+      let r = both_true (i.code == j.code) (i.k == j.k) q.0 in
+      let r0 = r.0 in
+      let r1 = r.1 in
+      let code : i.code ≡ j.code = grind (arith, nat_tests) in
+      let k : i.k ≡ j.k = grind (arith, nat_tests) in
+      let is_at = sym (drop_after c x i is (sym d)) in
+      let js_at = sym (drop_after c y j js (sym e)) in
+      let op = operation_of i.code in
+      let targets : (far near : ℕ) → same_target far (length is) near (length js) ≡ true → drop far is ≡ drop near js = λ far near t.
+      (let t1 = t in
+      let same : length is - far ≡ length js - near = grind (arith, nat_tests) in
+      let one_is : drop far is ≡ drop (suc x + far) c = ap (drop far) is_at ∙ drop_drop far (suc x) c in
+      let two_is : drop near js ≡ drop (suc y + near) c = ap (drop near) js_at ∙ drop_drop near (suc y) c in
+      one_is ∙ same_tails c (suc x + far) (suc y + near) (ap length (sym one_is) ∙ length-drop far is ∙ same ∙ sym (length-drop near js) ∙ ap length two_is) ∙ sym two_is) in
+      let g = subst (λ m. Follows js is p n (does_if_known op (record j { k = m }) p n s) (does_if_known op i p n s)) k
+      (alike op (λ h t. copies_good c is js (suc x) (suc y) is_at js_at h t) targets q.1) in
+      let new = knows_step j op s (ap operation_of (sym code)) in
+      let old = knows_step i op s refl in
+      let steps_new = ap (steps_after (steps_of js p n)) new in
+      let steps_old = ap (steps_after (steps_of is p n)) old in
+      let upper_bound = g.upper_bound in
+      record {
+        same = λ b eb. ap (answer_after (answer_of js p n)) new ∙ g.same b (sym (ap (answer_after (answer_of is p n)) old) ∙ eb);
+        upper_bound = omega arith;
+      }
+    where
+      alike : (op : Option Operation) → (are_copies is js ≡ true → (t : State) → AsGood js is p n 0 0 t t) → ((far near : ℕ) → same_target far (length is) near (length js) ≡ true → drop far is ≡ drop near js) → goes_on_alike op i (length is) j (length js) (are_copies is js) ≡ true → Follows js is p n (does_if_known op (record j { k = i.k }) p n s) (does_if_known op i p n s)
+      alike None rest to h = cc
+      alike (Some Jump) rest to h = cc
+      alike (Some ReturnConstant) rest to h = record { same = λ b eb. eb; upper_bound = omega arith }
+      alike (Some ReturnAccumulator) rest to h = record { same = λ b eb. eb; upper_bound = omega arith }
+      alike (Some (JumpIf t o)) rest to h =
+          let q = both_true (same_target i.jt (length is) j.jt (length js)) (same_target i.jf (length is) j.jf (length js)) h in
+          ways_follow is js s (test_holds t s.accumulator (operand_value o i.k s.index)) i.jt i.jf j.jt j.jf (to i.jt j.jt q.0) (to i.jf j.jf q.1)
+      alike (Some (LoadAbsolute w)) rest to h = into_follows is js (rest h) s Accumulator _
+      alike (Some (LoadIndirect w)) rest to h = into_follows is js (rest h) s Accumulator _
+      alike (Some (Load r Immediate)) rest to h = into_follows is js (rest h) s r (Some i.k)
+      alike (Some (Load r Length)) rest to h = into_follows is js (rest h) s r (Some n)
+      alike (Some (Load r Memory)) rest to h = word_follows is js (rest h) s r _
+      alike (Some LoadHeaderLength) rest to h = into_follows is js (rest h) s Index _
+      alike (Some (Store r)) rest to h = stored_follows is js (rest h) s _ _
+      alike (Some (Compute o d)) rest to h = into_follows is js (rest h) s Accumulator _
+      alike (Some Negate) rest to h = into_follows is js (rest h) s Accumulator (Some _)
+      alike (Some CopyToIndex) rest to h = into_follows is js (rest h) s Index (Some _)
+      alike (Some CopyToAccumulator) rest to h = into_follows is js (rest h) s Accumulator (Some _)
+
+  copied : (b b' : Bool) (d e : List Insn) → are_copies (if b then d else []) (if b' then e else []) ≡ true → are_copies d e ≡ true
+  copied true true d e h = h
+  copied false b' d e h = cc
+  copied true false [] e h = cc
+  copied true false (i ∷ d) e h = cc
+
+  module _ (c is : List Insn) (ls : List Landing) (l : Landing) (all : AllLand c is ls) (i : Insn) (s : State) (a x : ℕ) (ha : Same l.accumulator a s.accumulator) (hx : Same l.index x s.index) where
+    abbrev Left : Type 0
+    Left = AsGood (tail c l.place) (i ∷ is) p n 0 0 (other s a x) s
+
+    landed : (k : ℕ) (a x : Bool) → lands_at c ls k l.place a x ≡ true → (s : State) (u v : ℕ) → Same a u s.accumulator → Same x v s.index → AsGood (tail c l.place) is p n 0 k (other s u v) s
+    landed k a x f s u v h g = by (slice_get ls k) refl f
+      where
+        by : (o : Option Landing) → slice_get ls k ≡ o → lands_at_if c o l.place a x ≡ true → AsGood (tail c l.place) is p n 0 k (other s u v) s
+        by None e f = cc
+        by (Some m) e f =
+            let q = both_true (nat_lt 0 m.place && (m.place == l.place || are_copies (code_from c m.place) (code_from c l.place))) (implies m.accumulator a && implies m.index x) f in
+            let r = both_true (implies m.accumulator a) (implies m.index x) q.1 in
+            let t = both_true (nat_lt 0 m.place) (m.place == l.place || are_copies (code_from c m.place) (code_from c l.place)) q.0 in
+            let t0 = t.0 in
+            let there : 0 < m.place = grind (arith, nat_tests) in
+            let good = all k m e there s u v (implied_same m.accumulator a u s.accumulator r.0 h) (implied_same m.index x v s.index r.1 g) in
+            elim (either_true (m.place == l.place) (are_copies (code_from c m.place) (code_from c l.place)) t.1) [
+              | inl z ↦ let same : m.place ≡ l.place = grind (arith, nat_tests) in subst (λ z. AsGood (tail c z) is p n 0 k (other s u v) s) same good
+              | inr z ↦
+                  let copy = copies_good c (tail c m.place) (tail c l.place) (length c - m.place) (length c - l.place) refl refl (copied (nat_le m.place (length c)) (nat_le l.place (length c)) (tail c m.place) (tail c l.place) z) (other s u v) in
+                  let far = copy.upper_bound in
+                  let near = good.upper_bound in
+                  record { same = λ b eb. copy.same b (good.same b eb); upper_bound = omega arith }
+            ]
+
+    -- the old run goes on, and is as good
+    before : (k : ℕ) (t : State) → step i p n s ≡ Goes k t → AsGood (tail c l.place) is p n 0 k (other s a x) t → Left
+    before k t e g =
+        let upper_bound = g.upper_bound in
+        let steps = ap (steps_after (steps_of is p n)) e in
+        record { same = λ b eb. g.same b (sym (ap (answer_after (answer_of is p n)) e) ∙ eb); upper_bound = omega arith }
+
+    kept : (b c : Bool) (u v w : ℕ) → Same b u v → (c ≡ true → w ≡ v) → Same (b && c) u w
+    kept true c u v w h g = λ e. h refl ∙ sym (g e)
+    kept false c u v w h g = λ e. cc
+
+    sure_left : (op : Operation) → operation_of i.code ≡ Some op → is_sure op ≡ true → lands_at c ls 0 l.place (l.accumulator && not (sets_accumulator op)) (l.index && not (sets_index op)) ≡ true → Left
+    sure_left op o e f =
+        let g = sure_sets op i s e in
+        before 0 (other s g.a g.x) (knows_step i (Some op) s o ∙ g.goes)
+        (landed 0 (l.accumulator && not (sets_accumulator op)) (l.index && not (sets_index op)) f (other s g.a g.x) a x (kept l.accumulator (not (sets_accumulator op)) a s.accumulator g.a ha g.keeps_a) (kept l.index (not (sets_index op)) x s.index g.x hx g.keeps_x))
+
+    rejected_left : (op : Operation) (j : Insn) (js : List Insn) → tail c l.place ≡ j ∷ js → operation_of i.code ≡ Some op → rejects j ≡ true → goes_on_or_rejects op ≡ true → lands_at c ls 0 l.place (l.accumulator && not (sets_accumulator op)) (l.index && not (sets_index op)) ≡ true → Left
+    rejected_left op j js d o r e f = elim (goes_or_ends op i s e) [ inl g ↦ ends g | inr (inl g) ↦ lost g | inr (inr g) ↦ goes g.0 g.1 ]
+      where
+        there : (t : State) → (answer_of (tail c l.place) p n 0 t ≡ Some 0) × (steps_of (tail c l.place) p n 0 t ≡ 1)
+        there t = subst (λ z. (answer_of z p n 0 t ≡ Some 0) × (steps_of z p n 0 t ≡ 1)) (sym d) (rejected j js t r)
+
+        ends : does op i p n s ≡ Ends 0 → Left
+        ends g =
+            let new = there (other s a x) in
+            let steps = new.1 in
+            record { same = λ b eb. new.0 ∙ sym (ap (answer_after (answer_of is p n)) (knows_step i (Some op) s o ∙ g)) ∙ eb; upper_bound = omega arith }
+
+        lost : does op i p n s ≡ Lost → Left
+        lost g =
+            let new = there (other s a x) in
+            let steps = new.1 in
+            let none = sym (ap (answer_after (answer_of is p n)) (knows_step i (Some op) s o ∙ g)) in
+            record { same = λ b eb. absurd (let q : None ≡ Some b = none ∙ eb in cc); upper_bound = omega arith }
+
+        goes : (t : State) → does op i p n s ≡ Goes 0 t → Left
+        goes t g =
+            let new = there (other s a x) in
+            let again = there t in
+            let steps = new.1 in
+            let old = landed 0 _ _ f t t.accumulator t.index (λ z. refl) (λ z. refl) in
+            record { same = λ b eb. new.0 ∙ sym again.0 ∙ old.same b (sym (ap (answer_after (answer_of is p n)) (knows_step i (Some op) s o ∙ g)) ∙ eb); upper_bound = omega arith }
+
+    left_good : (op : Option Operation) (j : Insn) (js : List Insn) → tail c l.place ≡ j ∷ js → operation_of i.code ≡ op → left_out c op j l i ls ≡ true → Left
+    unfolding left_out
+    left_good None j js d o f = cc
+    left_good (Some (JumpIf t v)) j js d o f =
+        let q = both_true (lands_at c ls i.jt l.place l.accumulator l.index) (lands_at c ls i.jf l.place l.accumulator l.index) f in
+        before _ s (knows_step i (Some (JumpIf t v)) s o) (way (test_holds t s.accumulator (operand_value v i.k s.index)) q.0 q.1)
+      where
+        way : (b : Bool) → lands_at c ls i.jt l.place l.accumulator l.index ≡ true → lands_at c ls i.jf l.place l.accumulator l.index ≡ true → AsGood (tail c l.place) is p n 0 (if b then i.jt else i.jf) (other s a x) s
+        way true f g = landed i.jt l.accumulator l.index f s a x ha hx
+        way false f g = landed i.jf l.accumulator l.index g s a x ha hx
+    left_good (Some op) j js d o f =
+        let q = both_true (is_sure op || (rejects j && goes_on_or_rejects op)) (lands_at c ls 0 l.place (l.accumulator && not (sets_accumulator op)) (l.index && not (sets_index op))) f in
+        elim (either_true (is_sure op) (rejects j && goes_on_or_rejects op) q.0) [
+          | inl e ↦ sure_left op o e q.1
+          | inr e ↦ let r = both_true (rejects j) (goes_on_or_rejects op) e in rejected_left op j js d o r.0 r.1 q.1
+        ]
 
   or_right : (a b : Bool) → a ≡ false → (a || b) ≡ true → b ≡ true
   or_right true b e f = cc
@@ -504,13 +759,15 @@ module _ (p : List ℕ) (n : ℕ) where
   abbrev Good : List Insn → Landing → Insn → Insn → State → ℕ → ℕ → List Insn → Type 0
   Good c l j i s a x is = AsGood (j ∷ tail c (l.place - 1)) (i ∷ is) p n 0 0 (other s a x) s
 
-  -- by one of four ways
-  one_of : (c is : List Insn) (ls : List Landing) (l : Landing) (all : AllLand c is ls) (low : l.place ≤ length c) (j i : Insn) (js : List Insn) → js ≡ tail c (l.place - 1) → ((same_step (operation_of i.code) j l i ls || one_test j l i is ls) || (direct_load j l i is ls || header_load (j ∷ js) l i is ls)) ≡ true → (s : State) (a x : ℕ) → Same l.accumulator a s.accumulator → Same l.index x s.index → AsGood (j ∷ tail c (l.place - 1)) (i ∷ is) p n 0 0 (other s a x) s
+  -- by one of five ways
+  one_of : (c is : List Insn) (ls : List Landing) (l : Landing) (all : AllLand c is ls) (low : l.place ≤ length c) (j i : Insn) (js : List Insn) → tail c l.place ≡ j ∷ js → js ≡ tail c (l.place - 1) → ((same_step (operation_of i.code) j l i ls || one_test j l i is ls) || ((direct_load j l i is ls || header_load (j ∷ js) l i is ls) || left_out c (operation_of i.code) j l i ls)) ≡ true → (s : State) (a x : ℕ) → Same l.accumulator a s.accumulator → Same l.index x s.index → AsGood (j ∷ tail c (l.place - 1)) (i ∷ is) p n 0 0 (other s a x) s
   unfolding one_test direct_load header_load
-  one_of c is ls l all low j i js next f s a x ha hx =
-      or_either (Good c l j i s a x is) (same_step (operation_of i.code) j l i ls || one_test j l i is ls) (direct_load j l i is ls || header_load (j ∷ js) l i is ls) f
+  one_of c is ls l all low j i js first next f s a x ha hx =
+      or_either (Good c l j i s a x is) (same_step (operation_of i.code) j l i ls || one_test j l i is ls) ((direct_load j l i is ls || header_load (j ∷ js) l i is ls) || left_out c (operation_of i.code) j l i ls) f
       (λ e. or_either (Good c l j i s a x is) (same_step (operation_of i.code) j l i ls) (one_test j l i is ls) e (λ g. same_good c is ls l all low j i (operation_of i.code) refl g s a x ha hx) (test_of is all))
-      (λ e. or_either (Good c l j i s a x is) (direct_load j l i is ls) (header_load (j ∷ js) l i is ls) e (direct is all) (header js is next all))
+      (λ e. or_either (Good c l j i s a x is) (direct_load j l i is ls || header_load (j ∷ js) l i is ls) (left_out c (operation_of i.code) j l i ls) e
+      (λ f. or_either (Good c l j i s a x is) (direct_load j l i is ls) (header_load (j ∷ js) l i is ls) f (direct is all) (header js is next all))
+      (λ f. subst (λ d. AsGood d (i ∷ is) p n 0 0 (other s a x) s) (first ∙ ap (λ z. j ∷ z) next) (left_good c is ls l all i s a x ha hx (operation_of i.code) j js first refl f)))
     where
       test_of : (is : List Insn) → AllLand c is ls → one_test j l i is ls ≡ true → Good c l j i s a x is
       test_of [] all g = cc
@@ -529,11 +786,11 @@ module _ (p : List ℕ) (n : ℕ) where
       header (m ∷ js) (t ∷ u ∷ v ∷ []) next all g = cc
       header (m ∷ js) (t ∷ u ∷ v ∷ w ∷ is) next all g = header_good c is ls l t u v w all low j m i js next g s a x
 
-  here : (c is : List Insn) (ls : List Landing) (l : Landing) (i : Insn) → AllLand c is ls → 0 < l.place → (d : List Insn) → code_from c l.place ≡ d → stands_at d l i is ls ≡ true → Lands c (i ∷ is) l 0
+  here : (c is : List Insn) (ls : List Landing) (l : Landing) (i : Insn) → AllLand c is ls → 0 < l.place → (d : List Insn) → code_from c l.place ≡ d → stands_at c d l i is ls ≡ true → Lands c (i ∷ is) l 0
   here c is ls l i all some [] e f s a x ha hx = cc
   here c is ls l i all some (j ∷ js) e f s a x ha hx =
       let st = stood c l.place j js some e in
-      subst (λ d. AsGood d (i ∷ is) p n 0 0 (other s a x) s) (sym (st.first ∙ ap (λ z. j ∷ z) st.next)) (one_of c is ls l all st.low j i js st.next f s a x ha hx)
+      subst (λ d. AsGood d (i ∷ is) p n 0 0 (other s a x) s) (sym (st.first ∙ ap (λ z. j ∷ z) st.next)) (one_of c is ls l all st.low j i js st.first st.next f s a x ha hx)
 
   -- at each landing
   pub all_land : (c is : List Insn) (ls : List Landing) → length ls ≡ length is → are_alike c is ls ≡ true → AllLand c is ls
@@ -548,7 +805,7 @@ module _ (p : List ℕ) (n : ℕ) where
       let is_l : m ≡ l = cc in
       let here_q : stands c l i is ls ≡ true = subst (λ z. stands c z i is ls ≡ true) is_l q.0 in
       let none : (l.place == 0) ≡ false = grind (arith, nat_tests) in
-      here c is ls l i (all_land c is ls (omega arith) q.1) some (code_from c l.place) refl (or_right (l.place == 0) (stands_at (code_from c l.place) l i is ls) none here_q)
+      here c is ls l i (all_land c is ls (omega arith) q.1) some (code_from c l.place) refl (or_right (l.place == 0) (stands_at c (code_from c l.place) l i is ls) none here_q)
 
   -- a run's answer and count are those of the code
   pub record Met (prog : List Insn) (s : State) (place count a m : ℕ) : Type 0 where
@@ -610,7 +867,7 @@ module _ (p : List ℕ) (n : ℕ) where
       let none : length new - l.place ≡ 0 = omega arith in
       let whole : tail new l.place ≡ new = ap (λ k. drop k new) none in
       let was = met_of old (length old) 0 0 start answer count m in
-      let a = ap (λ c. answer_of c p n 0 start) (sym whole) ∙ good.same ∙ was.answer in
+      let a = ap (λ c. answer_of c p n 0 start) (sym whole) ∙ good.same answer was.answer in
       let c = machine_answers new p n answer a in
       let now = met_of new (length new) 0 0 start answer c.met c.answered in
       let steps_new = ap (λ z. steps_of z p n 0 start) whole in

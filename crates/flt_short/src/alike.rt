@@ -13,6 +13,8 @@ ghost use Rattle.flt_short.specs.inside.Alike.{goes_on};
 ghost use Rattle.flt_short.specs.inside.Alike.{same_step, one_test, direct_code, is_code};
 ghost use Rattle.flt_short.specs.inside.Alike.{direct_load};
 ghost use Rattle.flt_short.specs.inside.Alike.{is_indirect, adds_header, loads_alike, header_load};
+ghost use Rattle.flt_short.specs.inside.Alike.{rejects, is_sure, goes_on_or_rejects};
+ghost use Rattle.flt_short.specs.inside.Alike.{code_from, are_copies, lands_at, left_out};
 ghost use Rattle.flt_short.specs.inside.Alike.{stands, are_alike, begins, MASK, EQUAL, ANY_BIT};
 ghost use Rattle.flt_bpf.specs.Layout.{JUMP};
 
@@ -280,26 +282,154 @@ fn is_header_load(
     }
 }
 
+/// Whether an instruction returns 0.
+pub fn is_rejection(insn: Wide) -> bool
+    ensures { result ≡ rejects insn }
+{
+    insn.code == Operation::ReturnConstant.code() && insn.k == 0
+}
+
+/// Whether after an operation the run goes on at the next instruction whatever the packet is, and
+/// no word of memory is another one.
+pub fn is_sure(operation: Operation) -> bool
+    ensures { result ≡ is_sure operation }
+{
+    match operation {
+        Operation::Load(_, Source::Immediate | Source::Length)
+        | Operation::Negate
+        | Operation::CopyToIndex
+        | Operation::CopyToAccumulator => true,
+        Operation::Compute(operator, _) => {
+            !matches!(operator, AluOperation::Divide | AluOperation::Remainder)
+        }
+        _ => false,
+    }
+}
+
+/// Whether after an operation the run goes on at the next instruction, if it doesn't end with 0.
+pub fn goes_on_or_rejects(operation: Operation) -> bool
+    ensures { result ≡ goes_on_or_rejects operation }
+{
+    !matches!(
+        operation,
+        Operation::Jump
+            | Operation::JumpIf(_, _)
+            | Operation::ReturnConstant
+            | Operation::ReturnAccumulator
+    )
+}
+
+/// The code from a place on; none if it has fewer instructions.
+fn code_from(code: &[Wide], place: usize) -> &[Wide]
+    ensures { result.now ≡ code_from code.now place }
+{
+    if place <= code.len() {
+        &code[code.len() - place..]
+    } else {
+        &[]
+    }
+}
+
+/// Whether two ends of the same code begin with the same instructions, up to a return, or to a test
+/// with the same targets. It calls itself for each: few stand between a test and the next one.
+fn are_copies(one: &[Wide], other: &[Wide]) -> bool
+    ensures { result ≡ are_copies one.now other.now }
+{
+    let [first, rest @ ..] = one else {
+        return false;
+    };
+    let [second, others @ ..] = other else {
+        return false;
+    };
+    if first.code != second.code || first.k != second.k {
+        return false;
+    }
+    match decode(first.code) {
+        None | Some(Operation::Jump) => false,
+        Some(Operation::ReturnConstant | Operation::ReturnAccumulator) => true,
+        Some(Operation::JumpIf(_, _)) => {
+            let (len, other_len) = (rest.len(), others.len());
+            len.saturating_sub(first.yes as usize) == other_len.saturating_sub(second.yes as usize)
+                && len.saturating_sub(first.no as usize)
+                    == other_len.saturating_sub(second.no as usize)
+        }
+        Some(_) => are_copies(rest, others),
+    }
+}
+
+/// Whether the landing of a way is at a place, or at a copy of the code there, and what is read from
+/// there on is the same in both programs. `accumulator` and `index` are whether A and X are the
+/// same.
+fn lands_at(
+    code: &[Wide],
+    following: &[Landing],
+    way: usize,
+    place: usize,
+    accumulator: bool,
+    index: bool,
+) -> bool
+    ensures { result ≡ lands_at code.now following.now way place accumulator index }
+{
+    match following.get(way) {
+        None => false,
+        Some(landing) => {
+            (landing.place > 0
+                && (landing.place == place
+                    || are_copies(code_from(code, landing.place), code_from(code, place))))
+                && (implies(landing.accumulator, accumulator) && implies(landing.index, index))
+        }
+    }
+}
+
+/// Whether the new program leaves an instruction out: all its ways land where it lands; and it does
+/// nothing that is seen from there on, or the packet is rejected there.
+#[tactic(auto, unfolding(crate::specs::inside::Alike::left_out))]
+fn is_left_out(code: &[Wide], new: Wide, landing: Landing, old: Wide, following: &[Landing]) -> bool
+    ensures { result ≡ left_out code.now (operation_of old.code) new landing old following.now }
+{
+    let Landing {
+        place,
+        accumulator,
+        index,
+    } = landing;
+    match decode(old.code) {
+        None => false,
+        Some(Operation::JumpIf(_, _)) => {
+            lands_at(code, following, old.yes as usize, place, accumulator, index)
+                && lands_at(code, following, old.no as usize, place, accumulator, index)
+        }
+        Some(operation) => {
+            (is_sure(operation) || (is_rejection(new) && goes_on_or_rejects(operation)))
+                && lands_at(
+                    code,
+                    following,
+                    0,
+                    place,
+                    accumulator && !sets_accumulator(operation),
+                    index && !sets_index(operation),
+                )
+        }
+    }
+}
+
 /// Whether the code does at a landing what an instruction of the old code and those after it do, by
-/// one of four rules. An instruction that lands nowhere needs nothing.
+/// one of five rules. An instruction that lands nowhere needs nothing.
 fn stands(code: &[Wide], landing: Landing, old: Wide, after: &[Wide], following: &[Landing]) -> bool
     ensures { result ≡ stands code.now landing old after.now following.now }
 {
     if landing.place == 0 {
         return true;
     }
-    if landing.place > code.len() {
-        return false;
-    }
-    let from = &code[code.len() - landing.place..];
+    let from = code_from(code, landing.place);
     match from {
         [] => false,
         [new, ..] => {
             let new = *new;
             (is_same_step(new, landing, old, following)
                 || is_one_test(new, landing, old, after, following))
-                || (is_direct_load(new, landing, old, after, following)
+                || ((is_direct_load(new, landing, old, after, following)
                     || is_header_load(from, landing, old, after, following))
+                    || is_left_out(code, new, landing, old, following))
         }
     }
 }

@@ -11,7 +11,9 @@ ghost use Rattle.std.specs.Prelude.{IfOk};
 ghost use Rattle.std.specs.Option.{IfSome};
 ghost use Rattle.flt_short.specs.Alike.{Shortens};
 
-use crate::alike::{Landing, adds_header, is_indirect, replaces};
+use crate::alike::{
+    Landing, adds_header, goes_on_or_rejects, is_indirect, is_rejection, is_sure, replaces,
+};
 use flt_bpf::operation::{AluOperation, Operand, Operation, Register, Source, Test, decode};
 use flt_bpf::{Wide, reads_accumulator, reads_index, sets_accumulator, sets_index};
 use std::alloc::{AllocError, Allocator};
@@ -260,7 +262,7 @@ impl Shortening<'_> {
         }
         let zero = self.landing_at(index_after(at, 1 + test.yes as usize));
         let other = self.landing_at(index_after(at, 1 + test.no as usize));
-        if zero.accumulator || other.accumulator {
+        if zero.accumulator || other.accumulator || zero.place == other.place {
             return None;
         }
         // It holds where a bit is left, so the targets are swapped.
@@ -278,7 +280,8 @@ impl Shortening<'_> {
         let [number, copy, load, ..] = self.insns_from(at) else {
             return None;
         };
-        if !puts_number_into_index(*number, *copy) || self.landing_at(index_after(at, 2)).index {
+        let next = self.landing_at(index_after(at, 2));
+        if !puts_number_into_index(*number, *copy) || next.index || self.rejects(next.place) {
             return None;
         }
         let code = direct_code(load.code)?;
@@ -296,7 +299,8 @@ impl Shortening<'_> {
         if !adds_header(*number, *length, *add, *copy) || !is_indirect(load.code) {
             return None;
         }
-        if self.landing_at(index_after(at, 4)).index {
+        let next = self.landing_at(index_after(at, 4));
+        if next.index || self.rejects(next.place) {
             return None;
         }
         let k = number.k.wrapping_add(load.k);
@@ -393,6 +397,18 @@ impl Shortening<'_> {
     fn emit_test(&mut self, at: usize, insn: Wide, last: usize) {
         let yes = self.landing_at(index_after(last, insn.yes as usize));
         let no = self.landing_at(index_after(last, insn.no as usize));
+        if yes.place == no.place && yes.place > 0 {
+            // Both ways lead to one place: no test is needed.
+            let place = yes.place;
+            self.land(
+                at,
+                Landing {
+                    place,
+                    ..landing_after_test(yes, no)
+                },
+            );
+            return;
+        }
         let place = self.place_test(at, insn, yes.place, no.place);
         if let (Some(operation), Some(place)) = (decode(insn.code), place) {
             self.land(
@@ -454,6 +470,21 @@ impl Shortening<'_> {
             .is_some_and(|other| other.code == insn.code && other.k == insn.k)
     }
 
+    /// Whether a run rejects the packet at a place of the new code.
+    fn rejects(&self, place: usize) -> bool {
+        let insn = self.backwards.get(place.wrapping_sub(1));
+        insn.is_some_and(|insn| is_rejection(*insn))
+    }
+
+    /// Whether an operation is left out in front of a landing, and lands there itself: it can't
+    /// fail, and what it sets isn't read, or a run rejects the packet there.
+    fn is_left_out(&self, operation: Operation, next: Landing) -> bool {
+        is_sure(operation)
+            && !(sets_accumulator(operation) && next.accumulator)
+            && !(sets_index(operation) && next.index)
+            || self.rejects(next.place) && goes_on_or_rejects(operation)
+    }
+
     /// Emits an instruction that is no test and no return for the one at `at`, and notes its
     /// landing. After it the run goes on where the instruction at `next` of the old code lands. If
     /// the same instruction is in front of that already, none is put; if another one is, the block
@@ -464,6 +495,10 @@ impl Shortening<'_> {
             return;
         };
         if landing.place == 0 {
+            return;
+        }
+        if self.is_left_out(operation, landing) {
+            self.land(at, landing);
             return;
         }
         if landing.place < self.len {
@@ -544,6 +579,21 @@ fn shorten(
     shortening.read_all()
 }
 
+/// Leaves out what stands in front of where the new code begins: what landed there lands nowhere.
+/// Returns how many instructions are left of `len`.
+fn leave_out_front(landings: &mut [Landing], len: usize) -> usize {
+    let entry = match landings.first() {
+        Some(first) if first.place > 0 && first.place < len => first.place,
+        _ => return len,
+    };
+    for landing in landings {
+        if landing.place > entry {
+            *landing = NOWHERE;
+        }
+    }
+    entry
+}
+
 /// The shorter code, made in the space `backwards`, if it replaces the old code `insns`.
 fn replacement<A: Allocator>(
     insns: &[Wide],
@@ -554,7 +604,7 @@ fn replacement<A: Allocator>(
     ensures { IfSome result (λ short. Shortens short.items insns.now) }
 {
     let len = shorten(insns, landings, &mut backwards, tests);
-    backwards.truncate(len);
+    backwards.truncate(leave_out_front(landings, len));
     backwards.reverse();
     replaces(&backwards, insns, landings).then_some(backwards)
 }

@@ -1,15 +1,15 @@
 -- When two places of two programs do the same: the new one is c, the old one is read from its
 -- instruction i on, which lands at l. `is` are the old instructions after i, `ls` their landings, j
 -- the instruction of the new program where i lands, and `js` those after it.
-use Rattle.std.specs.Prelude.{ℕ, ◌+◌, ◌-◌, ◌%◌, ◌^◌, ◌==◌, nat_lt, nat_le, Bool, true, false, if◌then◌else◌, ◌&&◌, ◌||◌, List, [], ◌∷◌, length, Option, Some, None, slice_get, drop}
+use Rattle.std.specs.Prelude.{ℕ, ◌+◌, ◌-◌, ◌%◌, ◌^◌, ◌==◌, nat_lt, nat_le, Bool, true, false, if◌then◌else◌, ◌&&◌, ◌||◌, not, List, [], ◌∷◌, length, Option, Some, None, slice_get, drop}
 use Rattle.flt_bpf.specs.declared.insn.Insn.{Insn}
 use Rattle.flt_bpf.specs.declared.operation.Operation.{Operation}
-use Rattle.flt_bpf.specs.declared.operation.Operation.TheVariants.{LoadAbsolute, LoadIndirect, Load, LoadHeaderLength, Compute, Jump, JumpIf, ReturnConstant, ReturnAccumulator, CopyToIndex}
+use Rattle.flt_bpf.specs.declared.operation.Operation.TheVariants.{LoadAbsolute, LoadIndirect, Load, LoadHeaderLength, Compute, Negate, Jump, JumpIf, ReturnConstant, ReturnAccumulator, CopyToIndex, CopyToAccumulator}
 use Rattle.flt_bpf.specs.declared.operation.Register.TheVariants.{Accumulator}
-use Rattle.flt_bpf.specs.declared.operation.Source.TheVariants.{Immediate}
+use Rattle.flt_bpf.specs.declared.operation.Source.TheVariants.{Immediate, Length}
 use Rattle.flt_bpf.specs.declared.operation.Operand.TheVariants.{Constant, IndexRegister}
 use Rattle.flt_bpf.specs.declared.operation.Test.TheVariants as test
-use Rattle.flt_bpf.specs.declared.operation.AluOperation.TheVariants.{Add, And}
+use Rattle.flt_bpf.specs.declared.operation.AluOperation.TheVariants.{Add, And, Divide, Remainder}
 use Rattle.flt_bpf.specs.Instructions.{code_of, operation_of}
 use Rattle.flt_bpf.specs.Registers.{reads_accumulator, reads_index, sets_accumulator, sets_index}
 use Rattle.flt_short.specs.declared.alike.Landing.{Landing}
@@ -122,23 +122,99 @@ header_load (h ∷ j ∷ js) l i (t ∷ u ∷ v ∷ w ∷ is) ls =
     && ((i.k + w.k) % 2 ^ 32 == j.k && landing_fits ls 4 0 (l.place - 1) true false))
 header_load js l i is ls = false
 
+-- an instruction returns 0
+abbrev pub rejects : Insn → Bool
+rejects i = i.code == code_of ReturnConstant && i.k == 0
+
+-- after an operation the run goes on at the next instruction whatever the packet is, and no word of
+-- memory is another one
+abbrev pub is_sure : Operation → Bool
+is_sure (Load register Immediate) = true
+is_sure (Load register Length) = true
+is_sure (Compute Divide operand) = false
+is_sure (Compute Remainder operand) = false
+is_sure (Compute operator operand) = true
+is_sure Negate = true
+is_sure CopyToIndex = true
+is_sure CopyToAccumulator = true
+is_sure _ = false
+
+-- after an operation the run goes on at the next instruction, if it doesn't end with 0
+abbrev pub goes_on_or_rejects : Operation → Bool
+goes_on_or_rejects Jump = false
+goes_on_or_rejects (JumpIf test operand) = false
+goes_on_or_rejects ReturnConstant = false
+goes_on_or_rejects ReturnAccumulator = false
+goes_on_or_rejects op = true
+
 -- the code from a place on, which is named by the number of instructions from there to the end;
 -- none of it if it has fewer
 abbrev pub code_from : List Insn → ℕ → List Insn
 code_from c place = if nat_le place (length c) then drop (length c - place) c else []
 
--- the code, from a landing on, does what the instruction i and those after it do, by one of four
+-- two tests lead to the same place, which is counted from the end: they skip so many instructions of
+-- so many
+abbrev pub same_target : ℕ → ℕ → ℕ → ℕ → Bool
+same_target far len other_far other_len = len - far == other_len - other_far
+
+-- two instructions with this operation go on alike: they return, or lead to the same places, or what
+-- follows both is the same
+abbrev pub goes_on_alike : Option Operation → Insn → ℕ → Insn → ℕ → Bool → Bool
+goes_on_alike None i len j other_len rest = false
+goes_on_alike (Some Jump) i len j other_len rest = false
+goes_on_alike (Some ReturnConstant) i len j other_len rest = true
+goes_on_alike (Some ReturnAccumulator) i len j other_len rest = true
+goes_on_alike (Some (JumpIf test operand)) i len j other_len rest =
+    same_target i.jt len j.jt other_len && same_target i.jf len j.jf other_len
+goes_on_alike (Some op) i len j other_len rest = rest
+
+-- two ends of the same code begin with the same instructions, up to a return, or to a test with the
+-- same targets
+abbrev pub are_copies : List Insn → List Insn → Bool
+are_copies [] d = false
+are_copies (i ∷ is) [] = false
+are_copies (i ∷ is) (j ∷ js) =
+    (i.code == j.code && i.k == j.k)
+    && goes_on_alike (operation_of i.code) i (length is) j (length js) (are_copies is js)
+
+-- there is a landing, it is at this place or at a copy of the code there, and what is read from
+-- there on is the same in both programs: a and x are whether A and X are
+abbrev pub lands_at_if : List Insn → Option Landing → ℕ → Bool → Bool → Bool
+lands_at_if c None place a x = false
+lands_at_if c (Some l) place a x =
+    (nat_lt 0 l.place
+    && (l.place == place || are_copies (code_from c l.place) (code_from c place)))
+    && (implies l.accumulator a && implies l.index x)
+
+-- the landing with index k is at this place, and what is read from there on is the same
+abbrev pub lands_at : List Insn → List Landing → ℕ → ℕ → Bool → Bool → Bool
+lands_at c ls k place a x = lands_at_if c (slice_get ls k) place a x
+
+-- nothing stands for i, of which this is the operation: all its ways land where it lands, at j; and
+-- it does nothing that is seen from there on, or the packet is rejected there
+unfoldable pub left_out : List Insn → Option Operation → Insn → Landing → Insn → List Landing → Bool
+left_out c None j l i ls = false
+left_out c (Some (JumpIf test operand)) j l i ls =
+    lands_at c ls i.jt l.place l.accumulator l.index
+    && lands_at c ls i.jf l.place l.accumulator l.index
+left_out c (Some op) j l i ls =
+    (is_sure op || (rejects j && goes_on_or_rejects op))
+    && lands_at c ls 0 l.place (l.accumulator && not (sets_accumulator op))
+    (l.index && not (sets_index op))
+
+-- the code, from a landing on, does what the instruction i and those after it do, by one of five
 -- rules
-abbrev pub stands_at : List Insn → Landing → Insn → List Insn → List Landing → Bool
-stands_at [] l i is ls = false
-stands_at (j ∷ js) l i is ls =
+abbrev pub stands_at : List Insn → List Insn → Landing → Insn → List Insn → List Landing → Bool
+stands_at c [] l i is ls = false
+stands_at c (j ∷ js) l i is ls =
     (same_step (operation_of i.code) j l i ls || one_test j l i is ls)
-    || (direct_load j l i is ls || header_load (j ∷ js) l i is ls)
+    || ((direct_load j l i is ls || header_load (j ∷ js) l i is ls)
+    || left_out c (operation_of i.code) j l i ls)
 
 -- the code does at the landing of i what i and those after it do; nothing is asked if i lands
 -- nowhere
 abbrev pub stands : List Insn → Landing → Insn → List Insn → List Landing → Bool
-stands c l i is ls = l.place == 0 || stands_at (code_from c l.place) l i is ls
+stands c l i is ls = l.place == 0 || stands_at c (code_from c l.place) l i is ls
 
 -- the code does at each landing what the old code does there
 abbrev pub are_alike : List Insn → List Insn → List Landing → Bool
