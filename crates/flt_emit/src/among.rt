@@ -3,7 +3,8 @@
 
 ghost use Rattle.std.specs.Prelude.{◌≡◌, ◌≤◌, ◌<◌, ◌+◌, ◌++◌, length, take, drop, get_or};
 ghost use Rattle.flt_emit.specs.Formula.{whole_field, without, remaining};
-ghost use Rattle.flt_emit.specs.inside.Code.{emit_chain, emit_search, most_halvings, emit_among};
+ghost use Rattle.flt_emit.specs.inside.Code.{is_gap, split, emit_range, emit_chain, emit_search};
+ghost use Rattle.flt_emit.specs.inside.Code.{most_halvings, emit_among};
 ghost use Rattle.flt_emit.specs.inside.Emits.{Emits};
 
 use crate::code::{Code, Targets};
@@ -11,8 +12,8 @@ use crate::elementary::{MaskedField, Offset};
 use flt_bpf::operation::{Operand, Test, Width};
 use std::alloc::{AllocError, Allocator};
 
-/// How often numbers are halved at most. Two alone aren't, since that would be one more test; more
-/// are, down to one each, for which 16 times is enough (4,096 numbers take twelve).
+/// How often numbers are parted at most. Two alone aren't, since that would be one more test; more
+/// are, down to one each or to neighbours, for which 16 times is enough (4,096 numbers take twelve).
 fn most_halvings(count: usize) -> usize
     ensures { result ≡ most_halvings count }
 {
@@ -74,6 +75,33 @@ fn remaining(first: u32, numbers: &[u32]) -> (&[u32], &[u32])
     (&numbers[..at], &numbers[at + 1..])
 }
 
+/// Whether the number after an index of two slices is more than one above the number at it.
+fn is_gap(lower: &[u32], upper: &[u32], at: usize) -> bool
+    requires { at + 1 < length lower.now + length upper.now }
+    ensures { result ≡ is_gap (lower.now ++ upper.now) at }
+{
+    number_at(lower, upper, at + 1).saturating_sub(number_at(lower, upper, at)) > 1
+}
+
+/// The index at which numbers are parted: after the last gap in their lower half, or else after the
+/// first one. 0: there is none, so they follow one another.
+fn split_of(lower: &[u32], upper: &[u32]) -> usize
+    requires { 0 < length lower.now + length upper.now }
+    ensures index { result ≡ split (lower.now ++ upper.now) }
+    ensures inside { result < length lower.now + length upper.now }
+{
+    let count = lower.len() + upper.len();
+    let (mut split, mut at) = (0, 0);
+    // The label names the loop in its proof.
+    'gaps: while at + 1 < count {
+        if is_gap(lower, upper, at) && (at < count / 2 || split == 0) {
+            split = at + 1;
+        }
+        at += 1;
+    }
+    split
+}
+
 impl<A: Allocator> Code<A> {
     /// Emits whether A is one of some numbers, by one test after the other. Returns the place where
     /// the code begins; of no number that is `to.no`. It calls itself for each: they are few, once
@@ -92,29 +120,69 @@ impl<A: Allocator> Code<A> {
         }
     }
 
-    /// As `emit_chain`, of numbers that ascend, by a binary search: they are halved at most
-    /// `halvings` times, by a test whether A is in the upper half. They are in two slices, the
-    /// second after the first.
+    /// Emits whether A is from `low` to `high`. Where it is known to be no lower (`is_above`), that
+    /// is one test.
+    fn emit_range(
+        &mut self,
+        is_above: bool,
+        low: u32,
+        high: u32,
+        to: Targets,
+    ) -> Result<usize, AllocError>
+        ensures { Emits result (emit_range is_above low high to.yes to.no self.old) self.new }
+    {
+        self.emit_branch(Test::Greater, Operand::Constant, high, to.exchanged())?;
+        if is_above {
+            return Ok(self.top());
+        }
+        let yes = self.top();
+        self.emit_branch(
+            Test::AtLeast,
+            Operand::Constant,
+            low,
+            Targets { yes, no: to.no },
+        )?;
+        Ok(self.top())
+    }
+
+    /// As `emit_chain`, of numbers that ascend, by a binary search: they are parted at most
+    /// `halvings` times, at a gap, by a test whether A is in the upper part; those that follow one
+    /// another are a range. They are in two slices, the second after the first. `is_above`: A is
+    /// known to be no less than the first one.
     fn emit_search(
         &mut self,
         halvings: usize,
+        is_above: bool,
         lower: &[u32],
         upper: &[u32],
         to: Targets,
     ) -> Result<usize, AllocError>
-        ensures { Emits result
-            (emit_search halvings (lower.now ++ upper.now) to.yes to.no self.old) self.new }
+        ensures { Emits result (emit_search halvings is_above
+            (lower.now ++ upper.now) to.yes to.no self.old) self.new }
     {
         let count = lower.len() + upper.len();
         if halvings == 0 || count < 2 {
             let no = self.emit_chain(upper, to)?;
             return self.emit_chain(lower, Targets { yes: to.yes, no });
         }
-        let half = count / 2;
-        // The upper half begins in `lower` at this index, or else in `upper`.
+        let half = split_of(lower, upper);
+        if half == 0 {
+            let (low, high) = (
+                number_at(lower, upper, 0),
+                number_at(lower, upper, count - 1),
+            );
+            return self.emit_range(is_above, low, high, to);
+        }
+        // The upper part begins in `lower` at this index, or else in `upper`.
         let cut = half.min(lower.len());
-        let yes = self.emit_search(halvings - 1, &lower[cut..], &upper[half - cut..], to)?;
-        let no = self.emit_search(halvings - 1, &lower[..cut], &upper[..half - cut], to)?;
+        let yes = self.emit_search(halvings - 1, true, &lower[cut..], &upper[half - cut..], to)?;
+        let no = self.emit_search(
+            halvings - 1,
+            is_above,
+            &lower[..cut],
+            &upper[..half - cut],
+            to,
+        )?;
         let pivot = number_at(lower, upper, half);
         self.emit_branch(Test::AtLeast, Operand::Constant, pivot, Targets { yes, no })?;
         Ok(self.top())
@@ -162,7 +230,13 @@ impl<A: Allocator> Code<A> {
             (emit_among field (lower.now ++ upper.now) to.yes to.no self.old) self.new }
     {
         // There is a number, so the search begins at `top()`, in front of which the load goes.
-        self.emit_search(most_halvings(lower.len() + upper.len()), lower, upper, to)?;
+        self.emit_search(
+            most_halvings(lower.len() + upper.len()),
+            false,
+            lower,
+            upper,
+            to,
+        )?;
         self.emit_mask(field.mask)?;
         self.emit_field(field.offset, field.width)?;
         Ok(self.top())

@@ -1,8 +1,10 @@
 -- Numbers that ascend.
-use Rattle.std.proofs.Common.{◌≡◌, ℕ, zero, suc, ◌+◌, ◌<◌, ◌≤◌, List, [], ◌∷◌, length, take, drop, get_or, Bool, true, false, refl, ap, ◌∙◌, sym, arith}
-use Rattle.std.specs.Prelude.{nat_lt, ◌==◌, ◌&&◌, ◌||◌, if◌then◌else◌}
+use Rattle.std.proofs.Common.{◌≡◌, ◌⊎◌, inl, inr, ℕ, zero, suc, ◌+◌, ◌-◌, ◌/◌, ◌<◌, ◌≤◌, List, [], ◌∷◌, length, take, drop, get_or, Bool, true, false, refl, ap, ◌∙◌, sym, subst, arith}
+use Rattle.std.specs.Prelude.{nat_lt, nat_le, ◌==◌, ◌&&◌, ◌||◌, not, if◌then◌else◌}
 use Rattle.std.specs.List.{insert}
 use Rattle.std.proofs.lemmas.Bool.Decides.{nat_tests}
+use Rattle.flt_emit.proofs.Search.{split_is}
+use Rattle.flt_emit.specs.inside.Code.{is_gap, split_below, split}
 use Rattle.flt_emit.specs.Formula.{Formula, Single, Compare, Both, Either, Except, Among, is_one_of, without, remaining}
 use Rattle.flt_gen.specs.inside.Group.{insert_ascending}
 
@@ -143,6 +145,71 @@ upper_half x (suc h) (v ∷ vs) up l m =
     let same : x ≡ v = grind (arith, nat_tests) in
     let low = at_least v h vs up.0 (omega arith) in
     head_of_half x h vs (omega arith) (omega arith))
+
+-- the first number of both parts
+pub first_dropped : (h : ℕ) (vs : List ℕ) → get_or (drop h vs) 0 0 ≡ get_or vs h 0
+first_dropped zero [] = refl
+first_dropped zero (v ∷ vs) = refl
+first_dropped (suc h) [] = refl
+first_dropped (suc h) (v ∷ vs) = first_dropped h vs
+
+pub first_taken : (h : ℕ) (vs : List ℕ) → 0 < h → get_or (take h vs) 0 0 ≡ get_or vs 0 0
+first_taken zero vs l = absurd (omega arith)
+first_taken (suc h) [] l = refl
+first_taken (suc h) (v ∷ vs) l = refl
+
+-- numbers without a gap
+lower : (at n : ℕ) → at < suc n → (at < n) ⊎ (at ≡ n)
+lower at n l = by (nat_lt at n) refl
+  where
+    by : (b : Bool) → nat_lt at n ≡ b → (at < n) ⊎ (at ≡ n)
+    by true e = inl (grind (arith, nat_tests))
+    by false e = let no : n ≤ at = grind (arith, nat_tests) in inr (omega arith)
+
+no_gaps : (m : ℕ) (vs : List ℕ) (n : ℕ) → split_below m vs n ≡ 0 → (at : ℕ) → at < n → is_gap vs at ≡ false
+no_gaps m vs zero e at l = absurd (omega arith)
+no_gaps m vs (suc n) e at l = by (is_gap vs n) refl (nat_lt n m) (split_below m vs n) refl e (λ z k. no_gaps m vs n z at k)
+  where
+    by : (b : Bool) → is_gap vs n ≡ b → (c : Bool) (s : ℕ) → split_below m vs n ≡ s → (if b && (c || s == 0) then suc n else s) ≡ 0 → (split_below m vs n ≡ 0 → at < n → is_gap vs at ≡ false) → is_gap vs at ≡ false
+    by false f c s z e rest = elim (lower at n l) [ inl k ↦ rest (z ∙ e) k | inr k ↦ ap (is_gap vs) k ∙ f ]
+    by true f true s z e rest = absurd (omega arith)
+    by true f false zero z e rest = absurd (omega arith)
+    by true f false (suc s) z e rest = absurd (let some : (suc s == 0) ≡ false = grind (arith, nat_tests) in let q : suc s ≡ 0 = subst (λ d. (if d then suc n else suc s) ≡ 0) some e in omega arith)
+
+one_of_gapless : (a : ℕ) (vs : List ℕ) (v : ℕ) → Ascending (v ∷ vs) → ((at : ℕ) → at < length vs → is_gap (v ∷ vs) at ≡ false) → (is_one_of a (v ∷ vs) ≡ (nat_le v a && not (nat_lt (get_or (v ∷ vs) (length vs) 0) a))) × (v ≤ get_or (v ∷ vs) (length vs) 0)
+one_of_gapless a [] v up g = (only (a == v) refl (nat_le v a) refl (nat_lt v a) refl, omega arith)
+  where
+    only : (b : Bool) → (a == v) ≡ b → (c : Bool) → nat_le v a ≡ c → (d : Bool) → nat_lt v a ≡ d → (b || false) ≡ (c && not d)
+    only true f true g true h = absurd (grind (arith, nat_tests))
+    only true f true g false h = refl
+    only true f false g d h = absurd (grind (arith, nat_tests))
+    only false f true g true h = refl
+    only false f true g false h = absurd (grind (arith, nat_tests))
+    only false f false g d h = refl
+one_of_gapless a (w ∷ vs) v up g =
+    let next = g 0 (omega arith) in
+    let near : w - v ≤ 1 = grind (arith, nat_tests) in
+    let low : v ≤ w = up.0.0 in
+    let rest = one_of_gapless a vs w up.1 (λ at l. g (suc at) (omega arith)) in
+    let below : w ≤ get_or (w ∷ vs) (length vs) 0 = rest.1 in
+    (ap (λ b. a == v || b) rest.0 ∙ joined (get_or (w ∷ vs) (length vs) 0) (a == v) refl (nat_le w a) refl (nat_lt (get_or (w ∷ vs) (length vs) 0) a) refl (nat_le v a) refl near low below, omega arith)
+  where
+    joined : (last : ℕ) (b : Bool) → (a == v) ≡ b → (c : Bool) → nat_le w a ≡ c → (d : Bool) → nat_lt last a ≡ d → (e : Bool) → nat_le v a ≡ e → w - v ≤ 1 → v ≤ w → w ≤ last → (b || (c && not d)) ≡ (e && not d)
+    joined last true f c g true h e k near low below = absurd (let same : a ≡ v = grind (arith, nat_tests) in let over : last < a = grind (arith, nat_tests) in omega arith)
+    joined last true f c g false h true k near low below = refl
+    joined last true f c g false h false k near low below = absurd (let same : a ≡ v = grind (arith, nat_tests) in let no : a < v = grind (arith, nat_tests) in omega arith)
+    joined last false f true g d h true k near low below = refl
+    joined last false f true g d h false k near low below = absurd (let inside : w ≤ a = grind (arith, nat_tests) in let no : a < v = grind (arith, nat_tests) in omega arith)
+    joined last false f false g d h true k near low below = absurd (let out : a < w = grind (arith, nat_tests) in let yes : v ≤ a = grind (arith, nat_tests) in let apart : (a ≡ v → ⊥) = grind (arith, nat_tests) in apart (omega arith))
+    joined last false f false g d h false k near low below = refl
+
+pub one_of_run : (a : ℕ) (vs : List ℕ) → Ascending vs → 0 < length vs → split vs ≡ 0 → is_one_of a vs ≡ (nat_le (get_or vs 0 0) a && not (nat_lt (get_or vs (length vs - 1) 0) a))
+one_of_run a [] up some e = absurd (omega arith)
+one_of_run a (v ∷ vs) up some e =
+    let last : length (v ∷ vs) - 1 ≡ length vs = omega arith in
+    let none : split_below (length (v ∷ vs) / 2) (v ∷ vs) (length vs) ≡ 0 = ap (split_below (length (v ∷ vs) / 2) (v ∷ vs)) (sym last) ∙ sym (split_is (v ∷ vs)) ∙ e in
+    (one_of_gapless a vs v up (no_gaps (length (v ∷ vs) / 2) (v ∷ vs) (length vs) none)).0
+    ∙ ap (λ n. nat_le v a && not (nat_lt (get_or (v ∷ vs) n 0) a)) (sym last)
 
 -- the numbers without one of them
 one_of_without : (x a : ℕ) (vs : List ℕ) → (x == a) ≡ false → is_one_of x (without a vs) ≡ is_one_of x vs

@@ -1,5 +1,5 @@
 -- The code of a formula has no fault and no jump, and no more instructions and branches than are counted.
-use Rattle.std.proofs.Common.{◌≡◌, ℕ, zero, suc, ◌+◌, ◌-◌, ◌*◌, ◌/◌, ◌<◌, ◌≤◌, List, [], ◌∷◌, length, take, drop, get_or, Bool, true, false, cond, Option, Some, None, refl, sym, ap, ◌∙◌, arith, length-drop, length-take}
+use Rattle.std.proofs.Common.{◌≡◌, ℕ, zero, suc, ◌+◌, ◌-◌, ◌*◌, ◌<◌, ◌≤◌, List, [], ◌∷◌, length, take, drop, get_or, Bool, true, false, cond, Option, Some, None, refl, sym, ap, ◌∙◌, arith, length-drop, length-take}
 use Rattle.std.specs.Prelude.{◌≢◌, nat_lt, ◌==◌, not, ◌&&◌, if◌then◌else◌, count_by}
 use Rattle.std.proofs.lemmas.Bool.Decides.{nat_tests}
 use Rattle.std.proofs.lemmas.List.Sums.{sum_by-cons}
@@ -36,7 +36,8 @@ use Rattle.flt_emit.specs.declared.elementary.Offset.{Offset}
 use Rattle.flt_emit.specs.declared.elementary.Offset.TheVariants.{Fixed, AfterHeader}
 use Rattle.flt_emit.specs.Numbers.{width_of}
 use Rattle.flt_emit.specs.Formula.{Formula, Single, Compare, Both, Either, Except, Among}
-use Rattle.flt_emit.specs.inside.Code.{plain, computation, takes_constant, constant, constant_operand, branch_insn, emit_branch, emit_comparison, emit_field, emit_mask, emit_accessor, emit_number, Block, at_top, emit_chain, emit_search, most_halvings, emit_elementary, emit_formula}
+use Rattle.flt_emit.proofs.Search.{split_inside}
+use Rattle.flt_emit.specs.inside.Code.{plain, computation, takes_constant, constant, constant_operand, branch_insn, emit_branch, emit_comparison, emit_field, emit_mask, emit_accessor, emit_number, Block, at_top, emit_range, emit_chain, split, emit_search, most_halvings, emit_elementary, emit_formula}
 use Rattle.flt_gen.specs.inside.Counts.{words, nodes, tests}
 use Rattle.flt_gen.proofs.Ascending.{if_case}
 use Rattle.flt_gen.proofs.Codes.{code_is}
@@ -248,7 +249,7 @@ elementary_fits (Field t) hit miss c s h m =
 branch_fits : {c : List Insn} {m w : ℕ} (t : Test) (k hit miss : ℕ) (d : List Insn) → Grows c d m w → Inside d hit → Inside d miss → Fits c (at_top (emit_branch t Constant k hit miss d)) (m + 1) (w + 3)
 branch_fits t k hit miss d g h m = fits_on g (fits_top (branch_grows t Constant k hit miss d g.sound h m))
 
--- a number has one test, and each further one a half of its own at most
+-- a number has one test, and each further one a part of its own at most
 abbrev Searched : List Insn → Block → ℕ → Type 0
 Searched c e n = Fits c e (2 * n - 1) (3 * (2 * n - 1))
 
@@ -259,22 +260,32 @@ chain_fits (v ∷ vs) hit miss c s h m =
     let f = chain_fits vs hit miss c s h m in
     fits_more _ _ (omega arith) (omega arith) (branch_fits test.Equal v hit e.entry e.code f.grows (inside_on f.grows h) f.entry)
 
-search_fits : (k : ℕ) (vs : List ℕ) (hit miss : ℕ) (c : List Insn) → Sound c → Inside c hit → Inside c miss → Searched c (emit_search k vs hit miss c) (length vs)
+range_fits : (from : Bool) (low high hit miss : ℕ) (c : List Insn) → Sound c → Inside c hit → Inside c miss → Fits c (emit_range from low high hit miss c) 2 6
+range_fits true low high hit miss c s h m = fits_more _ _ (omega arith) (omega arith) (branch_fits test.Greater high miss hit c (grows_none s) m h)
+range_fits false low high hit miss c s h m =
+    let f = branch_fits test.Greater high miss hit c (grows_none s) m h in
+    branch_fits test.AtLeast low _ miss _ f.grows f.entry (inside_on f.grows m)
+
+search_fits : (k : ℕ) (from : Bool) (vs : List ℕ) (hit miss : ℕ) (c : List Insn) → Sound c → Inside c hit → Inside c miss → Searched c (emit_search k from vs hit miss c) (length vs)
 unfolding emit_search
-search_fits zero vs hit miss c s h m = fits_more _ _ (omega arith) (omega arith) (chain_fits vs hit miss c s h m)
-search_fits (suc k) vs hit miss c s h m =
-    let half = length vs / 2 in
+search_fits zero from vs hit miss c s h m = fits_more _ _ (omega arith) (omega arith) (chain_fits vs hit miss c s h m)
+search_fits (suc k) from vs hit miss c s h m =
+    let half = split vs in
+    let inside = split_inside vs in
     let a = length-drop half vs in
     let b = length-take half vs in
-    let upper = emit_search k (drop half vs) hit miss c in
-    let lower = emit_search k (take half vs) hit miss upper.code in
-    let fu = search_fits k (drop half vs) hit miss c s h m in
-    let fl = search_fits k (take half vs) hit miss upper.code fu.grows.sound (inside_on fu.grows h) (inside_on fu.grows m) in
+    let upper = emit_search k true (drop half vs) hit miss c in
+    let lower = emit_search k from (take half vs) hit miss upper.code in
+    let fu = search_fits k true (drop half vs) hit miss c s h m in
+    let fl = search_fits k from (take half vs) hit miss upper.code fu.grows.sound (inside_on fu.grows h) (inside_on fu.grows m) in
     let both = fits_on fu.grows fl in
     if_case (λ (e : Block). Searched c e (length vs)) (nat_lt (length vs) 2) _ _
     (λ few. fits_more _ _ (omega arith) (omega arith) (chain_fits vs hit miss c s h m))
     (λ many. let two : 2 ≤ length vs = grind (arith, nat_tests) in
-    fits_more _ _ (omega arith) (omega arith) (branch_fits test.AtLeast (get_or vs half 0) upper.entry lower.entry lower.code both.grows (inside_on fl.grows fu.entry) fl.entry))
+    if_case (λ (e : Block). Searched c e (length vs)) (half == 0) _ _
+    (λ run. fits_more _ _ (omega arith) (omega arith) (range_fits from (get_or vs 0 0) (get_or vs (length vs - 1) 0) hit miss c s h m))
+    (λ gap. let some : 0 < half = grind (arith, nat_tests) in
+    fits_more _ _ (omega arith) (omega arith) (branch_fits test.AtLeast (get_or vs half 0) upper.entry lower.entry lower.code both.grows (inside_on fl.grows fu.entry) fl.entry)))
 
 pub emitted_fits : (link : Link) (f : Formula) (hit miss : ℕ) (c : List Insn) → words f ≤ 16 → Sound c → Inside c hit → Inside c miss → Fits c (emit_formula link f hit miss c) (4 * tests f + 6 * nodes f) (6 * (tests f + nodes f))
 emitted_fits link (Single t) hit miss c few s h m = fits_more _ _ (omega arith) (omega arith) (elementary_fits t hit miss c s h m)
@@ -300,5 +311,5 @@ emitted_fits link (Either a b) hit miss c few s h m =
     (fits_on f.grows (emitted_fits link a hit e.entry e.code (omega arith) f.grows.sound (inside_on f.grows h) f.entry))
 emitted_fits link (Except a) hit miss c few s h m = emitted_fits link a miss hit c few s m h
 emitted_fits link (Among f vs) hit miss c few s h m =
-    let g = search_fits (most_halvings (length vs)) vs hit miss c s h m in
+    let g = search_fits (most_halvings (length vs)) false vs hit miss c s h m in
     fits_more _ _ (omega arith) (omega arith) (fits_top (field_grows f.offset f.width (mask_grows f.mask g.grows)))

@@ -1,6 +1,6 @@
 -- The code of a formula goes on where the formula's reading says.
-use Rattle.std.proofs.Common.{◌≡◌, ℕ, zero, suc, ◌+◌, ◌-◌, ◌/◌, ◌%◌, ◌^◌, ◌<◌, ◌≤◌, List, [], ◌∷◌, length, take, drop, get_or, Bool, true, false, Option, Some, None, refl, sym, ap, ◌∙◌, arith}
-use Rattle.std.specs.Prelude.{nat_le, nat_lt, ◌==◌, not, ◌||◌, if◌then◌else◌, bit_and}
+use Rattle.std.proofs.Common.{◌≡◌, ℕ, zero, suc, ◌+◌, ◌-◌, ◌%◌, ◌^◌, ◌<◌, ◌≤◌, List, [], ◌∷◌, length, take, drop, get_or, Bool, true, false, Option, Some, None, refl, sym, ap, ◌∙◌, subst, arith}
+use Rattle.std.specs.Prelude.{nat_le, nat_lt, ◌==◌, not, ◌&&◌, ◌||◌, if◌then◌else◌, bit_and}
 use Rattle.std.specs.Option.{option_map}
 use Rattle.std.proofs.lemmas.Bool.Decides.{nat_tests}
 use Rattle.flt_bpf.specs.declared.insn.Insn.{Insn}
@@ -29,13 +29,14 @@ use Rattle.flt_emit.specs.declared.elementary.Elementary.TheVariants.{Outcome, F
 use Rattle.flt_emit.specs.Elementary.{MatchResult, Yes, No, Rejected, reading_of, with, compares, field_at, under_mask, field_reads, elementary_reads}
 use Rattle.flt_emit.specs.Numbers.{number}
 use Rattle.flt_emit.specs.Formula.{Formula, Single, Compare, Both, Either, Except, Among, is_one_of, among_reads, relation_reads, both, either, negation as exchanged, reads}
-use Rattle.flt_emit.specs.inside.Code.{plain, constant, branch_insn, emit_elementary, emit_branch, emit_comparison, emit_field, emit_mask, emit_test, emit_relation, Block, emit_chain, emit_search, most_halvings, emit_among, emit_formula}
+use Rattle.flt_emit.proofs.Search.{split_inside}
+use Rattle.flt_emit.specs.inside.Code.{plain, constant, branch_insn, emit_elementary, emit_branch, emit_comparison, emit_field, emit_mask, emit_test, emit_relation, Block, emit_run, emit_chain, split, emit_search, most_halvings, emit_among, emit_formula}
 use Rattle.flt_gen.specs.inside.Counts.{words}
-use Rattle.flt_gen.proofs.Ascending.{if_case, Ascending, Searchable, Searches, searchable_ascends, ascending_take, ascending_drop, lower_half, upper_half}
+use Rattle.flt_gen.proofs.Ascending.{if_case, Ascending, Searchable, Searches, searchable_ascends, ascending_take, ascending_drop, lower_half, first_dropped, first_taken, one_of_run, upper_half}
 use Rattle.flt_gen.proofs.Codes.{run, run_plain}
 use Rattle.flt_gen.proofs.Leads.{HasWords, Tops, Leads, leads_top, leads_on, leads_in, leads_to}
 use Rattle.flt_gen.proofs.Numbers.{answer_for, constant_is, operands_run, number_runs}
-use Rattle.flt_gen.proofs.Tails.{by_right, chain_extends, search_extends, emitted_extends}
+use Rattle.flt_gen.proofs.Tails.{by_right, branch_extends, chain_extends, search_extends, emitted_extends}
 
 -- one of two answers, by a reading; a rejected one ends the run with 0
 abbrev pub pick : MatchResult → ℕ → ℕ → ℕ
@@ -75,6 +76,16 @@ less_is a b = grind (arith, nat_tests)
 
 at_most_is : (a b : ℕ) → not (nat_lt b a) ≡ nat_le a b
 at_most_is a b = grind (arith, nat_tests)
+
+in_range : (b c : Bool) (v w : ℕ) → b ≡ true → (if c then w else v) ≡ (if (b && not c) then v else w)
+in_range true true v w e = refl
+in_range true false v w e = refl
+in_range false c v w e = cc
+
+range_is : (b c : Bool) (v w : ℕ) → (if b then (if c then w else v) else w) ≡ (if (b && not c) then v else w)
+range_is true true v w = refl
+range_is true false v w = refl
+range_is false c v w = refl
 
 -- a state with a number in A, and with another one in X
 abbrev Has : ℕ → State → Type 0
@@ -148,51 +159,99 @@ module _ (p : List ℕ) (n : ℕ) where
       (leads_top p n (emit_branch test.Equal Constant x hit e.entry e.code) _
       (branch_tops test.Equal Constant x a x hit e.entry v (if is_one_of a vs then v else w) e.code (λ s q. q.1) (λ s q. refl) (leads_on p n (chain_extends vs hit miss c) h) (chain_leads a vs hit miss v w c h m)))
 
-  halves_are : (a h : ℕ) (vs : List ℕ) (v w : ℕ) → Ascending vs → h < length vs → (b : Bool) → nat_le (get_or vs h 0) a ≡ b → (if b then (if is_one_of a (drop h vs) then v else w) else (if is_one_of a (take h vs) then v else w)) ≡ (if is_one_of a vs then v else w)
-  halves_are a h vs v w up l true e =
-      let m : get_or vs h 0 ≤ a = grind (arith, nat_tests) in
-      ap (λ b. if b then v else w) (sym (upper_half a h vs up l m))
-  halves_are a h vs v w up l false e =
-      let m : a < get_or vs h 0 = grind (arith, nat_tests) in
-      ap (λ b. if b then v else w) (sym (lower_half a h vs up l m))
+  -- the same where it may be known that A is no less than the first number; else it leads anywhere
+  record Found (a : ℕ) (from : Bool) (vs : List ℕ) (e : Block) (v w : ℕ) : Type 0 where
+    value : ℕ
+    leads : Leads p n (Has a) e.code e.entry value
+    right : (from ≡ true → get_or vs 0 0 ≤ a) → value ≡ (if is_one_of a vs then v else w)
 
-  search_leads : (k a : ℕ) (vs : List ℕ) (hit miss v w : ℕ) (c : List Insn) → Ascending vs → Leads p n (Has a) c hit v → Leads p n (Has a) c miss w → Leads p n (Has a) (emit_search k vs hit miss c).code (emit_search k vs hit miss c).entry (if is_one_of a vs then v else w)
+  chain_found : (a : ℕ) (from : Bool) (vs : List ℕ) (hit miss v w : ℕ) (c : List Insn) → Leads p n (Has a) c hit v → Leads p n (Has a) c miss w → Found a from vs (emit_chain vs hit miss c) v w
+  chain_found a from vs hit miss v w c h m = record { value = if is_one_of a vs then v else w; leads = chain_leads a vs hit miss v w c h m; right = λ _. refl }
+
+  at_most : (a high hit miss v w : ℕ) (c : List Insn) → Leads p n (Has a) c hit v → Leads p n (Has a) c miss w → Leads p n (Has a) (emit_branch test.Greater Constant high miss hit c) (length (emit_branch test.Greater Constant high miss hit c)) (if nat_lt high a then w else v)
+  at_most a high hit miss v w c h m =
+      leads_top p n (emit_branch test.Greater Constant high miss hit c) _ (branch_tops test.Greater Constant high a high miss hit w v c (λ s q. q.1) (λ s q. refl) m h)
+
+  range_found : (a : ℕ) (from : Bool) (vs : List ℕ) (hit miss v w : ℕ) (c : List Insn) → Ascending vs → 0 < length vs → split vs ≡ 0 → Leads p n (Has a) c hit v → Leads p n (Has a) c miss w → Found a from vs (emit_run from vs hit miss c) v w
+  range_found a true vs hit miss v w c up some whole h m =
+      let high = get_or vs (length vs - 1) 0 in
+      record {
+        value = if nat_lt high a then w else v;
+        leads = at_most a high hit miss v w c h m;
+        right = λ t. let low = t refl in let above : nat_le (get_or vs 0 0) a ≡ true = grind (arith, nat_tests) in
+            in_range (nat_le (get_or vs 0 0) a) (nat_lt high a) v w above ∙ ap (λ b. if b then v else w) (sym (one_of_run a vs up some whole));
+      }
+  range_found a false vs hit miss v w c up some whole h m =
+      let low = get_or vs 0 0 in
+      let high = get_or vs (length vs - 1) 0 in
+      let d = emit_branch test.Greater Constant high miss hit c in
+      record {
+        value = if nat_le low a then (if nat_lt high a then w else v) else w;
+        leads = leads_top p n (emit_branch test.AtLeast Constant low (length d) miss d) _ (branch_tops test.AtLeast Constant low a low (length d) miss _ w d (λ s q. q.1) (λ s q. refl) (at_most a high hit miss v w c h m) (leads_on p n (branch_extends test.Greater Constant high miss hit c) m));
+        right = λ _. range_is (nat_le low a) (nat_lt high a) v w ∙ ap (λ b. if b then v else w) (sym (one_of_run a vs up some whole));
+      }
+
+  halves_found : (a h : ℕ) (from : Bool) (vs : List ℕ) (v w x y : ℕ) → Ascending vs → 0 < h → h < length vs → (get_or vs h 0 ≤ a → x ≡ (if is_one_of a (drop h vs) then v else w)) → ((from ≡ true → get_or vs 0 0 ≤ a) → y ≡ (if is_one_of a (take h vs) then v else w)) → (from ≡ true → get_or vs 0 0 ≤ a) → (b : Bool) → nat_le (get_or vs h 0) a ≡ b → (if b then x else y) ≡ (if is_one_of a vs then v else w)
+  halves_found a h from vs v w x y up some l f g t true e =
+      let m : get_or vs h 0 ≤ a = grind (arith, nat_tests) in
+      f m ∙ ap (λ b. if b then v else w) (sym (upper_half a h vs up l m))
+  halves_found a h from vs v w x y up some l f g t false e =
+      let m : a < get_or vs h 0 = grind (arith, nat_tests) in
+      g t ∙ ap (λ b. if b then v else w) (sym (lower_half a h vs up l m))
+
+  search_found : (k a : ℕ) (from : Bool) (vs : List ℕ) (hit miss v w : ℕ) (c : List Insn) → Ascending vs → Leads p n (Has a) c hit v → Leads p n (Has a) c miss w → Found a from vs (emit_search k from vs hit miss c) v w
   unfolding emit_search
-  search_leads zero a vs hit miss v w c up h m = chain_leads a vs hit miss v w c h m
-  search_leads (suc k) a vs hit miss v w c up h m =
-      let half = length vs / 2 in
-      let upper = emit_search k (drop half vs) hit miss c in
-      let lower = emit_search k (take half vs) hit miss upper.code in
-      let xu = search_extends k (drop half vs) hit miss c in
-      let lu = search_leads k a (drop half vs) hit miss v w c (ascending_drop half vs up) h m in
-      let ll = search_leads k a (take half vs) hit miss v w upper.code (ascending_take half vs up) (leads_on p n xu h) (leads_on p n xu m) in
-      if_case (λ (e : Block). Leads p n (Has a) e.code e.entry (if is_one_of a vs then v else w)) (nat_lt (length vs) 2) _ _
-      (λ few. chain_leads a vs hit miss v w c h m)
+  search_found zero a from vs hit miss v w c up h m = chain_found a from vs hit miss v w c h m
+  search_found (suc k) a from vs hit miss v w c up h m =
+      let half = split vs in
+      let inside = split_inside vs in
+      let upper = emit_search k true (drop half vs) hit miss c in
+      let lower = emit_search k from (take half vs) hit miss upper.code in
+      let xu = search_extends k true (drop half vs) hit miss c in
+      let fu = search_found k a true (drop half vs) hit miss v w c (ascending_drop half vs up) h m in
+      let fl = search_found k a from (take half vs) hit miss v w upper.code (ascending_take half vs up) (leads_on p n xu h) (leads_on p n xu m) in
+      if_case (λ (e : Block). Found a from vs e v w) (nat_lt (length vs) 2) _ _
+      (λ few. chain_found a from vs hit miss v w c h m)
       (λ many. let two : 2 ≤ length vs = grind (arith, nat_tests) in
-      leads_to p n (halves_are a half vs v w up (omega arith) (nat_le (get_or vs half 0) a) refl)
-      (leads_top p n (emit_branch test.AtLeast Constant (get_or vs half 0) upper.entry lower.entry lower.code) _
-      (branch_tops test.AtLeast Constant (get_or vs half 0) a (get_or vs half 0) upper.entry lower.entry _ _ lower.code (λ s q. q.1) (λ s q. refl) (leads_on p n (search_extends k (take half vs) hit miss upper.code) lu) ll)))
+      if_case (λ (e : Block). Found a from vs e v w) (half == 0) _ _
+      (λ run. let none : half ≡ 0 = grind (arith, nat_tests) in range_found a from vs hit miss v w c up (omega arith) none h m)
+      (λ gap. let some : 0 < half = grind (arith, nat_tests) in
+      record {
+        value = if nat_le (get_or vs half 0) a then fu.value else fl.value;
+        leads = leads_top p n (emit_branch test.AtLeast Constant (get_or vs half 0) upper.entry lower.entry lower.code) _
+            (branch_tops test.AtLeast Constant (get_or vs half 0) a (get_or vs half 0) upper.entry lower.entry fu.value fl.value lower.code (λ s q. q.1) (λ s q. refl) (leads_on p n (search_extends k from (take half vs) hit miss upper.code) fu.leads) fl.leads);
+        right = λ t. halves_found a half from vs v w fu.value fl.value up some (omega arith)
+            (λ m. fu.right (λ _. subst (λ z. z ≤ a) (sym (first_dropped half vs)) m))
+            (λ t. fl.right (λ e. subst (λ z. z ≤ a) (sym (first_taken half vs some)) (t e)))
+            t (nat_le (get_or vs half 0) a) refl;
+      }))
 
   -- several numbers' code is entered at its top
-  search_top : (k : ℕ) (vs : List ℕ) (hit miss : ℕ) (c : List Insn) → Searchable vs → 0 ≡ length (emit_search k vs hit miss c).code - (emit_search k vs hit miss c).entry
+  run_top : (from : Bool) (vs : List ℕ) (hit miss : ℕ) (c : List Insn) → 0 ≡ length (emit_run from vs hit miss c).code - (emit_run from vs hit miss c).entry
+  run_top true vs hit miss c = omega arith
+  run_top false vs hit miss c = omega arith
+
+  search_top : (k : ℕ) (from : Bool) (vs : List ℕ) (hit miss : ℕ) (c : List Insn) → Searchable vs → 0 ≡ length (emit_search k from vs hit miss c).code - (emit_search k from vs hit miss c).entry
   unfolding emit_search
-  search_top k [] hit miss c h = absurd h
-  search_top zero (x ∷ vs) hit miss c h = omega arith
-  search_top (suc k) (x ∷ []) hit miss c h = omega arith
-  search_top (suc k) (x ∷ y ∷ vs) hit miss c h =
+  search_top k from [] hit miss c h = absurd h
+  search_top zero from (x ∷ vs) hit miss c h = omega arith
+  search_top (suc k) from (x ∷ []) hit miss c h = omega arith
+  search_top (suc k) from (x ∷ y ∷ vs) hit miss c h =
       if_case (λ (e : Block). 0 ≡ length e.code - e.entry) (nat_lt (length (x ∷ y ∷ vs)) 2) _ _
       (λ few. absurd (let no : length (x ∷ y ∷ vs) < 2 = grind (arith, nat_tests) in omega arith))
-      (λ many. omega arith)
+      (λ many. if_case (λ (e : Block). 0 ≡ length e.code - e.entry) (split (x ∷ y ∷ vs) == 0) _ _
+      (λ run. run_top from (x ∷ y ∷ vs) hit miss c)
+      (λ gap. omega arith))
 
-  search_tops : (a : ℕ) (vs : List ℕ) (hit miss v w : ℕ) (c : List Insn) → Searchable vs → Leads p n HasWords c hit v → Leads p n HasWords c miss w → Tops p n (Has a) (emit_search (most_halvings (length vs)) vs hit miss c).code (if is_one_of a vs then v else w)
+  search_tops : (a : ℕ) (vs : List ℕ) (hit miss v w : ℕ) (c : List Insn) → Searchable vs → Leads p n HasWords c hit v → Leads p n HasWords c miss w → Tops p n (Has a) (emit_search (most_halvings (length vs)) false vs hit miss c).code (if is_one_of a vs then v else w)
   search_tops a vs hit miss v w c up h m =
-      let e = emit_search (most_halvings (length vs)) vs hit miss c in
-      let l = search_leads (most_halvings (length vs)) a vs hit miss v w c (searchable_ascends vs up) (leads_in p n (λ s q. q.0) h) (leads_in p n (λ s q. q.0) m) in
-      λ s q. ap (λ k. answer_of e.code p n k s) (search_top (most_halvings (length vs)) vs hit miss c up) ∙ l.by s q
+      let e = emit_search (most_halvings (length vs)) false vs hit miss c in
+      let f = search_found (most_halvings (length vs)) a false vs hit miss v w c (searchable_ascends vs up) (leads_in p n (λ s q. q.0) h) (leads_in p n (λ s q. q.0) m) in
+      λ s q. ap (λ k. answer_of e.code p n k s) (search_top (most_halvings (length vs)) false vs hit miss c up) ∙ f.leads.by s q ∙ ap Some (f.right (λ z. cc))
 
   among_leads : (f : MaskedField) (vs : List ℕ) (hit miss v w : ℕ) (c : List Insn) → Searchable vs → Leads p n HasWords c hit v → Leads p n HasWords c miss w → Leads p n HasWords (emit_among f vs hit miss c).code (emit_among f vs hit miss c).entry (pick (among_reads f vs p) v w)
   among_leads f vs hit miss v w c up h m =
-      let e = emit_search (most_halvings (length vs)) vs hit miss c in
+      let e = emit_search (most_halvings (length vs)) false vs hit miss c in
       leads_top p n (emit_field f.offset f.width (emit_mask f.mask e.code)) (pick (among_reads f vs p) v w)
       (field_tops f.offset f.width (λ x. is_one_of (under_mask f.mask x) vs) (emit_mask f.mask e.code) v w (λ x. masked_tops f.mask e.code x _ (search_tops (under_mask f.mask x) vs hit miss v w c up h m)))
 

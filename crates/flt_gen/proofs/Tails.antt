@@ -1,6 +1,6 @@
 -- Code that grew in front still stands at its end.
-use Rattle.std.proofs.Common.{◌≡◌, ℕ, zero, suc, ◌+◌, ◌-◌, ◌/◌, ◌≤◌, List, [], ◌∷◌, length, take, drop, get_or, true, false, Option, Some, None, refl, ap, ◌∙◌, arith}
-use Rattle.std.specs.Prelude.{nat_lt}
+use Rattle.std.proofs.Common.{◌≡◌, ℕ, zero, suc, ◌+◌, ◌-◌, ◌≤◌, List, [], ◌∷◌, length, take, drop, get_or, Bool, true, false, Option, Some, None, refl, ap, ◌∙◌, arith}
+use Rattle.std.specs.Prelude.{nat_lt, ◌==◌}
 use Rattle.flt_bpf.specs.declared.insn.Insn.{Insn}
 use Rattle.flt_bpf.specs.declared.operation.Width.{Width}
 use Rattle.flt_bpf.specs.declared.operation.Test.{Test}
@@ -19,7 +19,7 @@ use Rattle.flt_emit.specs.declared.elementary.Elementary.{Elementary}
 use Rattle.flt_emit.specs.declared.elementary.Elementary.TheVariants.{Outcome, Field}
 use Rattle.flt_emit.specs.Numbers.{width_of}
 use Rattle.flt_emit.specs.Formula.{Formula, Single, Compare, Both, Either, Except, Among}
-use Rattle.flt_emit.specs.inside.Code.{plain, emit_branch, emit_comparison, emit_field, emit_mask, emit_accessor, constant, constant_operand, emit_right, emit_number, emit_relation, Block, emit_chain, emit_search, most_halvings, emit_elementary, emit_formula}
+use Rattle.flt_emit.specs.inside.Code.{plain, emit_branch, emit_comparison, emit_field, emit_mask, emit_accessor, constant, constant_operand, emit_right, emit_number, emit_relation, Block, emit_range, emit_chain, split, emit_search, most_halvings, emit_elementary, emit_formula}
 use Rattle.flt_bpf.specs.declared.operation.Operation.TheVariants.{Store}
 use Rattle.flt_bpf.specs.declared.operation.Register.TheVariants.{Accumulator}
 use Rattle.flt_gen.proofs.Ascending.{if_case}
@@ -50,7 +50,7 @@ extends_on a b =
 extends_one : (c : List Insn) (i : Insn) → Extends c (i ∷ c)
 extends_one c i = extends_put c c i (extends_none c)
 
-branch_extends : (t : Test) (operand : Operand) (k hit miss : ℕ) (c : List Insn) → Extends c (emit_branch t operand k hit miss c)
+pub branch_extends : (t : Test) (operand : Operand) (k hit miss : ℕ) (c : List Insn) → Extends c (emit_branch t operand k hit miss c)
 branch_extends t operand k hit miss c = extends_one c _
 
 field_extends : (place : Offset) (width : Width) (c d : List Insn) → Extends c d → Extends c (emit_field place width d)
@@ -102,16 +102,23 @@ pub chain_extends : (vs : List ℕ) (hit miss : ℕ) (c : List Insn) → Extends
 chain_extends [] hit miss c = extends_none c
 chain_extends (v ∷ vs) hit miss c = extends_put c _ _ (chain_extends vs hit miss c)
 
-pub search_extends : (k : ℕ) (vs : List ℕ) (hit miss : ℕ) (c : List Insn) → Extends c (emit_search k vs hit miss c).code
+pub range_extends : (from : Bool) (low high hit miss : ℕ) (c : List Insn) → Extends c (emit_range from low high hit miss c).code
+range_extends true low high hit miss c = branch_extends test.Greater Constant high miss hit c
+range_extends false low high hit miss c =
+    extends_on (branch_extends test.Greater Constant high miss hit c) (branch_extends test.AtLeast Constant low _ miss (emit_branch test.Greater Constant high miss hit c))
+
+pub search_extends : (k : ℕ) (from : Bool) (vs : List ℕ) (hit miss : ℕ) (c : List Insn) → Extends c (emit_search k from vs hit miss c).code
 unfolding emit_search
-search_extends zero vs hit miss c = chain_extends vs hit miss c
-search_extends (suc k) vs hit miss c =
-    let h = length vs / 2 in
-    let upper = emit_search k (drop h vs) hit miss c in
-    let lower = emit_search k (take h vs) hit miss upper.code in
+search_extends zero from vs hit miss c = chain_extends vs hit miss c
+search_extends (suc k) from vs hit miss c =
+    let h = split vs in
+    let upper = emit_search k true (drop h vs) hit miss c in
+    let lower = emit_search k from (take h vs) hit miss upper.code in
     if_case (λ (e : Block). Extends c e.code) (nat_lt (length vs) 2) _ _
     (λ e. chain_extends vs hit miss c)
-    (λ e. extends_on (extends_on (search_extends k (drop h vs) hit miss c) (search_extends k (take h vs) hit miss upper.code)) (branch_extends test.AtLeast Constant (get_or vs h 0) upper.entry lower.entry lower.code))
+    (λ e. if_case (λ (e : Block). Extends c e.code) (h == 0) _ _
+    (λ e. range_extends from (get_or vs 0 0) (get_or vs (length vs - 1) 0) hit miss c)
+    (λ e. extends_on (extends_on (search_extends k true (drop h vs) hit miss c) (search_extends k from (take h vs) hit miss upper.code)) (branch_extends test.AtLeast Constant (get_or vs h 0) upper.entry lower.entry lower.code)))
 
 pub emitted_extends : (link : Link) (f : Formula) (hit miss : ℕ) (c : List Insn) → Extends c (emit_formula link f hit miss c).code
 emitted_extends link (Single t) hit miss c = elementary_extends t hit miss c
@@ -121,4 +128,4 @@ emitted_extends link (Both a b) hit miss c =
 emitted_extends link (Either a b) hit miss c =
     let e = emit_formula link b hit miss c in extends_on (emitted_extends link b hit miss c) (emitted_extends link a hit e.entry e.code)
 emitted_extends link (Except a) hit miss c = emitted_extends link a miss hit c
-emitted_extends link (Among f vs) hit miss c = field_extends f.offset f.width c _ (mask_extends f.mask c _ (search_extends (most_halvings (length vs)) vs hit miss c))
+emitted_extends link (Among f vs) hit miss c = field_extends f.offset f.width c _ (mask_extends f.mask c _ (search_extends (most_halvings (length vs)) false vs hit miss c))

@@ -1,5 +1,5 @@
 -- The code of a formula, which is emitted in front of the code that is there.
-use Rattle.std.specs.Prelude.{ℕ, zero, suc, ◌+◌, ◌-◌, ◌/◌, true, false, nat_lt, ◌==◌, not, if◌then◌else◌, Bool, List, [], ◌∷◌, length, take, drop, get_or, Option, Some, None}
+use Rattle.std.specs.Prelude.{ℕ, zero, suc, ◌+◌, ◌-◌, ◌/◌, true, false, nat_lt, ◌==◌, ◌&&◌, ◌||◌, not, if◌then◌else◌, Bool, List, [], ◌∷◌, length, take, drop, get_or, Option, Some, None}
 use Rattle.flt_bpf.specs.declared.insn.Insn.{Insn}
 use Rattle.flt_bpf.specs.declared.operation.Width.{Width}
 use Rattle.flt_bpf.specs.declared.operation.Test.{Test}
@@ -196,24 +196,52 @@ abbrev pub emit_halves : ℕ → Block → ℕ → Block
 emit_halves pivot lower upper =
     at_top (emit_branch test.AtLeast Constant pivot upper lower.entry lower.code)
 
--- whether A is one of some numbers, which ascend: halved this often at most, and then one after the
--- other
-unfoldable pub emit_search : ℕ → List ℕ → ℕ → ℕ → List Insn → Block
-emit_search zero vs hit miss c = emit_chain vs hit miss c
-emit_search (suc k) vs hit miss c =
-    if nat_lt (length vs) 2 then emit_chain vs hit miss c else
-    (let upper = emit_search k (drop (length vs / 2) vs) hit miss c in
-    emit_halves (get_or vs (length vs / 2) 0)
-    (emit_search k (take (length vs / 2) vs) hit miss upper.code) upper.entry)
+-- the number after an index is more than one above the number at it
+abbrev pub is_gap : List ℕ → ℕ → Bool
+is_gap vs at = nat_lt 1 (get_or vs (suc at) 0 - get_or vs at 0)
 
--- how often numbers are halved at most: two alone aren't, since that would be one more test
+-- where numbers are parted: after the last gap at an index below `at` that leaves at most m numbers
+-- in front, or else after the first one, or else at 0
+abbrev pub split_below : ℕ → List ℕ → ℕ → ℕ
+split_below m vs zero = 0
+split_below m vs (suc at) =
+    if is_gap vs at && (nat_lt at m || split_below m vs at == 0) then suc at
+    else split_below m vs at
+
+-- the index at which numbers are parted, after a gap; 0 if there is none
+unfoldable pub split : List ℕ → ℕ
+split vs = split_below (length vs / 2) vs (length vs - 1)
+
+-- whether A is from `low` to `high`, where it may be known to be no lower
+abbrev pub emit_range : Bool → ℕ → ℕ → ℕ → ℕ → List Insn → Block
+emit_range is_above low high hit miss c =
+    let e = at_top (emit_branch test.Greater Constant high miss hit c) in
+    if is_above then e else at_top (emit_branch test.AtLeast Constant low e.entry miss e.code)
+
+-- whether A is one of some numbers, which follow one another without a gap
+abbrev pub emit_run : Bool → List ℕ → ℕ → ℕ → List Insn → Block
+emit_run is_above vs hit miss c =
+    emit_range is_above (get_or vs 0 0) (get_or vs (length vs - 1) 0) hit miss c
+
+-- whether A is one of some numbers, which ascend: parted this often at most, and then one after the
+-- other. It may be known that A is no less than the first one
+unfoldable pub emit_search : ℕ → Bool → List ℕ → ℕ → ℕ → List Insn → Block
+emit_search zero is_above vs hit miss c = emit_chain vs hit miss c
+emit_search (suc k) is_above vs hit miss c =
+    if nat_lt (length vs) 2 then emit_chain vs hit miss c else
+    (if split vs == 0 then emit_run is_above vs hit miss c else
+    (let upper = emit_search k true (drop (split vs) vs) hit miss c in
+    emit_halves (get_or vs (split vs) 0)
+    (emit_search k is_above (take (split vs) vs) hit miss upper.code) upper.entry))
+
+-- how often numbers are parted at most: two alone aren't, since that would be one more test
 abbrev pub most_halvings : ℕ → ℕ
 most_halvings count = if nat_lt count 3 then 0 else 16
 
 -- whether a field is one of some numbers, of which there is one at least
 abbrev pub emit_among : MaskedField → List ℕ → ℕ → ℕ → List Insn → Block
 emit_among f vs hit miss c =
-    at_top (emit_field f.offset f.width (emit_mask f.mask (emit_search (most_halvings (length vs)) vs hit miss c).code))
+    at_top (emit_field f.offset f.width (emit_mask f.mask (emit_search (most_halvings (length vs)) false vs hit miss c).code))
 
 -- the code of a formula that goes on at one of two places
 abbrev pub emit_formula : Link → Formula → ℕ → ℕ → List Insn → Block
