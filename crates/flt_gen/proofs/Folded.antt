@@ -1,7 +1,8 @@
 -- An expression with its arithmetic of numbers folded means the same, and counts no more.
-use Rattle.std.proofs.Common.{◌≡◌, ℕ, ◌+◌, ◌%◌, ◌^◌, ◌≤◌, List, [], ◌∷◌, false, Option, Some, None, refl, sym, ap, ◌∙◌, arith, fold}
+use Rattle.std.proofs.Common.{◌≡◌, ℕ, Bool, true, ◌+◌, ◌%◌, ◌^◌, ◌≤◌, List, [], ◌∷◌, false, Option, Some, None, refl, sym, ap, ◌∙◌, arith, fold}
 use Rattle.std.specs.Prelude.{◌||◌}
 use Rattle.flt_words.specs.declared.token.Operator.{Operator}
+use Rattle.flt_words.specs.declared.token.Join.{Join}
 use Rattle.flt_words.specs.declared.token.Join.TheVariants as join
 use Rattle.flt_words.specs.declared.token.Comparison.{Comparison}
 use Rattle.flt_words.specs.declared.token.Protocol.{Protocol}
@@ -14,15 +15,16 @@ use Rattle.flt_ast.specs.Nodes.{number_nodes, truth_nodes, expr_nodes}
 use Rattle.flt_ast.specs.inside.Nodes.{number_onto, truth_onto, expr_onto}
 use Rattle.flt_ast.specs.Resolved.{is_unfilled, any_primitive, some_primitive}
 use Rattle.cap_octet.specs.declared.link.Link.{Link}
-use Rattle.flt_emit.specs.Elementary.{with, reading_of, compares, elementary_reads}
+use Rattle.flt_emit.specs.Elementary.{MatchResult, Yes, No, Rejected, with, reading_of, compares, elementary_reads}
 use Rattle.flt_emit.specs.Numbers.{width_of, base, number, result_of, accessors, accessor_tests}
 use Rattle.flt_emit.specs.Formula.{Formula, Compare, both, either, negation, reads, relation_reads, guarded_formula, checked_formula}
 use Rattle.flt_emit.specs.declared.elementary.Elementary.{Elementary}
 use Rattle.flt_emit.specs.inside.Code.{constant}
 use Rattle.flt_gen.specs.Reading.{formula, holds}
 use Rattle.flt_gen.specs.Counts.{short_bound_of}
-use Rattle.flt_gen.specs.inside.Folding.{negated_constant, applied_constant, number_or, negated_number, applied_number, folded_number, folded_truth, folded_expression, latest_constant, node_or, with_negation, with_operator, with_folded}
+use Rattle.flt_gen.specs.inside.Folding.{negated_constant, applied_constant, number_or, negated_number, applied_number, folded_number, and_denied, joined_truth, folded_truth, folded_expression, latest_constant, node_or, with_negation, with_operator, Held, with_held, with_folded}
 use Rattle.flt_gen.proofs.Numbers.{constant_is}
+use Rattle.flt_gen.proofs.Held.{held_truth, none_held, back_truth}
 
 -- by what is folded
 by_fold : (P : NumberTree → Type 0) (o : Option ℕ) (a : NumberTree) → ((k : ℕ) → o ≡ Some k → P (literal k)) → P a → P (number_or o a)
@@ -90,6 +92,15 @@ record NoMore (a b : TruthTree) : Type 0 where
   words : truth_words a ≤ truth_words b
   tests : truth_tests a ≤ truth_tests b
 
+denied_no_more : (a b : TruthTree) → NoMore (and_denied a b) (joined join.And a (denied b))
+denied_no_more (denied a) b = record { size = omega arith; words = omega arith; tests = omega arith }
+denied_no_more (joined join.And x (denied a)) b = record { size = omega arith; words = omega arith; tests = omega arith }
+denied_no_more a b = record { size = omega arith; words = omega arith; tests = omega arith }
+
+joined_no_more : (j : Join) (a b : TruthTree) → NoMore (joined_truth j a b) (joined j a b)
+joined_no_more join.And a (denied b) = denied_no_more a b
+joined_no_more _ a b = record { size = omega arith; words = omega arith; tests = omega arith }
+
 no_more : (a : TruthTree) → NoMore (folded_truth a) a
 no_more (compared c a b) =
     let h = number_fewer a in
@@ -99,7 +110,8 @@ no_more (denied a) = let h = no_more a in record { size = h.size; words = h.word
 no_more (joined j a b) =
     let h = no_more a in
     let g = no_more b in
-    record { size = omega (arith, h.size, g.size); words = omega (arith, h.words, g.words); tests = omega (arith, h.tests, g.tests) }
+    let k = joined_no_more j (folded_truth a) (folded_truth b) in
+    record { size = omega (arith, h.size, g.size, k.size); words = omega (arith, h.words, g.words, k.words); tests = omega (arith, h.tests, g.tests, k.tests) }
 no_more _ = record { size = omega arith; words = omega arith; tests = omega arith }
 
 pub words_no_more : (e : Expression) → words_of (folded_expression e) ≤ words_of e
@@ -114,9 +126,22 @@ pub short_no_more : (e : Expression) → short_bound_of (folded_expression e) �
 short_no_more empty = omega arith
 short_no_more (truth a) = let h = no_more a in let s = h.size in let t = h.tests in omega arith
 
+or_assoc : (a b c : Bool) → (a || (b || c)) ≡ ((a || b) || c)
+or_assoc true b c = refl
+or_assoc false b c = refl
+
+filled_denied : (a b : TruthTree) → any_primitive is_unfilled (and_denied a b) ≡ (any_primitive is_unfilled a || any_primitive is_unfilled b)
+filled_denied (denied a) b = refl
+filled_denied (joined join.And x (denied a)) b = or_assoc (any_primitive is_unfilled x) (any_primitive is_unfilled a) (any_primitive is_unfilled b)
+filled_denied a b = refl
+
+filled_joined : (j : Join) (a b : TruthTree) → any_primitive is_unfilled (joined_truth j a b) ≡ any_primitive is_unfilled (joined j a b)
+filled_joined join.And a (denied b) = filled_denied a b
+filled_joined _ a b = refl
+
 filled_truth : (a : TruthTree) → any_primitive is_unfilled (folded_truth a) ≡ any_primitive is_unfilled a
 filled_truth (denied a) = filled_truth a
-filled_truth (joined j a b) = ap (λ x. x || any_primitive is_unfilled (folded_truth b)) (filled_truth a) ∙ ap (λ x. any_primitive is_unfilled a || x) (filled_truth b)
+filled_truth (joined j a b) = filled_joined j (folded_truth a) (folded_truth b) ∙ ap (λ x. x || any_primitive is_unfilled (folded_truth b)) (filled_truth a) ∙ ap (λ x. any_primitive is_unfilled a || x) (filled_truth b)
 filled_truth _ = refl
 
 pub filled_folded : (e : Expression) → some_primitive is_unfilled e ≡ false → some_primitive is_unfilled (folded_expression e) ≡ false
@@ -124,6 +149,16 @@ filled_folded empty h = h
 filled_folded (truth a) h = filled_truth a ∙ h
 
 -- ---- it means the same
+
+denied_both : (r q : MatchResult) → negation (either r q) ≡ both (negation r) (negation q)
+denied_both Yes q = refl
+denied_both No q = refl
+denied_both Rejected q = refl
+
+both_assoc : (r q t : MatchResult) → both r (both q t) ≡ both (both r q) t
+both_assoc Yes q t = refl
+both_assoc No q t = refl
+both_assoc Rejected q t = refl
 
 module _ (p : List ℕ) (n : ℕ) where
   negated_is : (link : Link) (a : NumberTree) (u : Option ℕ) → constant a ≡ u → (k : ℕ) → negated_constant u ≡ Some k → number link (negated a) p n ≡ Some k
@@ -169,13 +204,24 @@ module _ (p : List ℕ) (n : ℕ) where
   checked_same link [] f g h = h
   checked_same link (q ∷ qs) f g h = guarded_same link (accessor_tests link q) (checked_formula link qs f) (checked_formula link qs g) (checked_same link qs f g h)
 
+  denied_same : (link : Link) (a b : TruthTree) → reads link (formula link (and_denied a b)) p n ≡ reads link (formula link (joined join.And a (denied b))) p n
+  denied_same link (denied a) b = denied_both (reads link (formula link a) p n) (reads link (formula link b) p n)
+  denied_same link (joined join.And x (denied a)) b =
+      ap (λ r. both (reads link (formula link x) p n) r) (denied_both (reads link (formula link a) p n) (reads link (formula link b) p n))
+      ∙ both_assoc (reads link (formula link x) p n) (negation (reads link (formula link a) p n)) (negation (reads link (formula link b) p n))
+  denied_same link a b = refl
+
+  joined_same : (link : Link) (j : Join) (a b : TruthTree) → reads link (formula link (joined_truth j a b)) p n ≡ reads link (formula link (joined j a b)) p n
+  joined_same link join.And a (denied b) = denied_same link a b
+  joined_same link _ a b = refl
+
   truth_folded : (link : Link) (a : TruthTree) → reads link (formula link (folded_truth a)) p n ≡ reads link (formula link a) p n
   truth_folded link (compared c a b) =
       ap (λ ps. reads link (checked_formula link ps (Compare c (folded_number a) (folded_number b))) p n)
       (accessors_folded a (accessors (folded_number b) []) ∙ ap (accessors a) (accessors_folded b []))
       ∙ checked_same link (accessors a (accessors b [])) (Compare c (folded_number a) (folded_number b)) (Compare c a b) (relation_folded link c a b)
   truth_folded link (denied a) = ap negation (truth_folded link a)
-  truth_folded link (joined join.And a b) = ap (λ r. both r (reads link (formula link (folded_truth b)) p n)) (truth_folded link a) ∙ ap (λ r. both (reads link (formula link a) p n) r) (truth_folded link b)
+  truth_folded link (joined join.And a b) = joined_same link join.And (folded_truth a) (folded_truth b) ∙ ap (λ r. both r (reads link (formula link (folded_truth b)) p n)) (truth_folded link a) ∙ ap (λ r. both (reads link (formula link a) p n) r) (truth_folded link b)
   truth_folded link (joined join.Or a b) = ap (λ r. either r (reads link (formula link (folded_truth b)) p n)) (truth_folded link a) ∙ ap (λ r. either (reads link (formula link a) p n) r) (truth_folded link b)
   truth_folded link _ = refl
 
@@ -210,10 +256,21 @@ number_put (negated a) d rest = number_put a d _ ∙ ap (λ c. fold with_folded 
 number_put (applied o a b) d rest = number_put a d _ ∙ number_put b _ _ ∙ ap (λ c. fold with_folded c rest) (with_applied o (folded_number b) (folded_number a) d)
 number_put _ d rest = refl
 
+join_put : (j : Join) (b a : TruthTree) (d : List Node) → with_folded (truth_onto b (truth_onto a d)) (node.Join j) ≡ truth_onto (joined_truth j a b) d
+join_put join.Or b a d = refl
+join_put join.And (denied b) a d =
+    ap (λ (h : Held). with_held h.held h.rest) (held_truth b 0 [] (truth_onto a d) ∙ none_held (truth_nodes b []) (truth_onto a d)) ∙ after b a d
+  where
+    after : (b a : TruthTree) (d : List Node) → with_held (truth_nodes b []) (truth_onto a d) ≡ truth_onto (joined_truth join.And a (denied b)) d
+    after b (denied a) d = ap (λ ns. node.Not ∷ node.Join join.Or ∷ ns) (back_truth b [] (truth_onto a d))
+    after b (joined join.And x (denied a)) d = ap (λ ns. node.Join join.And ∷ node.Not ∷ node.Join join.Or ∷ ns) (back_truth b [] (truth_onto a (truth_onto x d)))
+    after b a d = ap (λ ns. node.Join join.And ∷ node.Not ∷ ns) (back_truth b [] (truth_onto a d))
+join_put join.And b a d = refl
+
 truth_put : (a : TruthTree) (d rest : List Node) → fold with_folded d (truth_nodes a rest) ≡ fold with_folded (truth_onto (folded_truth a) d) rest
 truth_put (compared c a b) d rest = number_put a d _ ∙ number_put b _ _
 truth_put (denied a) d rest = truth_put a d _
-truth_put (joined j a b) d rest = truth_put a d _ ∙ truth_put b _ _
+truth_put (joined j a b) d rest = truth_put a d _ ∙ truth_put b _ _ ∙ ap (λ c. fold with_folded c rest) (join_put j (folded_truth b) (folded_truth a) d)
 truth_put _ d rest = refl
 
 pub nodes_folded : (e : Expression) → fold with_folded [] (expr_nodes e) ≡ expr_onto (folded_expression e)

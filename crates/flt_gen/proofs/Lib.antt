@@ -6,6 +6,7 @@ pub mod Exclusive
 pub mod NetworkKinds
 pub mod Numbers
 pub mod Folded
+pub mod Held
 pub mod Runs
 pub mod Grows
 pub mod Accessors

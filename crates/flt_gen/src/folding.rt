@@ -1,15 +1,18 @@
 //! Arithmetic of numbers alone becomes one number before code is emitted for it, but for what
-//! divides by 0.
+//! divides by 0; and negations between `and` become one of what is between `or`, which is looked for
+//! together.
 
 ghost use Rattle.std.specs.Prelude.{◌≡◌, [], fold, reverse, OnOk, IfOk};
+ghost use Rattle.std.specs.Option.{IfSome};
 ghost use Rattle.flt_gen.specs.inside.Folding.{node_constant, applied_constant, with_negation};
 ghost use Rattle.flt_gen.specs.inside.Folding.{with_operator, with_folded};
+ghost use Rattle.flt_gen.specs.inside.Folding.{and_operands, hold, put_back, with_held, with_conjunction};
 
 use crate::number::alu_operation;
 use crate::stack::Stack;
 use flt_ast::Node;
 use flt_bpf::compute;
-use flt_words::Operator;
+use flt_words::{Join, Operator};
 use std::alloc::{AllocError, Allocator};
 
 /// The number that a node is, or `None` for other nodes.
@@ -77,27 +80,142 @@ fn push_operator<A: Allocator>(
     }
 }
 
+/// How many trees are needed where so many are, and the operands of a node. `None`: too many.
+#[tactic(auto, using(crate::proofs::Held::one_more, crate::proofs::Held::two_more))]
+fn and_operands(node: Node, need: usize) -> Option<usize>
+    ensures { IfSome result (λ all. all ≡ and_operands node need) }
+{
+    match node {
+        Node::Join(_) | Node::Compare(_) | Node::Apply(_) => need.checked_add(2),
+        Node::Not | Node::Negate | Node::Load(_, _) => need.checked_add(1),
+        _ => Some(need),
+    }
+}
+
+/// Moves the latest tree out of the nodes; what was held before goes. An error is a failed
+/// allocation, or that too many operands are looked for.
+fn hold_latest<A: Allocator>(
+    nodes: &mut Stack<Node, A>,
+    held: &mut Stack<Node, A>,
+) -> Result<(), AllocError>
+    ensures { OnOk result
+        (hold 1 [] nodes.old ≡ record { held = held.new; rest = nodes.new }) }
+{
+    held.clear();
+    let mut need: usize = 1;
+    // The label names the loop in its proof.
+    'nodes: while need > 0 {
+        let Some(node) = nodes.pop() else {
+            return Ok(());
+        };
+        let Some(more) = and_operands(node, need - 1) else {
+            return Err(AllocError);
+        };
+        held.push(node)?;
+        need = more;
+    }
+    Ok(())
+}
+
+/// Puts nodes back that are held.
+fn put_back<A: Allocator>(
+    nodes: &mut Stack<Node, A>,
+    held: &mut Stack<Node, A>,
+) -> Result<(), AllocError>
+    ensures { OnOk result (nodes.new ≡ put_back held.old nodes.old) }
+{
+    // The label names the loop in its proof.
+    'held: while let Some(node) = held.pop() {
+        nodes.push(node)?;
+    }
+    Ok(())
+}
+
+/// Pushes `and` after a negation, of which what is denied is held: if its left operand is a
+/// negation too, or is joined with one by `and`, both are one negation of what is joined by `or`.
+fn push_after_negation<A: Allocator>(
+    nodes: &mut Stack<Node, A>,
+    held: &mut Stack<Node, A>,
+) -> Result<(), AllocError>
+    ensures { OnOk result (nodes.new ≡ with_held held.old nodes.old) }
+{
+    let latest = nodes.pop();
+    if let Some(Node::Not) = latest {
+        put_back(nodes, held)?;
+        nodes.push(Node::Join(Join::Or))?;
+        return nodes.push(Node::Not);
+    }
+    if let Some(Node::Join(Join::And)) = latest {
+        let before = nodes.pop();
+        if let Some(Node::Not) = before {
+            put_back(nodes, held)?;
+            nodes.push(Node::Join(Join::Or))?;
+            nodes.push(Node::Not)?;
+            return nodes.push(Node::Join(Join::And));
+        }
+        if let Some(before) = before {
+            nodes.push(before)?;
+        }
+    }
+    if let Some(latest) = latest {
+        nodes.push(latest)?;
+    }
+    put_back(nodes, held)?;
+    nodes.push(Node::Not)?;
+    nodes.push(Node::Join(Join::And))
+}
+
+/// Pushes `and`; if the latest node, which then is its right operand's, is a negation, it may become
+/// one with another.
+fn push_conjunction<A: Allocator>(
+    nodes: &mut Stack<Node, A>,
+    held: &mut Stack<Node, A>,
+) -> Result<(), AllocError>
+    ensures { OnOk result (nodes.new ≡ with_conjunction nodes.old) }
+{
+    match nodes.pop() {
+        None => nodes.push(Node::Join(Join::And)),
+        Some(Node::Not) => {
+            hold_latest(nodes, held)?;
+            push_after_negation(nodes, held)
+        }
+        Some(latest) => {
+            nodes.push(latest)?;
+            nodes.push(Node::Join(Join::And))
+        }
+    }
+}
+
 /// Pushes one more node of a tree, after its operands; arithmetic of numbers alone becomes one
-/// number.
-fn push_folded<A: Allocator>(nodes: &mut Stack<Node, A>, node: Node) -> Result<(), AllocError>
+/// number, and negations between `and` become one. What `held` has is of no use.
+fn push_folded<A: Allocator>(
+    nodes: &mut Stack<Node, A>,
+    held: &mut Stack<Node, A>,
+    node: Node,
+) -> Result<(), AllocError>
     ensures { OnOk result (nodes.new ≡ with_folded nodes.old node) }
 {
     match node {
+        Node::Join(Join::And) => push_conjunction(nodes, held),
         Node::Negate => push_negation(nodes),
         Node::Apply(operator) => push_operator(nodes, operator),
         _ => nodes.push(node),
     }
 }
 
-/// The nodes of a tree, in which arithmetic of numbers alone becomes one number. An error is a
-/// failed allocation.
-pub fn folded_nodes<A: Allocator>(alloc: A, nodes: &[Node]) -> Result<Vec<Node, A>, AllocError>
+/// The nodes of a tree, in which arithmetic of numbers alone becomes one number, and `not a and not
+/// b` becomes `not (a or b)`. An error is a failed allocation, or an allocator that cannot be cloned.
+pub fn folded_nodes<A: Allocator + Clone>(
+    alloc: A,
+    nodes: &[Node],
+) -> Result<Vec<Node, A>, AllocError>
     ensures { IfOk result
         (λ folded. reverse folded.items ≡ fold with_folded [] nodes.now) }
 {
-    let mut folded = Stack::new(alloc);
+    let mut folded = Stack::new(alloc.clone()?);
+    let mut held = Stack::new(alloc);
     for &node in nodes {
-        push_folded(&mut folded, node)?;
+        push_folded(&mut folded, &mut held, node)?;
     }
     Ok(folded.into_vec())
 }

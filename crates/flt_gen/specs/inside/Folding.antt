@@ -1,6 +1,8 @@
 -- Arithmetic of numbers alone is one number, where it has a value.
-use Rattle.std.specs.Prelude.{ℕ, ◌-◌, ◌%◌, ◌^◌, List, [], ◌∷◌, Option, Some, None}
+use Rattle.std.specs.Prelude.{ℕ, zero, suc, ◌-◌, ◌%◌, ◌^◌, List, [], ◌∷◌, Option, Some, None}
 use Rattle.flt_words.specs.declared.token.Operator.{Operator}
+use Rattle.flt_words.specs.declared.token.Join.{Join}
+use Rattle.flt_words.specs.declared.token.Join.TheVariants.{And, Or}
 use Rattle.flt_ast.specs.declared.node.Node.{Node}
 use Rattle.flt_ast.specs.declared.node.Node.TheVariants as node
 use Rattle.flt_ast.specs.Tree.{NumberTree, literal, load, negated, applied, TruthTree, compared, denied, joined, Expression, empty, truth}
@@ -39,11 +41,23 @@ folded_number (negated a) = negated_number (folded_number a)
 folded_number (applied operator a b) = applied_number operator (folded_number a) (folded_number b)
 folded_number a = a
 
--- a truth in whose arithmetic each part of numbers alone is one number, if it has a value
+-- `a and not b`: where a is a negation, or one follows in it after `and`, it is one of both by `or`
+abbrev pub and_denied : TruthTree → TruthTree → TruthTree
+and_denied (denied a) b = denied (joined Or a b)
+and_denied (joined And x (denied a)) b = joined And x (denied (joined Or a b))
+and_denied a b = joined And a (denied b)
+
+-- two truths joined, where negations between `and` are one
+abbrev pub joined_truth : Join → TruthTree → TruthTree → TruthTree
+joined_truth And a (denied b) = and_denied a b
+joined_truth j a b = joined j a b
+
+-- a truth in whose arithmetic each part of numbers alone is one number, if it has a value, and in
+-- which negations between `and` are one
 abbrev pub folded_truth : TruthTree → TruthTree
 folded_truth (compared c a b) = compared c (folded_number a) (folded_number b)
 folded_truth (denied a) = denied (folded_truth a)
-folded_truth (joined j a b) = joined j (folded_truth a) (folded_truth b)
+folded_truth (joined j a b) = joined_truth j (folded_truth a) (folded_truth b)
 folded_truth a = a
 
 -- the expression of which code is emitted
@@ -84,9 +98,48 @@ with_operator operator ns =
     node_or (applied_constant operator (latest_constant (earlier ns)) (latest_constant ns))
     (earlier (earlier ns)) (node.Apply operator ∷ ns)
 
+-- as many trees are needed, and the operands of a node
+abbrev pub and_operands : Node → ℕ → ℕ
+and_operands (node.Join j) need = suc (suc need)
+and_operands (node.Compare c) need = suc (suc need)
+and_operands (node.Apply o) need = suc (suc need)
+and_operands node.Not need = suc need
+and_operands node.Negate need = suc need
+and_operands (node.Load p s) need = suc need
+and_operands n need = need
+
+-- nodes that are held, the earliest first, and those that were written before them
+pub record Held : Type 0 where
+  pub held : List Node
+  pub rest : List Node
+
+-- the latest nodes are held, as many trees as are needed
+abbrev pub hold : ℕ → List Node → List Node → Held
+hold need held [] = record { held = held; rest = [] }
+hold zero held (n ∷ ns) = record { held = held; rest = n ∷ ns }
+hold (suc need) held (n ∷ ns) = hold (and_operands n need) (n ∷ held) ns
+
+-- what was held is put back
+abbrev pub put_back : List Node → List Node → List Node
+put_back [] ns = ns
+put_back (h ∷ held) ns = put_back held (h ∷ ns)
+
+-- `and` comes after a negation, of which what is denied is held
+abbrev pub with_held : List Node → List Node → List Node
+with_held held (node.Not ∷ ns) = node.Not ∷ node.Join Or ∷ put_back held ns
+with_held held (node.Join And ∷ node.Not ∷ ns) =
+    node.Join And ∷ node.Not ∷ node.Join Or ∷ put_back held ns
+with_held held ns = node.Join And ∷ node.Not ∷ put_back held ns
+
+-- `and` comes
+abbrev pub with_conjunction : List Node → List Node
+with_conjunction (node.Not ∷ ns) = let h = hold 1 [] ns in with_held h.held h.rest
+with_conjunction ns = node.Join And ∷ ns
+
 -- one more node, after its operands; arithmetic of numbers alone becomes one number, if it has a
 -- value
 abbrev pub with_folded : List Node → Node → List Node
 with_folded ns node.Negate = with_negation ns
 with_folded ns (node.Apply operator) = with_operator operator ns
+with_folded ns (node.Join And) = with_conjunction ns
 with_folded ns n = n ∷ ns

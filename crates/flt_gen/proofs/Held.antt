@@ -1,0 +1,49 @@
+-- The nodes of a tree that are held, and put back.
+use Rattle.std.proofs.Common.{◌≡◌, ℕ, zero, suc, ◌+◌, ◌-◌, ◌<◌, List, [], ◌∷◌, refl, ap, ◌∙◌, arith}
+use Rattle.flt_ast.specs.declared.node.Node.{Node}
+use Rattle.flt_ast.specs.declared.node.Node.TheVariants as node
+use Rattle.flt_ast.specs.Tree.{NumberTree, load, negated, applied, TruthTree, compared, denied, joined}
+use Rattle.flt_ast.specs.Nodes.{number_nodes, truth_nodes}
+use Rattle.flt_ast.specs.inside.Nodes.{number_onto, truth_onto}
+use Rattle.flt_gen.specs.inside.Folding.{and_operands, hold, put_back}
+
+pub one_more : (need : ℕ) → need + 1 ≡ suc need
+one_more need = omega arith
+
+pub two_more : (need : ℕ) → need + 2 ≡ suc (suc need)
+two_more need = omega arith
+
+pub none_held : (held ns : List Node) → hold 0 held ns ≡ record { held = held; rest = ns }
+none_held held [] = refl
+none_held held (n ∷ ns) = refl
+
+pub hold_step : (need : ℕ) (held : List Node) (n : Node) (ns : List Node) → 0 < need → hold need held (n ∷ ns) ≡ hold (and_operands n (need - 1)) (n ∷ held) ns
+hold_step zero held n ns l = absurd (omega arith)
+hold_step (suc need) held n ns l = let same : need ≡ suc need - 1 = omega arith in ap (λ k. hold (and_operands n k) (n ∷ held) ns) same
+
+held_number : (a : NumberTree) (need : ℕ) (held d : List Node) → hold (suc need) held (number_onto a d) ≡ hold need (number_nodes a held) d
+held_number (load p s a) need held d = held_number a need (node.Load p s ∷ held) d
+held_number (negated a) need held d = held_number a need (node.Negate ∷ held) d
+held_number (applied o a b) need held d =
+    held_number b (suc need) (node.Apply o ∷ held) (number_onto a d) ∙ held_number a need (number_nodes b (node.Apply o ∷ held)) d
+held_number _ need held d = refl
+
+pub held_truth : (a : TruthTree) (need : ℕ) (held d : List Node) → hold (suc need) held (truth_onto a d) ≡ hold need (truth_nodes a held) d
+held_truth (compared c a b) need held d =
+    held_number b (suc need) (node.Compare c ∷ held) (number_onto a d) ∙ held_number a need (number_nodes b (node.Compare c ∷ held)) d
+held_truth (denied a) need held d = held_truth a need (node.Not ∷ held) d
+held_truth (joined j a b) need held d =
+    held_truth b (suc need) (node.Join j ∷ held) (truth_onto a d) ∙ held_truth a need (truth_nodes b (node.Join j ∷ held)) d
+held_truth _ need held d = refl
+
+back_number : (a : NumberTree) (held ns : List Node) → put_back (number_nodes a held) ns ≡ put_back held (number_onto a ns)
+back_number (load p s a) held ns = back_number a (node.Load p s ∷ held) ns
+back_number (negated a) held ns = back_number a (node.Negate ∷ held) ns
+back_number (applied o a b) held ns = back_number a (number_nodes b (node.Apply o ∷ held)) ns ∙ back_number b (node.Apply o ∷ held) (number_onto a ns)
+back_number _ held ns = refl
+
+pub back_truth : (a : TruthTree) (held ns : List Node) → put_back (truth_nodes a held) ns ≡ put_back held (truth_onto a ns)
+back_truth (compared c a b) held ns = back_number a (number_nodes b (node.Compare c ∷ held)) ns ∙ back_number b (node.Compare c ∷ held) (number_onto a ns)
+back_truth (denied a) held ns = back_truth a (node.Not ∷ held) ns
+back_truth (joined j a b) held ns = back_truth a (truth_nodes b (node.Join j ∷ held)) ns ∙ back_truth b (node.Join j ∷ held) (truth_onto a ns)
+back_truth _ held ns = refl
