@@ -49,12 +49,12 @@ PREPARED = ["IsPolicy None", "IsWhyRefused None"]
 COMMANDS = {"edit": [], "print": PREPARED, "merge": [], "infos": [], "compile": PREPARED}
 # Crates whose public functions are for other crates here.
 BETWEEN = {
-    "capkit_args", "cap_inputs", "cap_process", "flt_emit", "flt_lay", "flt_opt", "flt_passes", "flt_short",
+    "capkit_args", "cap_inputs", "cap_process", "flt_emit", "flt_lay", "flt_short",
     "flt_ast",
 }
 # What the pages promise of these.
 PROMISED = {
-    "flt_lay::laid_out", "flt_opt::replaces", "flt_passes::best_of", "flt_passes::optimised", "flt_short::shortened",
+    "flt_lay::laid_out", "flt_short::shortened",
     "flt_short::threaded",
 }
 # The headline: what words ask for, what is written, reported and returned, and that a packet passes where its

@@ -1,21 +1,22 @@
 -- The wide code of an expression decides it, within its bounds; and so does what replaces it.
-use Rattle.std.proofs.Common.{◌≡◌, ℕ, ◌+◌, ◌-◌, ◌*◌, ◌≤◌, List, [], ◌∷◌, length, drop, take, false, cond, Some, refl, sym, ap, ◌∙◌, subst, arith, fold, length-drop}
+use Rattle.std.proofs.Common.{◌≡◌, ℕ, ◌+◌, ◌-◌, ◌*◌, ◌≤◌, List, [], ◌∷◌, length, drop, take, false, cond, Some, None, refl, sym, ap, ◌∙◌, subst, arith, fold, length-drop}
 use Rattle.std.specs.Prelude.{◌≢◌, ◌↔◌, reverse}
 use Rattle.std.proofs.lemmas.List.Elements.{All-cons, All-drop, All-nil}
 use Rattle.std.proofs.lemmas.List.Sums.{sum_by-take-drop}
 use Rattle.flt_bpf.specs.declared.insn.Insn.{Insn}
 use Rattle.flt_bpf.specs.declared.operation.Operation.TheVariants.{ReturnConstant}
 use Rattle.flt_bpf.specs.Answer.{answer_of}
-use Rattle.flt_bpf.specs.Check.{IsValidUnlessLong, fault_of}
+use Rattle.flt_bpf.specs.Check.{IsFaultless, IsValidUnlessLong, fault_of}
+use Rattle.flt_bpf.specs.inside.Check.{first_check_fault}
 use Rattle.flt_bpf.specs.Instructions.{operation_of}
 use Rattle.flt_bpf.specs.Layout.{is_branch, JUMP, HasNoJump, IsShort}
 use Rattle.flt_bpf.specs.Machine.{step, start}
 use Rattle.flt_bpf.specs.Valid.{IsValid}
+use Rattle.flt_bpf.proofs.Checking.{first_none, parts}
 use Rattle.flt_bpf.proofs.Suffix.{valid_if_short, faultless_drop, ends_drop, answer_drop, machine_answers}
 use Rattle.flt_short.specs.Threads.{Threads}
 use Rattle.flt_short.specs.Alike.{Shortens}
 use Rattle.flt_short.proofs.Likeness.{met_of}
-use Rattle.flt_passes.specs.Lays.{Lays}
 use Rattle.flt_ast.specs.declared.node.Node.{Node}
 use Rattle.flt_ast.specs.Counts.{tests_of, nodes_of, words_of, bound_of}
 use Rattle.flt_ast.specs.Nodes.{expr_nodes}
@@ -152,16 +153,25 @@ shortened_code new old e link r h =
     let now = r.runs p n answer was.met was.answered in
     (met_of p n new (length new) 0 0 start answer now.count now.answered).answer)
 
--- code made of an expression's nodes, which are folded before, threaded and shortened
+faultless_of : (c : List Insn) (at : ℕ) → first_check_fault c at ≡ None → IsFaultless c
+faultless_of [] at e = tt
+faultless_of (i ∷ is) at e =
+    let q = first_none (fault_of i (length is)) at (first_check_fault is (at + 1)) e in
+    (q.0, faultless_of is (at + 1) q.1)
+
+valid_unless_long : (c : List Insn) → IsValid c → IsValidUnlessLong c
+valid_unless_long c v = let q = parts c v in record { faultless = faultless_of c 0 q.faultless; ends = q.ends }
+
+-- code made of an expression's nodes, which are folded before
 pub record IsMadeOf (code : List Insn) (e : Expression) (link : Link) : Type 0 where
   pub is : IsCodeOf code e link
-  pub valid : IsValid code
+  pub valid : IsValidUnlessLong code
 
-pub made : (link : Link) (e : Expression) (walked folded tree : List Node) (wide threaded short : List Insn) → some_primitive is_unfilled e ≡ false → words_of e ≤ 16 → bound_of e ≤ 32768 → walked ≡ folded → reverse folded ≡ fold with_folded [] tree → tree ≡ expr_nodes e → wide ≡ insns_of (emit_nodes link start_walk (reverse walked)) → Threads threaded wide → Shortens short threaded → IsMadeOf short e link
-made link e walked folded tree wide threaded short filled few within w f n c t r =
+made : (link : Link) (e : Expression) (walked folded tree : List Node) (wide : List Insn) → some_primitive is_unfilled e ≡ false → words_of e ≤ 16 → walked ≡ folded → reverse folded ≡ fold with_folded [] tree → tree ≡ expr_nodes e → wide ≡ insns_of (emit_nodes link start_walk (reverse walked)) → IsMadeOf wide e link
+made link e walked folded tree wide filled few w f n c =
     record {
-      is = shortened_code short threaded e link r is;
-      valid = r.valid (valid_if_short threaded (t.sound (subst IsValidUnlessLong (sym same) (program_sound link d full words_few))) (omega (arith, is.bounded)));
+      is = folded_code wide e link (subst (λ x. IsCodeOf x d link) (sym same) (program_decides link d full words_few));
+      valid = subst IsValidUnlessLong (sym same) (program_sound link d full words_few);
     }
   where
     d : Expression
@@ -176,23 +186,34 @@ made link e walked folded tree wide threaded short filled few within w f n c t r
     same : wide ≡ program_code link d
     same = c ∙ program_is link d walked (ap reverse w ∙ f ∙ ap (fold with_folded []) n ∙ nodes_folded e)
 
-    is : IsCodeOf threaded e link
-    is = threaded_code threaded wide e link t (folded_code wide e link (subst (λ x. IsCodeOf x d link) (sym same) (program_decides link d full words_few)))
+-- threaded and shortened
+once_more : (link : Link) (e : Expression) (code threaded short : List Insn) → bound_of e ≤ 32768 → Threads threaded code → Shortens short threaded → IsMadeOf code e link → IsMadeOf short e link
+once_more link e code threaded short within t r m =
+    let is = threaded_code threaded code e link t m.is in
+    record {
+      is = shortened_code short threaded e link r is;
+      valid = valid_unless_long short (r.valid (valid_if_short threaded (t.sound m.valid) (omega (arith, is.bounded))));
+    }
+
+-- and once more
+pub made_short : (link : Link) (e : Expression) (walked folded tree : List Node) (wide moved once again short : List Insn) → some_primitive is_unfilled e ≡ false → words_of e ≤ 16 → bound_of e ≤ 32768 → walked ≡ folded → reverse folded ≡ fold with_folded [] tree → tree ≡ expr_nodes e → wide ≡ insns_of (emit_nodes link start_walk (reverse walked)) → Threads moved wide → Shortens once moved → Threads again once → Shortens short again → IsMadeOf short e link
+made_short link e walked folded tree wide moved once again short filled few within w f n c t r t' r' =
+    once_more link e once again short within t' r' (once_more link e wide moved once within t r (made link e walked folded tree wide filled few w f n c))
 
 -- what is laid out of it keeps every promise
-pub laid_program : (new code : List Insn) (e : Expression) (link : Link) → Lays new code → IsMadeOf code e link → IsProgramOf new e link
-laid_program new code e link l m = record {
-  bounded = omega (arith, l.at_most, m.is.bounded);
+pub laid_program : (new code : List Insn) (e : Expression) (link : Link) → ((p : List ℕ) (n : ℕ) → answer_of new p n 0 start ≡ answer_of code p n 0 start) → length new ≤ length code + 2 * branches code → IsMadeOf code e link → IsProgramOf new e link
+laid_program new code e link same at_most m = record {
+  bounded = omega (arith, m.is.bounded);
   decides = λ p n.
       let d = m.is.decides p n in
-      let r = l.runs p n d.answer d.answered in
-      record { answer = d.answer; count = r.count; answered = r.answered; upper_bound = r.upper_bound; right = d.right };
+      let r = machine_answers new p n d.answer (same p n ∙ d.answered) in
+      record { answer = d.answer; count = r.met; answered = r.answered; upper_bound = omega (arith, r.upper_bound); right = d.right };
 }
 
-pub laid_valid : (new code : List Insn) (e : Expression) (link : Link) → bound_of e ≤ 32768 → Lays new code → IsMadeOf code e link → IsValid new
-laid_valid new code e link within l m = l.valid m.valid (omega (arith, l.at_most, m.is.bounded))
+pub laid_valid : (new code : List Insn) (e : Expression) (link : Link) → bound_of e ≤ 32768 → length new ≤ length code + 2 * branches code → (IsValidUnlessLong code → length new ≤ 32768 → IsValid new) → IsMadeOf code e link → IsValid new
+laid_valid new code e link within at_most valid m = valid m.valid (omega (arith, m.is.bounded))
 
-pub laid_short : (new code : List Insn) (e : Expression) (link : Link) → short_bound_of e ≤ 256 → Lays new code → IsMadeOf code e link → IsShort new (short_bound_of e)
-laid_short new code e link few l m =
-    let s = l.short m.is.no_jump (omega (arith, m.is.short)) in
+pub laid_short : (new code : List Insn) (e : Expression) (link : Link) → short_bound_of e ≤ 256 → (HasNoJump code → length code ≤ 256 → IsShort new (length code)) → IsMadeOf code e link → IsShort new (short_bound_of e)
+laid_short new code e link few short m =
+    let s = short m.is.no_jump (omega (arith, m.is.short)) in
     record { no_jump = s.no_jump; short = omega (arith, m.is.short, s.short) }

@@ -19,8 +19,7 @@ use std::alloc::{AllocError, Allocator};
 use std::marker::Model;
 
 /// How many hosts or ports are looked for together at most. Each is put in its place among the
-/// others, so that a group takes time by the square of its length. `MOST_SPLITS` of `flt_opt` and
-/// `flt_passes` (12) go as deep as a search by halves among as many.
+/// others, so that a group takes time by the square of its length.
 const MOST_TOGETHER: usize = 4096;
 
 /// Hosts or ports with the same protocol and direction: the address or number of the one that

@@ -1,6 +1,5 @@
 //! The program of an expression, by all stages: its arithmetic is folded, the walk writes plain
-//! code, which is threaded and shortened, and `best_of` lays it out, optimised before where that
-//! helps.
+//! code, which is threaded and shortened, twice, and laid out.
 
 ghost use Rattle.std.specs.Prelude.{◌≡◌, ◌≤◌, IfOk, reverse};
 ghost use Rattle.flt_gen.specs.Correct.{IsProgramOf};
@@ -15,11 +14,15 @@ use cap_octet::Link;
 use flt_ast::{Checked, Node};
 use flt_bpf::Wide;
 use flt_bpf::program::{Program, check};
-use flt_passes::best_of;
+use flt_lay::laid_out;
 use flt_short::{shortened, threaded};
 use std::alloc::{AllocError, Allocator};
 
-/// The code of the tree with these nodes, before it is optimised and laid out: its tests may skip
+/// Code of this many instructions (2^30) or more isn't laid out: with its jumps it could have more
+/// than a 32-bit offset reaches.
+const TOO_MANY: usize = 0x4000_0000;
+
+/// The code of the tree with these nodes, before it is shortened and laid out: its tests may skip
 /// any number of instructions. An error is a failed allocation.
 fn wide_code<A: Allocator + Clone>(
     alloc: A,
@@ -57,13 +60,16 @@ pub fn generate<A: Allocator + Clone, B: Allocator>(
 {
     let nodes = folded_nodes(alloc.clone()?, expr.expr.nodes())?;
     let code = wide_code(alloc.clone()?, &nodes, link)?;
-    // `best_of` goes by how much shorter the code has become: where much of it goes, it said the
-    // same again and again, and the optimiser finds more.
-    let written = code.len();
+    // The second round finds what the first one has brought together.
     let moved = threaded(alloc.clone()?, code)?;
-    let short = shortened(alloc.clone()?, moved)?;
-    let best = best_of(alloc, short, written)?;
-    match check(best) {
+    let once = shortened(alloc.clone()?, moved)?;
+    let moved_again = threaded(alloc.clone()?, once)?;
+    let short = shortened(alloc.clone()?, moved_again)?;
+    if short.len() >= TOO_MANY {
+        return Err(AllocError);
+    }
+    let insns = laid_out(alloc, &short)?;
+    match check(insns) {
         Ok(program) => Ok(program),
         // What the passes make of valid code is valid.
         Err(_) => unreachable!(),

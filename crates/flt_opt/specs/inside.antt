@@ -1,5 +1,0 @@
--- What no promise rests on: it helps the crate's own functions and proofs, and those of crates
--- beside it.
-pub mod Alike
-pub mod Facts
-pub mod Terms

@@ -1,3 +1,0 @@
-pub mod Improves
-pub mod Lays
-pub mod inside

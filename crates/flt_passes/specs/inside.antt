@@ -1,2 +1,0 @@
--- What no promise rests on: it helps the crate's own functions and proofs.
-pub mod Within
