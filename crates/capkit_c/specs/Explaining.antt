@@ -1,7 +1,7 @@
 -- What asking for the meaning of an expression leaves.
 use Rattle.std.specs.Prelude.{◌≡◌, ℕ, List, length}
 use Rattle.flt_ast.specs.Tree.{Expression}
-use Rattle.flt_lang.specs.Explained.{explained_text}
+use Rattle.flt_explain.specs.Explained.{explained_text}
 use Rattle.cap_filter.specs.Expressions.{IsExpression}
 use Rattle.capkit_c.specs.Bounding.{IsTextFailure}
 use Rattle.capkit_c.specs.Compiling.{failure_number, failure_status}

@@ -6,7 +6,7 @@ ghost use Rattle.capkit_c.specs.Explaining.{ExplainLeaves, Explains};
 use crate::compiling::{Failure, utf8_text};
 use crate::texts::put_text;
 use cap_filter::expression::read_expression;
-use flt_lang::explain;
+use flt_explain::explain;
 use flt_words::ExprFault;
 use std::alloc::Global;
 

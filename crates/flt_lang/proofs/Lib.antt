@@ -15,14 +15,3 @@ pub mod Primitives
 pub mod FilledFaults
 pub mod Counting
 pub mod Dividing
-pub mod Writing
-pub mod HexBytes
-pub mod ReadBack
-pub mod WordPieces
-pub mod SignTokens
-pub mod WordTokens
-pub mod AddressTokens
-pub mod TextTokens
-pub mod ExplainedBack
-pub mod WritableTokens
-pub mod WritableTrees

@@ -1,5 +1,3 @@
 -- What no promise rests on: it helps the crate's own functions and proofs, and those of crates beside it.
-pub mod Backward
 pub mod Parser
 pub mod Values
-pub mod Writable

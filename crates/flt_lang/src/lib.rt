@@ -2,10 +2,8 @@
 //! and a tree is checked before code is made of it.
 #![tactic(auto)]
 
-mod backward;
 mod checking;
 mod counts;
-mod explaining;
 mod frame;
 pub mod laws;
 mod nesting;
@@ -14,12 +12,10 @@ mod primitive;
 mod protocols;
 mod reader;
 mod resolving;
-mod spelling;
 mod sums;
 
 pub use checking::check;
 pub use counts::{bound, nodes, tests, words};
-pub use explaining::explain;
 pub use flt_ast::{
     Checked, CompleteQualifiers, Direction, Dotted, Expr, Ip4Net, NetMask, Node, Qualifiers, Value,
 };

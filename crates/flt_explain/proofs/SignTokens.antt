@@ -1,0 +1,148 @@
+-- A sign in a text is a token.
+use Rattle.std.proofs.Common.{◌≡◌, ℕ, ◌<◌, ◌≤◌, List, [], ◌∷◌, ◌++◌, length, get_or, take, refl, ◌∙◌, arith, Bool, true, false, ◌==◌, ◌&&◌, None, Some}
+use Rattle.flt_words.specs.declared.token.Comparison.{Comparison}
+use Rattle.flt_words.specs.declared.token.Comparison.TheVariants as comparison
+use Rattle.flt_words.specs.declared.token.Operator.{Operator}
+use Rattle.flt_words.specs.declared.token.Operator.TheVariants as operator
+use Rattle.flt_words.specs.declared.token.TokenKind.{TokenKind}
+use Rattle.flt_words.specs.declared.token.TokenKind.TheVariants as token
+use Rattle.flt_words.specs.Characters.{within_word}
+use Rattle.flt_words.specs.Spellings.{look_up, symbol_of, symbols}
+use Rattle.flt_words.specs.Tokens.{IsToken}
+use Rattle.flt_words.specs.Tokens.PieceMeans.{symbol_meaning}
+use Rattle.flt_words.proofs.Pieces.{longest_one, longest_two}
+use Rattle.flt_words.proofs.Symbols.{symbol_piece}
+use Rattle.flt_explain.specs.Texts.{comparison_sign, operator_sign}
+
+-- what may follow a token that leaves a gap where it can
+pub data End (inside : Bool) : ℕ → Type 0 where
+  blank : End inside 32
+  close : End inside 41
+  bracket : End inside 91
+  close_bracket : End inside 93
+  slash : End inside 47
+  colon : inside ≡ true → End inside 58
+
+pub data Ends (inside : Bool) : List ℕ → Type 0 where
+  no_more : Ends inside []
+  goes_on : {c : ℕ} {more : List ℕ} → End inside c → Ends inside (c ∷ more)
+
+-- no word goes on there
+not_within : (inside : Bool) (c : ℕ) → End inside c → within_word inside c ≡ false
+not_within true c blank = refl
+not_within true c close = refl
+not_within true c bracket = refl
+not_within true c close_bracket = refl
+not_within true c slash = refl
+not_within true c (colon is) = refl
+not_within false c blank = refl
+not_within false c close = refl
+not_within false c bracket = refl
+not_within false c close_bracket = refl
+not_within false c slash = refl
+not_within false c (colon is) = cc
+
+pub word_ends : (inside : Bool) (more : List ℕ) → Ends inside more → 0 < length more → within_word inside (get_or more 0 0) ≡ false
+word_ends inside more no_more some = absurd (omega arith)
+word_ends inside more (goes_on {c} end) some = not_within inside c end
+
+-- a sign of two bytes
+and_false : (a b : Bool) → a && (b && false) ≡ false
+and_false true true = refl
+and_false true false = refl
+and_false false b = refl
+
+two_is : (inside : Bool) (b c : ℕ) → symbol_of inside (b ∷ c ∷ []) ≡ look_up symbols (b ∷ c ∷ [])
+two_is inside b c = rw (and_false inside (b == 58)) refl
+
+two_token : (inside : Bool) (place b c : ℕ) (more : List ℕ) (kind : TokenKind) → look_up symbols (b ∷ c ∷ []) ≡ Some kind → IsToken inside place (b ∷ c ∷ more) kind 2
+two_token inside place b c more kind found =
+    let is = two_is inside b c ∙ found in
+    record {
+      longest = longest_two (omega arith) (symbol_piece inside (b ∷ c ∷ []) kind is).starts_none is;
+      means = symbol_meaning is;
+    }
+
+-- a sign of one byte, with which none of two begins here
+Alone : ℕ → List ℕ → Type 0
+Alone b more = (c : ℕ) (rest : List ℕ) → more ≡ c ∷ rest → look_up symbols (b ∷ c ∷ []) ≡ None
+
+alone_two : (inside : Bool) (b : ℕ) (more : List ℕ) → Alone b more → 2 ≤ length (b ∷ more) → symbol_of inside (take 2 (b ∷ more)) ≡ None
+unfolding Alone
+alone_two inside b [] alone long = absurd (omega arith)
+alone_two inside b (c ∷ more) alone long = two_is inside b c ∙ alone c more refl
+
+sign_token : (inside : Bool) (place b : ℕ) (more : List ℕ) (kind : TokenKind) → symbol_of inside (b ∷ []) ≡ Some kind → Alone b more → IsToken inside place (b ∷ more) kind 1
+sign_token inside place b more kind is alone = record {
+  longest = longest_one (omega arith) (symbol_piece inside (b ∷ []) kind is).starts_none (alone_two inside b more alone) is;
+  means = symbol_meaning is;
+}
+
+one_is : (inside : Bool) (b : ℕ) → (b == 58) ≡ false → symbol_of inside (b ∷ []) ≡ look_up symbols (b ∷ [])
+one_is true b other = rw other refl
+one_is false b other = refl
+
+one_token : (inside : Bool) (place b : ℕ) (more : List ℕ) (kind : TokenKind) → (b == 58) ≡ false → look_up symbols (b ∷ []) ≡ Some kind → Alone b more → IsToken inside place (b ∷ more) kind 1
+one_token inside place b more kind other found alone = sign_token inside place b more kind (one_is inside b other ∙ found) alone
+
+-- where an end follows
+alone_at : (inside : Bool) (b : ℕ) (more : List ℕ) → look_up symbols (b ∷ 32 ∷ []) ≡ None → look_up symbols (b ∷ 41 ∷ []) ≡ None → look_up symbols (b ∷ 91 ∷ []) ≡ None → look_up symbols (b ∷ 93 ∷ []) ≡ None → look_up symbols (b ∷ 47 ∷ []) ≡ None → look_up symbols (b ∷ 58 ∷ []) ≡ None → Ends inside more → Alone b more
+unfolding Alone
+alone_at inside b more at_blank at_close at_bracket at_close_bracket at_slash at_colon no_more = λ c rest e. cc
+alone_at inside b more at_blank at_close at_bracket at_close_bracket at_slash at_colon (goes_on {c} {more = others} end) = λ d rest e. next c end d cc
+  where
+    next : (c : ℕ) → End inside c → (d : ℕ) → c ≡ d → look_up symbols (b ∷ d ∷ []) ≡ None
+    next c blank d e = rw (← e) at_blank
+    next c close d e = rw (← e) at_close
+    next c bracket d e = rw (← e) at_bracket
+    next c close_bracket d e = rw (← e) at_close_bracket
+    next c slash d e = rw (← e) at_slash
+    next c (colon is) d e = rw (← e) at_colon
+
+-- the signs that leave a gap
+pub comparison_token : (inside : Bool) (place : ℕ) (c : Comparison) (more : List ℕ) → Ends inside more → IsToken inside place (comparison_sign c ++ more) (token.Comparison c) (length (comparison_sign c))
+unfolding symbols
+comparison_token inside place comparison.Equal more end = one_token inside place 61 more (token.Comparison comparison.Equal) refl refl (alone_at inside 61 more refl refl refl refl refl refl end)
+comparison_token inside place comparison.NotEqual more end = two_token inside place 33 61 more (token.Comparison comparison.NotEqual) refl
+comparison_token inside place comparison.Less more end = one_token inside place 60 more (token.Comparison comparison.Less) refl refl (alone_at inside 60 more refl refl refl refl refl refl end)
+comparison_token inside place comparison.AtMost more end = two_token inside place 60 61 more (token.Comparison comparison.AtMost) refl
+comparison_token inside place comparison.Greater more end = one_token inside place 62 more (token.Comparison comparison.Greater) refl refl (alone_at inside 62 more refl refl refl refl refl refl end)
+comparison_token inside place comparison.AtLeast more end = two_token inside place 62 61 more (token.Comparison comparison.AtLeast) refl
+
+pub operator_token : (inside : Bool) (place : ℕ) (o : Operator) (more : List ℕ) → (o ≡ operator.Divide → ⊥) → Ends inside more → IsToken inside place (operator_sign o ++ more) (token.Operator o) (length (operator_sign o))
+unfolding symbols
+operator_token inside place operator.Or more other end = one_token inside place 124 more (token.Operator operator.Or) refl refl (alone_at inside 124 more refl refl refl refl refl refl end)
+operator_token inside place operator.And more other end = one_token inside place 38 more (token.Operator operator.And) refl refl (alone_at inside 38 more refl refl refl refl refl refl end)
+operator_token inside place operator.ShiftLeft more other end = two_token inside place 60 60 more (token.Operator operator.ShiftLeft) refl
+operator_token inside place operator.ShiftRight more other end = two_token inside place 62 62 more (token.Operator operator.ShiftRight) refl
+operator_token inside place operator.Add more other end = one_token inside place 43 more (token.Operator operator.Add) refl refl (alone_at inside 43 more refl refl refl refl refl refl end)
+operator_token inside place operator.Subtract more other end = one_token inside place 45 more (token.Operator operator.Subtract) refl refl (alone_at inside 45 more refl refl refl refl refl refl end)
+operator_token inside place operator.Multiply more other end = one_token inside place 42 more (token.Operator operator.Multiply) refl refl (alone_at inside 42 more refl refl refl refl refl refl end)
+operator_token inside place operator.Divide more other end = absurd (other refl)
+operator_token inside place operator.Remainder more other end = one_token inside place 37 more (token.Operator operator.Remainder) refl refl (alone_at inside 37 more refl refl refl refl refl refl end)
+operator_token inside place operator.ExclusiveOr more other end = one_token inside place 94 more (token.Operator operator.ExclusiveOr) refl refl (alone_at inside 94 more refl refl refl refl refl refl end)
+
+-- those with which no sign of two bytes begins
+pub open_token : (inside : Bool) (place : ℕ) (more : List ℕ) → IsToken inside place (40 ∷ more) token.Open 1
+unfolding symbols Alone
+open_token inside place more = one_token inside place 40 more token.Open refl refl (λ c rest e. refl)
+
+pub close_token : (inside : Bool) (place : ℕ) (more : List ℕ) → IsToken inside place (41 ∷ more) token.Close 1
+unfolding symbols Alone
+close_token inside place more = one_token inside place 41 more token.Close refl refl (λ c rest e. refl)
+
+pub bracket_token : (inside : Bool) (place : ℕ) (more : List ℕ) → IsToken inside place (91 ∷ more) token.OpenBracket 1
+unfolding symbols Alone
+bracket_token inside place more = one_token inside place 91 more token.OpenBracket refl refl (λ c rest e. refl)
+
+pub close_bracket_token : (inside : Bool) (place : ℕ) (more : List ℕ) → IsToken inside place (93 ∷ more) token.CloseBracket 1
+unfolding symbols Alone
+close_bracket_token inside place more = one_token inside place 93 more token.CloseBracket refl refl (λ c rest e. refl)
+
+pub divide_token : (inside : Bool) (place : ℕ) (more : List ℕ) → IsToken inside place (47 ∷ more) (token.Operator operator.Divide) 1
+unfolding symbols Alone
+divide_token inside place more = one_token inside place 47 more (token.Operator operator.Divide) refl refl (λ c rest e. refl)
+
+pub colon_token : (inside : Bool) (place : ℕ) (more : List ℕ) → inside ≡ true → IsToken inside place (58 ∷ more) token.Colon 1
+unfolding symbols Alone
+colon_token inside place more is = sign_token inside place 58 more token.Colon (rw is refl) (λ c rest e. refl)

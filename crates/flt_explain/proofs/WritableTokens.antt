@@ -1,0 +1,168 @@
+-- Each tree that is read of a text is writable.
+use Rattle.std.proofs.Common.{◌≡◌, ℕ, suc, zero, ◌+◌, ◌-◌, ◌*◌, ◌^◌, ◌<◌, ◌≤◌, List, [], ◌∷◌, length, map, lit≤, refl, ap, ◌∙◌, subst, arith, Bool, true, false, ◌&&◌, cond, codes, Option, Some, Result, Ok, Err}
+use Rattle.std.proofs.lemmas.Bool.Decides.{nat_tests}
+use Rattle.std.proofs.lemmas.Int.Digits.{number_lt}
+use Rattle.std.proofs.lemmas.List.{length-map}
+use Rattle.std.specs.Int.Digits.{AllBelowBase, number_from_digits}
+use Rattle.std.specs.List.{AllByRecursion, list_all}
+use Rattle.std.specs.Str.{bytes_eq}
+use Rattle.std.specs.Str.Parse.{IsNumeral, digits_value}
+use Rattle.flt_words.specs.declared.fault.ExprFault.{ExprFault}
+use Rattle.flt_words.specs.declared.token.Token.{Token}
+use Rattle.flt_words.specs.declared.token.TokenKind.{TokenKind}
+use Rattle.flt_words.specs.declared.token.TokenKind.TheVariants as token
+use Rattle.flt_words.specs.Addresses.{IsDotted, IsIp6, IsMac, AreIp6Ends}
+use Rattle.flt_words.specs.Addresses.IsIp6.{shortened, whole}
+use Rattle.flt_words.specs.Numbers.{WritesDecimal, is_word_sized}
+use Rattle.flt_words.specs.Spellings.{keywords, look_up, symbols}
+use Rattle.flt_words.specs.Tokens.{PieceMeans, Tokens, TokensFrom, before}
+use Rattle.flt_words.specs.Tokens.PieceMeans.{symbol_meaning, word_meaning}
+use Rattle.flt_words.specs.Tokens.Tokens.{short, too_long}
+use Rattle.flt_words.specs.Tokens.TokensFrom.{at_end, blank, refused, token as one_more}
+use Rattle.flt_words.specs.Words.{Spells, WordMeans, fits}
+use Rattle.flt_words.specs.Words.Spells.{keyword, number, dotted, range, mac, ip6}
+use Rattle.flt_words.specs.Words.WordMeans.{known}
+use Rattle.flt_words.proofs.AddressValues.{ends_fit, number_between, number_zeros}
+use Rattle.flt_words.proofs.Groups.{small_hexadecimal}
+use Rattle.flt_words.proofs.Tables.{both, found_passes}
+use Rattle.flt_lang.specs.Grammar.{kinds_of}
+use Rattle.flt_explain.specs.Writable.{IsDottedAddress, has_name}
+use Rattle.flt_explain.specs.inside.Writable.{IsSpellable}
+
+-- a token of a table
+table_test : TokenKind → Bool
+table_test (token.Number n) = false
+table_test (token.Name n) = has_name n
+table_test (token.Dotted a p) = false
+table_test (token.Range a b) = false
+table_test (token.Mac a) = false
+table_test (token.Ip6 a) = false
+table_test _ = true
+
+all_keywords : list_all (λ entry. table_test entry.1) keywords ≡ true
+unfolding table_test keywords
+all_keywords = refl
+
+all_symbols : list_all (λ entry. table_test entry.1) symbols ≡ true
+unfolding table_test symbols
+all_symbols = refl
+
+from_table : (kind : TokenKind) → table_test kind ≡ true → IsSpellable kind
+unfolding table_test
+from_table (token.Number n) h = cc
+from_table (token.Name n) h = h
+from_table (token.Dotted a p) h = cc
+from_table (token.Range a b) h = cc
+from_table (token.Mac a) h = cc
+from_table (token.Ip6 a) h = cc
+from_table _ h = tt
+
+sized : (n : ℕ) → is_word_sized n ≡ true → n < 2 ^ 32
+sized n h = grind (arith, nat_tests)
+
+-- an IPv4 address
+octets_below : (groups : List (List ℕ)) → AllByRecursion (λ digits. (n : ℕ) × WritesDecimal digits n × (n ≤ 255)) groups → AllBelowBase 256 (map (digits_value 10) groups)
+octets_below [] each = tt
+octets_below (g ∷ groups) each = (omega (arith, each.0.1.writes.value, each.0.2), octets_below groups each.1)
+
+by_count : (n p a front : ℕ) → 2 ≤ n → n ≤ 4 → front < 256 ^ n → a ≡ front * 256 ^ (4 - n) → p ≡ n → IsDottedAddress a p
+by_count zero p a front low high below is parts = absurd (omega arith)
+by_count (suc zero) p a front low high below is parts = absurd (omega arith)
+by_count (suc (suc zero)) p a front low high below is parts = rw parts (record { at_least_two = lit≤ tt; at_most_four = lit≤ tt; small = omega arith; missing = omega arith })
+by_count (suc (suc (suc zero))) p a front low high below is parts = rw parts (record { at_least_two = lit≤ tt; at_most_four = lit≤ tt; small = omega arith; missing = omega arith })
+by_count (suc (suc (suc (suc zero)))) p a front low high below is parts = rw parts (record { at_least_two = lit≤ tt; at_most_four = lit≤ tt; small = omega arith; missing = omega arith })
+by_count (suc (suc (suc (suc (suc n))))) p a front low high below is parts = absurd (omega arith)
+
+dotted_small : {word : List ℕ} {a p : ℕ} → IsDotted word a p → IsDottedAddress a p
+dotted_small {word} {a} {p} d =
+    let values : List ℕ = map (digits_value 10) d.groups in
+    let long : length values ≡ length d.groups = length-map d.groups (digits_value 10) in
+    let below : number_from_digits 256 values < 256 ^ length d.groups = subst (λ k. number_from_digits 256 values < 256 ^ k) long (number_lt 256 values (octets_below d.groups d.are.each)) in
+    by_count (length d.groups) p a (number_from_digits 256 values) d.at_least_two d.at_most_four below (d.value ∙ number_zeros 256 (4 - length d.groups) values) d.count
+
+-- a MAC address
+bytes_below : (groups : List (List ℕ)) → AllByRecursion (λ digits. IsNumeral 16 digits × (length digits ≤ 2)) groups → AllBelowBase 256 (map (digits_value 16) groups)
+bytes_below [] each = tt
+bytes_below (g ∷ groups) each = (small_hexadecimal g 2 each.0.0.1 each.0.1, bytes_below groups each.1)
+
+mac_small : {word : List ℕ} {a : ℕ} → IsMac word a → a < 2 ^ 48
+mac_small {word} {a} m =
+    let values : List ℕ = map (digits_value 16) m.groups in
+    let long : length values ≡ 6 = length-map m.groups (digits_value 16) ∙ m.six in
+    let below : number_from_digits 256 values < 256 ^ 6 = subst (λ k. number_from_digits 256 values < 256 ^ k) long (number_lt 256 values (bytes_below m.groups m.are.each)) in
+    omega (arith, m.value)
+
+-- an IPv6 address
+quads_below : (groups : List (List ℕ)) → AllByRecursion (λ digits. IsNumeral 16 digits × (length digits ≤ 4)) groups → AllBelowBase 65536 (map (digits_value 16) groups)
+quads_below [] each = tt
+quads_below (g ∷ groups) each = (small_hexadecimal g 4 each.0.0.1 each.0.1, quads_below groups each.1)
+
+quads_small : (groups : List (List ℕ)) → AllByRecursion (λ digits. IsNumeral 16 digits × (length digits ≤ 4)) groups → number_from_digits 65536 (map (digits_value 16) groups) < 65536 ^ length groups
+quads_small groups each =
+    let values : List ℕ = map (digits_value 16) groups in
+    subst (λ k. number_from_digits 65536 values < 65536 ^ k) (length-map groups (digits_value 16)) (number_lt 65536 values (quads_below groups each))
+
+ends_small : {front back : List ℕ} {a : ℕ} → AreIp6Ends front back a → a < 2 ^ 128
+ends_small {front} {back} {a} e =
+    let first : List ℕ = map (digits_value 16) e.first in
+    let last : List ℕ = map (digits_value 16) e.last in
+    let between = number_between 65536 (8 - (length e.first + length e.last)) first last in
+    let long : length last ≡ length e.last = length-map e.last (digits_value 16) in
+    let count : 8 - (length e.first + length e.last) + length last ≡ 8 - length e.first = omega (arith, e.at_most_seven) in
+    let is : a ≡ number_from_digits 65536 first * 65536 ^ (8 - length e.first) + number_from_digits 65536 last = e.value ∙ between ∙ ap (λ k. number_from_digits 65536 first * 65536 ^ k + number_from_digits 65536 last) count in
+    rw is (ends_fit (number_from_digits 65536 first) (length e.first) (number_from_digits 65536 last) (length e.last) (quads_small e.first e.are_first.each) (quads_small e.last e.are_last.each) e.at_most_seven)
+
+ip6_small : {word : List ℕ} {a : ℕ} → IsIp6 word a → a < 2 ^ 128
+ip6_small {word} {a} (whole w) =
+    let below = quads_small w.groups w.are.each in
+    let all : 65536 ^ length w.groups ≡ 2 ^ 128 = ap (λ k. 65536 ^ k) w.eight in
+    omega (arith, w.value)
+ip6_small (shortened ends) = ends_small ends
+
+-- what a word means
+stands_spellable : {word : List ℕ} {kind : TokenKind} → Spells word kind → fits kind ≡ true → IsSpellable kind
+stands_spellable {word} {kind} (keyword found) fit = from_table kind (found_passes (λ _ k. table_test k) keywords word kind all_keywords found)
+stands_spellable (number {n} w) fit = sized n fit
+stands_spellable (dotted w) fit = dotted_small w
+stands_spellable (range {first} {last} w) fit =
+    let parts = both (is_word_sized first) (is_word_sized last) fit in
+    (sized first parts.0, sized last parts.1)
+stands_spellable (mac w) fit = mac_small w
+stands_spellable (ip6 w) fit = ip6_small w
+
+word_spellable : {place : ℕ} {word : List ℕ} {kind : TokenKind} → WordMeans place word (Ok kind) → IsSpellable kind
+word_spellable (known stands fit) = stands_spellable stands fit
+
+symbol_step : (inside same : Bool) (piece : List ℕ) (kind : TokenKind) → ◌≡◌ {A = Option TokenKind} (cond (inside && same) (Some token.Colon) (look_up symbols piece)) (Some kind) → IsSpellable kind
+symbol_step true true piece kind found = let is : token.Colon ≡ kind = cc in subst IsSpellable is tt
+symbol_step true false piece kind found = from_table kind (found_passes (λ _ k. table_test k) symbols piece kind all_symbols found)
+symbol_step false same piece kind found = from_table kind (found_passes (λ _ k. table_test k) symbols piece kind all_symbols found)
+
+piece_spellable : {inside : Bool} {place : ℕ} {piece : List ℕ} {kind : TokenKind} → PieceMeans inside place piece (Ok kind) → IsSpellable kind
+piece_spellable (word_meaning w means) = word_spellable means
+piece_spellable {inside} {place} {piece} {kind} (symbol_meaning found) = symbol_step inside (bytes_eq piece (codes ":")) piece kind found
+
+-- and each token of a text
+abbrev AllSpellable : List TokenKind → Type 0
+AllSpellable kinds = AllByRecursion IsSpellable kinds
+
+record IsAfter (t : Token) (answer : Result (List Token) ExprFault) (tokens : List Token) : Type 0 where
+  later : List Token
+  is : answer ≡ Ok later
+  all : t ∷ later ≡ tokens
+
+before_ok : (t : Token) (answer : Result (List Token) ExprFault) (tokens : List Token) → before t answer ≡ Ok tokens → IsAfter t answer tokens
+before_ok t (Ok later) tokens e = record { later = later; is = refl; all = cc }
+before_ok t (Err refusal) tokens e = cc
+
+spelled_from : {text : List ℕ} {at : ℕ} {answer : Result (List Token) ExprFault} → TokensFrom text at answer → (tokens : List Token) → answer ≡ Ok tokens → AllSpellable (kinds_of tokens)
+spelled_from (at_end ended) tokens e = let none : [] ≡ tokens = cc in subst (λ ts. AllSpellable (kinds_of ts)) none tt
+spelled_from (blank is later) tokens e = spelled_from later tokens e
+spelled_from (one_more {at} {n} {kind} {answer} is later) tokens e =
+    let rest = before_ok (record { kind = kind; place = at + 1 }) answer tokens e in
+    subst (λ ts. AllSpellable (kinds_of ts)) rest.all (piece_spellable is.means, spelled_from later rest.later rest.is)
+spelled_from (refused within other is) tokens e = cc
+
+pub all_spellable : {text : List ℕ} {answer : Result (List Token) ExprFault} → Tokens text answer → (tokens : List Token) → answer ≡ Ok tokens → AllByRecursion IsSpellable (kinds_of tokens)
+all_spellable (too_long long) tokens e = cc
+all_spellable (short small from) tokens e = spelled_from from tokens e

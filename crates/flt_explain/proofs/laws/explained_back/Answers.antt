@@ -1,0 +1,6 @@
+-- By the tokens of the text.
+use Rattle.flt_explain.proofs.ExplainedBack as proved
+use Rattle.flt_explain.proofs.laws.explained_back.Goals as goal
+
+pub returns : goal.returns
+returns c = λ tree writes resolved small. proved.explained_back tree writes resolved small

@@ -1,0 +1,6 @@
+-- By what words mean.
+use Rattle.flt_explain.proofs.WritableTrees as proved
+use Rattle.flt_explain.proofs.laws.writable.Goals as goal
+
+pub returns : goal.returns
+returns c = λ text tokens tree are reads. proved.writable text tokens tree are reads

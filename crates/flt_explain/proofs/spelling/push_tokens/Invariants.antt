@@ -1,0 +1,11 @@
+-- The text so far, and what the tokens left give.
+use Rattle.std.proofs.Common.{◌≡◌, ◌++◌, drop}
+use Rattle.std.specs.String.{string_bytes}
+use Rattle.flt_explain.specs.declared.spelling.Following.TheVariants.{Other}
+use Rattle.flt_explain.specs.Texts.{tokens_text}
+use Rattle.flt_explain.proofs.spelling.push_tokens.Given as goal
+
+abbrev pub invariant-loop-i : goal.invariant-loop-i
+invariant-loop-i g l =
+    string_bytes l.text ++ tokens_text l.following (drop l.i l.tokens)
+    ≡ string_bytes l.initial.text ++ tokens_text Other l.tokens

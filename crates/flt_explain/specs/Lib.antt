@@ -1,0 +1,5 @@
+-- What the contracts cite.
+pub mod Texts
+pub mod Explained
+pub mod Writable
+pub mod inside

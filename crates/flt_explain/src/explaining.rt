@@ -1,0 +1,133 @@
+//! What an expression means, as an expression: for people, who see which qualifiers each value has.
+
+ghost use Rattle.std.specs.Prelude.{◌≡◌, IfOk};
+ghost use Rattle.std.specs.String.{string_bytes};
+ghost use Rattle.flt_explain.specs.Explained.{explained_text, explained_tokens};
+
+use crate::backward::Writer;
+use crate::spelling::push_tokens;
+use flt_ast::Expr;
+use flt_words::TokenKind;
+use std::alloc::{AllocError, Allocator};
+
+/// The tokens of what an expression means, written from its last node to its first. An error is a
+/// failed allocation, or an allocator that cannot be cloned.
+fn explained_tokens<A: Allocator + Clone>(
+    alloc: A,
+    expr: &Expr<A>,
+) -> Result<Vec<TokenKind, A>, AllocError>
+    ensures { IfOk result (λ tokens. tokens.items ≡ explained_tokens expr.now) }
+{
+    let nodes = expr.nodes();
+    let mut writer = Writer::new(alloc)?;
+    let mut at = nodes.len();
+    while at > 0 {
+        // The last node is the whole expression, and each other one an operand.
+        let is_operand = at < nodes.len();
+        at -= 1;
+        writer.write_node(is_operand, nodes[at])?;
+    }
+    Ok(writer.into_tokens())
+}
+
+/// Writes out what an expression means, as an expression of the language.
+///
+/// Each operand is in parentheses, unless it is one word or an accessor; a value that isn't
+/// resolved is so always. Each value of a resolved tree has all its qualifiers before it, but that
+/// `proto` has no direction: `tcp port 80 or 443` is `(tcp src or dst port 80) or (tcp src or dst
+/// port 443)`. Accessors have their size. Numbers are in decimal, and names stay names.
+///
+/// The text may be longer than an expression may be, or nest deeper. Where it is not, the resolved
+/// tree of a text is read back from it (`laws::explained_back`, `laws::writable`). Trees that no
+/// text has are written too: those with a check of `ether`, an accessor of `icmp6`, a cast after
+/// another protocol than `ether`, `ip` and `ip6`, a name of a number that has none, an address or a
+/// number past its bits, an IPv4 address of other than two to four parts, or one with a part past
+/// these that isn't 0.
+///
+/// An error is a failed allocation, or an allocator that cannot be cloned.
+pub fn explain<A: Allocator + Clone>(alloc: A, expr: &Expr<A>) -> Result<String<A>, AllocError>
+    ensures { IfOk result (λ text. string_bytes text ≡ explained_text expr.now) }
+{
+    let tokens = explained_tokens(alloc.clone()?, expr)?;
+    let mut text = String::new(alloc);
+    push_tokens(&mut text, &tokens)?;
+    Ok(text)
+}
+
+#[cfg(test)]
+mod tests {
+    use super::explain;
+    use flt_lang::{parse, resolve};
+    use flt_words::{ExprFault, lex};
+    use std::alloc::Global;
+    use std::rt::HostRuntime;
+    use std::test::Fail;
+
+    fn explained(alloc: Global, text: &str) -> Result<String, ExprFault> {
+        let tokens = lex(alloc, text)?;
+        let tree = resolve(parse(alloc, &tokens)?)?;
+        Ok(explain(alloc, &tree)?)
+    }
+
+    /// Texts, and what they mean.
+    const MEANINGS: &[(&str, &str)] = &[
+        ("", ""),
+        (
+            "tcp port 80 or 443 and host 10.0.0.1",
+            "((tcp src or dst port 80) or (tcp src or dst port 443)) and (src or dst host 10.0.0.1)",
+        ),
+        ("not port 53", "not (src or dst port 53)"),
+        ("! not ! ip", "not (not (not ip))"),
+        (
+            "ether host 2:0:0:0:0:a5",
+            "ether src or dst host 02:00:00:00:00:a5",
+        ),
+        (
+            "src 10.1.2.3 and dst host 10.1.2.4",
+            "(src host 10.1.2.3) and (dst host 10.1.2.4)",
+        ),
+        (
+            "net 10/8 or net 10.1",
+            "(src or dst net 10/8) or (src or dst net 10.1)",
+        ),
+        (
+            "net 10.1.2 mask 255.255.255.0",
+            "src or dst net 10.1.2 mask 255.255.255.0",
+        ),
+        (
+            "dst and src net 2001:db8::/32",
+            "src and dst net 2001:db8:0:0:0:0:0:0/32",
+        ),
+        ("udp portrange 1-2", "udp src or dst portrange 1-2"),
+        ("ip proto 0x2f or broadcast", "(ip proto 47) or broadcast"),
+        (
+            "ip6 multicast and greater 5",
+            "(ip6 multicast) and (greater 5)",
+        ),
+        ("ip[9] = 6", "ip[9:1] = 6"),
+        ("len > 100 and not tcp", "(len > 100) and (not tcp)"),
+        (
+            "icmp[icmptype] = 8 && icmp[icmpcode] = tcp-fin",
+            "(icmp[icmptype:1] = 8) and (icmp[icmpcode:1] = tcp-fin)",
+        ),
+        (
+            "tcp[tcpflags] & (tcp-syn|tcp-ack) == -1",
+            "(tcp[tcpflags:1] & (tcp-syn | tcp-ack)) = (- 1)",
+        ),
+        (
+            "tcp[((tcp[12] & 0xf0) >> 2):4] != len / 2",
+            "tcp[((tcp[12:1] & 240) >> 2):4] != (len/2)",
+        ),
+    ];
+
+    #[test]
+    fn meanings(rt: HostRuntime) -> Result<(), Fail> {
+        for row in MEANINGS {
+            let meaning = explained(rt.alloc(), row.0)?;
+            assert!(rt; meaning.as_str() == row.1);
+            let again = explained(rt.alloc(), &meaning)?;
+            assert!(rt; again.as_str() == row.1);
+        }
+        Ok(())
+    }
+}

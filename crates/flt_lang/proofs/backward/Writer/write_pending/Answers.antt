@@ -1,7 +1,0 @@
--- Nothing waits any more.
-use Rattle.flt_lang.proofs.Writing.{settled_end}
-use Rattle.flt_lang.proofs.backward.Writer.write_pending.Goals as goal
-
-pub returns : goal.returns
-returns g c =
-    settled_end _ c.pop_pending.new.self _ c.in_default.ensures.none c.in_default.ensures.none_left c.in_default.ensures.tokens c.loop-pending.invariant

@@ -1,6 +1,0 @@
--- By the tokens of the text.
-use Rattle.flt_lang.proofs.ExplainedBack as proved
-use Rattle.flt_lang.proofs.laws.explained_back.Goals as goal
-
-pub returns : goal.returns
-returns c = λ tree writes resolved small. proved.explained_back tree writes resolved small

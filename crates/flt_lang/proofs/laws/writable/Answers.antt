@@ -1,6 +1,0 @@
--- By what words mean.
-use Rattle.flt_lang.proofs.WritableTrees as proved
-use Rattle.flt_lang.proofs.laws.writable.Goals as goal
-
-pub returns : goal.returns
-returns c = λ text tokens tree are reads. proved.writable text tokens tree are reads
