@@ -5,7 +5,8 @@
 //! Clauses cite definitions of the same names (without `is_`), which look as the code does; what
 //! follows from them is `Shortens`, the contract of `replaces`.
 
-ghost use Rattle.std.specs.Prelude.{◌≡◌, ◌≢◌, ◌↔◌, ◌-◌, ◌==◌, ◌&&◌, nat_lt, length, IsTrue, All};
+ghost use Rattle.std.specs.Prelude.{◌≡◌, ◌≢◌, ◌↔◌, ◌+◌, ◌-◌, ◌%◌, ◌^◌, ◌==◌, ◌&&◌, nat_lt, length};
+ghost use Rattle.std.specs.Prelude.{IsTrue, All, true, false};
 ghost use Rattle.flt_bpf.specs.Instructions.{operation_of};
 ghost use Rattle.flt_short.specs.Alike.{Shortens};
 ghost use Rattle.flt_short.specs.inside.Alike.{implies, landing_fits};
@@ -268,18 +269,26 @@ fn is_header_load(
 {
     match (new, after) {
         ([length, load, ..], [header_length, add, to_index, indirect, ..]) => {
-            let way = Way {
-                old: 4,
-                new: 0,
-                place: landing.place.saturating_sub(1),
-            };
             adds_header(old, *header_length, *add, *to_index)
                 && (loads_alike(*header_length, *length, *indirect, *load)
-                    && (old.k.wrapping_add(indirect.k) == load.k
-                        && landing_fits(following, way, true, false)))
+                    && is_sum_loaded(old.k, indirect.k, load.k, landing.place, following))
         }
         _ => false,
     }
+}
+
+/// Whether the `k` of a load at X is the sum of a number and that of the load it is in place of,
+/// and what is read after it is the same in both programs. It is in front of the landing's place.
+fn is_sum_loaded(number: u32, old_k: u32, new_k: u32, place: usize, following: &[Landing]) -> bool
+    ensures { result ≡ ((number + old_k) % 2 ^ 32 == new_k
+        && landing_fits following.now 4 0 (place - 1) true false) }
+{
+    let way = Way {
+        old: 4,
+        new: 0,
+        place: place.saturating_sub(1),
+    };
+    number.wrapping_add(old_k) == new_k && landing_fits(following, way, true, false)
 }
 
 /// Whether an instruction returns 0.

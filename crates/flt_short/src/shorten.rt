@@ -311,7 +311,10 @@ impl Shortening<'_> {
     /// since that is quick.
     fn is_number_at(&self, at: usize) -> bool {
         let code = Operation::Load(Register::Accumulator, Source::Immediate).code();
-        self.insns.get(at).is_some_and(|insn| insn.code == code)
+        match self.insns.get(at) {
+            Some(insn) => insn.code == code,
+            None => false,
+        }
     }
 
     /// Whether the instruction `before` ones in front puts a number into A, and is joined with
@@ -329,17 +332,27 @@ impl Shortening<'_> {
     /// that this one isn't emitted and lands nowhere. If a run jumps here, the new code isn't
     /// taken.
     fn is_joined(&self, at: usize) -> bool {
-        at >= 1 && self.bits_test_at(at - 1).is_some()
-            || (1..=4).any(|before| self.is_joined_by(at, before))
+        if at >= 1 && self.bits_test_at(at - 1).is_some() {
+            return true;
+        }
+        for before in 1..5 {
+            if self.is_joined_by(at, before) {
+                return true;
+            }
+        }
+        false
     }
 
     /// Whether the instruction right in front of a place of the new code has offsets that lead to
     /// these places.
     fn has_targets(&self, place: usize, yes: usize, no: usize) -> bool {
-        self.backwards.get(place).is_some_and(|other| {
-            other.yes as usize == place.saturating_sub(yes)
-                && other.no as usize == place.saturating_sub(no)
-        })
+        match self.backwards.get(place) {
+            Some(other) => {
+                other.yes as usize == place.saturating_sub(yes)
+                    && other.no as usize == place.saturating_sub(no)
+            }
+            None => false,
+        }
     }
 
     /// Whether the instruction right in front of `at` in the old code also stands right in front of
@@ -426,12 +439,9 @@ impl Shortening<'_> {
         let mut low = landed;
         for place in (0..landed).rev() {
             low = place;
-            if self
-                .backwards
-                .get(place)
-                .is_none_or(|insn| ends_block(*insn))
-            {
-                break;
+            match self.backwards.get(place) {
+                Some(insn) if !ends_block(*insn) => {}
+                _ => break,
             }
         }
         let farther = top.saturating_sub(low);
@@ -456,8 +466,9 @@ impl Shortening<'_> {
                 let place = landing.place.saturating_add(farther);
                 self.land(at, Landing { place, ..landing });
             }
-            if self.insns.get(at).is_none_or(|insn| ends_block(*insn)) {
-                return;
+            match self.insns.get(at) {
+                Some(insn) if !ends_block(*insn) => {}
+                _ => return,
             }
         }
     }
@@ -465,15 +476,18 @@ impl Shortening<'_> {
     /// Whether an instruction with this code and this `k` stands right in front of a place of the
     /// new code; of a test, one with any targets.
     fn stands_before(&self, place: usize, insn: Wide) -> bool {
-        self.backwards
-            .get(place)
-            .is_some_and(|other| other.code == insn.code && other.k == insn.k)
+        match self.backwards.get(place) {
+            Some(other) => other.code == insn.code && other.k == insn.k,
+            None => false,
+        }
     }
 
     /// Whether a run rejects the packet at a place of the new code.
     fn rejects(&self, place: usize) -> bool {
-        let insn = self.backwards.get(place.wrapping_sub(1));
-        insn.is_some_and(|insn| is_rejection(*insn))
+        match self.backwards.get(place.wrapping_sub(1)) {
+            Some(insn) => is_rejection(*insn),
+            None => false,
+        }
     }
 
     /// Whether an operation is left out in front of a landing, and lands there itself: it can't

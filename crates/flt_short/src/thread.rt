@@ -435,13 +435,19 @@ fn repeats_a_load(insns: &[Wide]) -> bool {
     match insns {
         [] => false,
         [first, others @ ..] => {
-            is_load(*first)
-                && others
-                    .iter()
-                    .any(|other| other.code == first.code && other.k == first.k)
-                || repeats_a_load(others)
+            is_load(*first) && is_among(others, *first) || repeats_a_load(others)
         }
     }
+}
+
+/// Whether an instruction with this code and this `k` is one of these.
+fn is_among(insns: &[Wide], insn: Wide) -> bool {
+    for other in insns {
+        if other.code == insn.code && other.k == insn.k {
+            return true;
+        }
+    }
+    false
 }
 
 /// The same code, in which each test goes on as far as what is known there decides. It returns the
