@@ -74,7 +74,10 @@ pub fn buffer_or_stop<'a, T: Drop>(made: io::Result<T>) -> Result<T, Stop<'a>>
     requires { IfErr made (λ error. error_kind error ≡ ErrorKind.OutOfMemory) }
     ensures { IfOk result (λ buffer. made ≡ Ok buffer) }
 {
-    made.map_err(|_| Stop::NoMemory)
+    match made {
+        Ok(buffer) => Ok(buffer),
+        Err(_) => Err(Stop::NoMemory),
+    }
 }
 
 /// Opens the inputs of these names in order, each with a buffer before it, and counts what is read

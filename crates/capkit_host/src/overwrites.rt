@@ -71,6 +71,9 @@ pub fn overwrites_input(files: &impl Identify, line: &Line) -> bool
     ensures unread { vec_len (line.now).inputs ≡ 0 → is_none (line.now).code ≡ true
         → result ≡ false }
 {
-    let name = line.output.as_ref().map(|name| name.as_str());
+    let name = match &line.output {
+        Some(name) => Some(name.as_str()),
+        None => None,
+    };
     reads_file_at(files, line, output_path(name))
 }

@@ -48,11 +48,11 @@ pub fn can_write_over(is_terminal: bool, name: Option<&str>) -> bool {
 
 /// Whether standard error is a terminal on which a line can be written over.
 fn is_drawable(rt: &HostRuntime) -> bool {
-    let name = env::var(rt, "TERM").ok();
-    can_write_over(
-        rt.stderr().is_terminal(),
-        name.as_ref().map(|name| name.as_str()),
-    )
+    let is_terminal = rt.stderr().is_terminal();
+    match env::var(rt, "TERM") {
+        Ok(name) => can_write_over(is_terminal, Some(name.as_str())),
+        Err(_) => can_write_over(is_terminal, None),
+    }
 }
 
 /// What the system tells of the process.
@@ -139,9 +139,11 @@ impl<'a> Progress<'a> {
     /// error if it is due; but not from the background, where the line could meet what is typed.
     fn count(&self, bytes: usize) {
         if let Some(start) = self.start {
-            let elapsed = start.elapsed(self.rt);
             // Where the clock can't be read, nothing is shown.
-            let seconds = elapsed.map_or(0, |elapsed| elapsed.as_secs());
+            let seconds = match start.elapsed(self.rt) {
+                Ok(elapsed) => elapsed.as_secs(),
+                Err(_) => 0,
+            };
             if self.count_and_check_due(bytes, seconds) && is_in_its_foreground(self.rt) {
                 self.show(self.rt, seconds);
             }
