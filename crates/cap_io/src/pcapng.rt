@@ -55,7 +55,10 @@ fn apply_block<A: Allocator>(
 fn first_link_type<A: Allocator>(first: Option<u16>, table: &Table<A>) -> Option<u16>
     ensures { (order : Order) → result ≡ first_link_after first (section_of order table.now) }
 {
-    first.or(table.get(0).map(|interface| interface.link))
+    match (first, table.get(0)) {
+        (None, Some(interface)) => Some(interface.link),
+        _ => first,
+    }
 }
 
 /// Whether the next block with a packet, and all blocks before it, are wholly among these bytes.
