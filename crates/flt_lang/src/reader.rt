@@ -81,8 +81,10 @@ impl<A: Allocator> Reader<A> {
         ensures frames { OnOk result (self.new.frames ≡ self.old.frames) }
         ensures err { IfErr result (λ fault. fault ≡ ExprFault.Memory) }
     {
-        self.nodes.push(node)?;
-        Ok(())
+        match self.nodes.push(node) {
+            Ok(()) => Ok(()),
+            Err(_) => Err(ExprFault::Memory),
+        }
     }
 
     /// Adds a frame, which waits from now on for an operand or its closing token.
@@ -91,7 +93,9 @@ impl<A: Allocator> Reader<A> {
         ensures nodes { OnOk result (self.new.nodes ≡ self.old.nodes) }
         ensures err { IfErr result (λ fault. fault ≡ ExprFault.Memory) }
     {
-        self.frames.push(frame)?;
+        let Ok(()) = self.frames.push(frame) else {
+            return Err(ExprFault::Memory);
+        };
         Ok(())
     }
 
