@@ -25,7 +25,7 @@ use Rattle.flt_short.specs.declared.facts.Held.TheVariants as held_variant
 use Rattle.flt_short.specs.declared.facts.Known.{Known}
 use Rattle.flt_short.specs.inside.Arrivals.{at_start, known_at, arrived}
 use Rattle.flt_short.specs.inside.Facts.{masked_by, masked_held, held_if_some, held_without_index, known_after, known_by_test}
-use Rattle.flt_short.specs.inside.Threads.{threaded_offset, threaded_by, threaded_if, threaded_insn, with_arrivals_by, with_arrivals_if, with_arrivals, flow, threaded}
+use Rattle.flt_short.specs.inside.Threads.{threaded_offset, threaded_by, threaded_if, threaded_insn, with_arrivals_by, with_arrivals_if, with_arrivals, flow}
 use Rattle.flt_short.proofs.Basics.{both_true}
 use Rattle.flt_short.proofs.Arriving.{HoldsAt, start_holds, raised_at, raised_keeps}
 use Rattle.flt_short.proofs.Flow.{by_code, threaded_code}
@@ -191,8 +191,8 @@ module _ (p : List ℕ) (n : ℕ) where
       (at_top (suc at) k i is (flow (suc at) after is) seen s holds
       (λ m t y. answers_same is (suc at) after m t (subst (λ gs. HoldsAt p gs (suc at + m) t) (sym (reached k.held (suc at) op k j seen s holds.a)) y)))
 
-  threaded_answers : (is : List Insn) (s : State) → answer_of (threaded is) p n 0 s ≡ answer_of is p n 0 s
-  threaded_answers is s = answers_same is 0 (at_start (length is)) 0 s (start_holds p (length is) s)
+  threaded_answers : (is : List Insn) (places : ℕ) (s : State) → answer_of (flow 0 (at_start places) is) p n 0 s ≡ answer_of is p n 0 s
+  threaded_answers is places s = answers_same is 0 (at_start places) 0 s (start_holds p places s)
 
 length_flow : (at : ℕ) (seen : List Known) (is : List Insn) → length (flow at seen is) ≡ length is
 length_flow at seen [] = refl
@@ -278,13 +278,13 @@ code_at at seen (i ∷ is) (suc m) e =
     let k = known_at seen at in
     code_at (suc at) (with_arrivals (suc at) (operation_of i.code) k (threaded_insn (operation_of i.code) k i is) seen) is m e
 
-pub threads : (new old : List Insn) (seen : List Known) → seen ≡ at_start (length old) → new ≡ flow 0 seen old → Threads new old
-threads new old seen f e = subst (λ c. Threads c old) (sym (e ∙ ap (λ gs. flow 0 gs old) f)) (record {
-  same_length = length_flow 0 (at_start (length old)) old;
-  branches = tests_flow 0 (at_start (length old)) old;
-  sound = λ v. record { faultless = faultless_flow 0 (at_start (length old)) old v.faultless; ends = ends_flow 0 (at_start (length old)) old ∙ v.ends };
-  runs = λ p n. threaded_answers p n old start;
-  no_jump = λ h. λ m e l f. (let long = length_flow 0 (at_start (length old)) old in h m e (omega arith) (sym (code_at 0 (at_start (length old)) old m e) ∙ f));
+pub threads : (new old : List Insn) (seen : List Known) (places : ℕ) → seen ≡ at_start places → new ≡ flow 0 seen old → Threads new old
+threads new old seen places f e = subst (λ c. Threads c old) (sym (e ∙ ap (λ gs. flow 0 gs old) f)) (record {
+  same_length = length_flow 0 (at_start places) old;
+  branches = tests_flow 0 (at_start places) old;
+  sound = λ v. record { faultless = faultless_flow 0 (at_start places) old v.faultless; ends = ends_flow 0 (at_start places) old ∙ v.ends };
+  runs = λ p n. threaded_answers p n old places start;
+  no_jump = λ h. λ m e l f. (let long = length_flow 0 (at_start places) old in h m e (omega arith) (sym (code_at 0 (at_start places) old m e) ∙ f));
 })
 
 -- code stays as it is

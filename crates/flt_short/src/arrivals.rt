@@ -9,6 +9,10 @@ ghost use Rattle.flt_short.specs.inside.Arrivals.{known_at, arrived, at_start};
 use crate::facts::{Known, join, nothing_known, unreached};
 use std::alloc::{AllocError, Allocator};
 
+/// How many instructions code has at most for which what is known lies on the stack, so that threading
+/// it takes no memory: some 170 bytes for each.
+pub const FEW: usize = 16;
+
 /// What is known at a place; past the code's end, nothing.
 pub fn known_at(seen: &[Known], place: usize) -> Known
     ensures { result ≡ known_at seen.now place }
@@ -36,4 +40,13 @@ pub fn at_start<A: Allocator>(alloc: A, len: usize) -> Result<Vec<Known, A>, All
     let mut seen = vec![in alloc; unreached(); len]?;
     arrive(&mut seen, 0, &nothing_known());
     Ok(seen)
+}
+
+/// As `at_start`, for code of few instructions: an array.
+pub fn few_at_start() -> [Known; FEW]
+    ensures { result ≡ at_start 16 }
+{
+    let mut seen = [unreached(); FEW];
+    arrive(&mut seen, 0, &nothing_known());
+    seen
 }

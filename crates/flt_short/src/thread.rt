@@ -11,12 +11,13 @@ ghost use Rattle.flt_short.specs.inside.Threads.{field_at, other_field, past_tes
 ghost use Rattle.flt_short.specs.inside.Threads.{holds_load, holds_header, past_insn, is_free};
 ghost use Rattle.flt_short.specs.inside.Threads.{ignores_accumulator, ignores_accumulator_at};
 ghost use Rattle.flt_short.specs.inside.Facts.{known_by};
+ghost use Rattle.flt_short.specs.inside.Arrivals.{at_start};
 ghost use Rattle.flt_short.specs.inside.Threads.{can_stop, walk, walk_from, number_at};
 ghost use Rattle.flt_short.specs.inside.Threads.{target, threaded_offset};
 ghost use Rattle.flt_short.specs.inside.Threads.{threaded_test, threaded_insn};
 ghost use Rattle.flt_short.specs.inside.Threads.{with_ways, with_arrivals, flow};
 
-use crate::arrivals::{arrive, at_start, known_at};
+use crate::arrivals::{FEW, arrive, at_start, few_at_start, known_at};
 use crate::facts::{
     Field, Held, Known, decided, is_captured, learn, learn_number, masked_field, pass_insn,
     same_field,
@@ -420,6 +421,13 @@ fn threaded_insns<A: Allocator>(seen: &mut [Known], mut insns: Vec<Wide, A>) -> 
     insns
 }
 
+/// As `threaded_insns`, for code of few instructions.
+fn threaded_few<A: Allocator>(insns: Vec<Wide, A>) -> Vec<Wide, A>
+    ensures { result.items ≡ flow 0 (at_start 16) insns.items }
+{
+    threaded_insns(&mut few_at_start(), insns)
+}
+
 /// Whether an instruction is a load from the packet, into A or of a header's length into X.
 fn is_load(insn: Wide) -> bool {
     matches!(
@@ -458,6 +466,9 @@ pub fn threaded<A: Allocator>(alloc: A, insns: Vec<Wide, A>) -> Result<Vec<Wide,
 {
     if insns.len() <= SHORT_CODE && !repeats_a_load(&insns) {
         return Ok(insns);
+    }
+    if insns.len() <= FEW {
+        return Ok(threaded_few(insns));
     }
     let mut seen = at_start(alloc, insns.len())?;
     Ok(threaded_insns(&mut seen, insns))

@@ -17,7 +17,7 @@ use Rattle.flt_short.specs.declared.facts.Known.{Known}
 use Rattle.flt_short.specs.declared.thread.Spot.{Spot}
 use Rattle.flt_short.specs.declared.thread.Reached.{Reached}
 use Rattle.flt_short.specs.inside.Facts.{same_field, decided, is_captured, masked_field, known_after, known_by, known_by_test}
-use Rattle.flt_short.specs.inside.Arrivals.{at_start, known_at, arrived}
+use Rattle.flt_short.specs.inside.Arrivals.{known_at, arrived}
 
 -- the field that A would hold where a walk is, if it would hold one: the other one of the spot, if
 -- there is one, or else what A holds where the walk began
@@ -248,7 +248,3 @@ flow at seen (i ∷ is) =
     let k = known_at seen at in
     let j = threaded_insn (operation_of i.code) k i is in
     j ∷ flow (suc at) (with_arrivals (suc at) (operation_of i.code) k j seen) is
-
--- a whole program with the targets of its tests as far as what is known decides
-abbrev pub threaded : List Insn → List Insn
-threaded is = flow 0 (at_start (length is)) is
