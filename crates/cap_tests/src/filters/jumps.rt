@@ -90,7 +90,7 @@ fn bound(for_a_test: usize, tests: usize, nodes: usize) -> usize {
         .saturating_add(2)
 }
 
-/// The jumps of a program are needed. With `times` tests of the length after `ip` it is no longer
+/// The jumps of a program are needed. With `times` comparisons after `ip` it is no longer
 /// than its bound: 2, and 6 for each test and node; where 2, 4 for each test and 6 for each node are
 /// at most 256, no longer than that, and without `ja`.
 fn meets_bounds(insns: &[Insn], times: usize) -> bool {
@@ -101,9 +101,10 @@ fn meets_bounds(insns: &[Insn], times: usize) -> bool {
         && (short > 256 || count_jumps(insns) == 0 && insns.len() <= short)
 }
 
-/// `ip or len = 1` and so on, each length greater by `step`, with 0 to 200 of them. Returns how many
-/// jumps the longest program has.
-fn longest_has(alloc: Global, step: usize) -> Result<usize, Fail> {
+/// `ip or len = 1` and so on, or with another number of the packet in place of the length, each time
+/// compared with a value that is greater by `step`, 0 to 200 times. Returns how many jumps the
+/// longest program has.
+fn longest_has(alloc: Global, number: &str, step: usize) -> Result<usize, Fail> {
     let mut text = String::from_str(alloc, "ip")?;
     let mut jumps = 0;
     for times in 0..201usize {
@@ -112,21 +113,22 @@ fn longest_has(alloc: Global, step: usize) -> Result<usize, Fail> {
             return Err(Fail::new(format_args!("{times} times")));
         }
         jumps = count_jumps(&insns);
-        let length = step.saturating_mul(times).saturating_add(1);
-        text.push_str(&format!(in alloc; " or len = {length}")?)?;
+        let value = step.saturating_mul(times).saturating_add(1);
+        text.push_str(&format!(in alloc; " or {number} = {value}")?)?;
     }
     Ok(jumps)
 }
 
-/// The same length is asked for once, whatever the text.
+/// Whether two bytes have one value is asked once, whatever the text.
 #[test]
-fn one_length_again_and_again(rt: HostRuntime) -> Result<(), Fail> {
-    assert!(rt; longest_has(rt.alloc(), 0)? == 0);
+fn one_value_again_and_again(rt: HostRuntime) -> Result<(), Fail> {
+    assert!(rt; longest_has(rt.alloc(), "ether[0:2]", 0)? == 0);
     Ok(())
 }
 
+/// What is known of the length isn't kept: it is asked for each time.
 #[test]
 fn longer_and_longer(rt: HostRuntime) -> Result<(), Fail> {
-    assert!(rt; longest_has(rt.alloc(), 2)? > 0);
+    assert!(rt; longest_has(rt.alloc(), "len", 2)? > 0);
     Ok(())
 }
