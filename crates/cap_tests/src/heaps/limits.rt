@@ -35,7 +35,7 @@ fn small_heaps_are_enough(rt: HostRuntime) -> Result<(), Fail> {
     for (size, work, packets, inputs, written) in [
         // 1,152: names 96, an input 32, states 768, a block of 256.
         (1_536usize, Work::Infos, 10_000u32, 1usize, 211usize),
-        // 2,064: 1,152, and the tokens, the tree and the code of the expression.
+        // 2,832: 1,152, and the tokens, the tree and the code of the expression, also shortened.
         (3_072, Work::Print("tcp"), 10_000, 1, 10_000 * 77),
         // 33,220: 1,152, and 999 marks of 20 bytes with links of 8 each, and 1,024 heads of 4.
         (36_864, Work::Edit(1_000), 100_000, 1, 24 + 50_000 * 76),
