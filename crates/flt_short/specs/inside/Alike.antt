@@ -152,8 +152,8 @@ goes_on_or_rejects op = true
 abbrev pub code_from : List Insn → ℕ → List Insn
 code_from c place = if nat_le place (length c) then drop (length c - place) c else []
 
--- two tests lead to the same place, which is counted from the end: they skip so many instructions of
--- so many
+-- two tests lead to the same place, which is counted from the end: what each skips, of the
+-- instructions that follow it
 abbrev pub same_target : ℕ → ℕ → ℕ → ℕ → Bool
 same_target far len other_far other_len = len - far == other_len - other_far
 
@@ -190,8 +190,8 @@ lands_at_if c (Some l) place a x =
 abbrev pub lands_at : List Insn → List Landing → ℕ → ℕ → Bool → Bool → Bool
 lands_at c ls k place a x = lands_at_if c (slice_get ls k) place a x
 
--- nothing stands for i, of which this is the operation: all its ways land where it lands, at j; and
--- it does nothing that is seen from there on, or the packet is rejected there
+-- i, of which this is the operation, has no instruction in the new code: all its ways land where it
+-- lands, at j; and it does nothing that is seen from there on, or the packet is rejected there
 unfoldable pub left_out : List Insn → Option Operation → Insn → Landing → Insn → List Landing → Bool
 left_out c None j l i ls = false
 left_out c (Some (JumpIf test operand)) j l i ls =
