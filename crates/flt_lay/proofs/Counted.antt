@@ -12,7 +12,7 @@ use Rattle.flt_bpf.specs.Layout.{is_branch, JUMP, MOST_OFFSET, HasNoJump, IsShor
 use Rattle.flt_bpf.proofs.Codes.{back_of_code}
 use Rattle.flt_lay.specs.declared.layout.Reach.{Reach}
 use Rattle.flt_lay.specs.declared.layout.Reach.TheVariants.{Near, YesFar, NoFar, BothFar}
-use Rattle.flt_lay.specs.inside.Layout.{PlacedCode, place_at, with_offsets, with_test, with_test_by, with_insn, placed_code, laid_out}
+use Rattle.flt_lay.specs.inside.Layout.{PlacedCode, place_at, near_place, with_offsets, with_test, with_test_by, with_insn, placed_code, laid_out}
 
 -- code with at least one and at most a given number of instructions more
 record Grows (c d : List Insn) (most : ℕ) : Type 0 where
@@ -73,7 +73,7 @@ plain_put i c other none = record { none = All-cons (λ j. j.code ≢ JUMP) i c 
 
 emitted_plain : (op : Option Operation) (i : Insn) (l : PlacedCode) → operation_of i.code ≡ op → i.code ≢ JUMP → HasNoJump l.code → length l.code ≤ 255 → IsPlain l.code (with_insn op i l)
 emitted_plain (Some (JumpIf t o)) i l e other none short =
-    subst (IsPlain l.code) (sym (near_test i (place_at l i.jt) (place_at l i.jf) l.code short)) (plain_put _ l.code other none)
+    subst (IsPlain l.code) (sym (near_test i (near_place l (place_at l i.jt)) (near_place l (place_at l i.jf)) l.code short)) (plain_put _ l.code other none)
 emitted_plain (Some Jump) i l e other none short = absurd (other (sym (back_of_code i.code Jump e)))
 emitted_plain _ i l e other none short = plain_put _ l.code other none
 

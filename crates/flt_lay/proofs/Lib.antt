@@ -1,5 +1,6 @@
 -- The lemmas that several proofs share.
 pub mod Places
+pub mod Leads
 pub mod Same
 pub mod Needed
 pub mod Counted

@@ -15,8 +15,9 @@ use Rattle.flt_bpf.specs.Machine.{Goes, Lost, step, does_if_known, into, word_in
 use Rattle.flt_bpf.specs.Answer.{answer_of, answer_after}
 use Rattle.flt_lay.specs.declared.layout.Reach.{Reach}
 use Rattle.flt_lay.specs.declared.layout.Reach.TheVariants.{Near, YesFar, NoFar, BothFar}
-use Rattle.flt_lay.specs.inside.Layout.{PlacedCode, place_at, with_offsets, with_jump, with_test, with_test_by, with_insn, placed_code, laid_out}
+use Rattle.flt_lay.specs.inside.Layout.{PlacedCode, place_at, near_place, with_offsets, with_jump, with_test, with_test_by, with_insn, placed_code, laid_out}
 use Rattle.flt_lay.proofs.Places.{IsEndOf, rest_end, target_is, target_inside}
+use Rattle.flt_lay.proofs.Leads.{GoesTo, jumps, passed, later, near_goes, all_lead}
 
 front_passed : (front c : List Insn) (p : List ℕ) (n : ℕ) (s : State) → answer_of (front ++ c) p n (length front) s ≡ answer_of c p n 0 s
 front_passed [] c p n s = refl
@@ -27,16 +28,6 @@ end_answer : {c d : List Insn} (h : IsEndOf c d) (p : List ℕ) (n : ℕ) (s : S
 end_answer {c} {d} h p n s =
     let m : length d - length c ≡ length h.front = omega (arith, ap length h.parts, length-append h.front c) in
     ap (λ k. answer_of d p n k s) m ∙ ap (λ e. answer_of e p n (length h.front) s) h.parts ∙ front_passed h.front c p n s
-
-jumps : (to : ℕ) (c : List Insn) (p : List ℕ) (n : ℕ) (s : State) → answer_of (with_jump to c) p n 0 s ≡ answer_of c p n (length c - to) s
-unfolding step operation_of
-jumps to c p n s = refl
-
--- past one more instruction
-passed : (i : Insn) (c : List Insn) (to : ℕ) (p : List ℕ) (n : ℕ) (s : State) → to ≤ length c → answer_of (i ∷ c) p n (length c + 1 - to) s ≡ answer_of c p n (length c - to) s
-passed i c to p n s l =
-    let m : length c + 1 - to ≡ suc (length c - to) = omega arith in
-    ap (λ k. answer_of (i ∷ c) p n k s) m
 
 -- where a test goes on
 abbrev goes : Bool → ℕ → ℕ → ℕ
@@ -51,9 +42,7 @@ no_far true hit miss c p n s l = passed _ c hit p n s l
 no_far false hit miss c p n s l = jumps miss c p n s
 
 both_far : (b : Bool) (hit miss : ℕ) (c : List Insn) (p : List ℕ) (n : ℕ) (s : State) → hit ≤ length c → answer_of (with_jump hit (with_jump miss c)) p n (goes b 0 1) s ≡ answer_of c p n (goes b (length c - hit) (length c - miss)) s
-both_far true hit miss c p n s l =
-    let m : length (with_jump miss c) - hit ≡ suc (length c - hit) = omega arith in
-    jumps hit (with_jump miss c) p n s ∙ ap (λ k. answer_of (with_jump miss c) p n k s) m
+both_far true hit miss c p n s l = jumps hit (with_jump miss c) p n s ∙ later _ c hit p n s l
 both_far false hit miss c p n s l = jumps miss c p n s
 
 tests : (i : Insn) (t : Test) (o : Operand) (jt jf : ℕ) (c : List Insn) (p : List ℕ) (n : ℕ) (s : State) → operation_of i.code ≡ Some (JumpIf t o) → answer_of (with_offsets i jt jf ∷ c) p n 0 s ≡ answer_of c p n (goes (test_holds t s.accumulator (operand_value o i.k s.index)) jt jf) s
@@ -72,10 +61,11 @@ record GoesOn (l : PlacedCode) (is : List Insn) (p : List ℕ) (n : ℕ) : Type 
   next : (s : State) → answer_of l.code p n 0 s ≡ answer_of is p n 0 s
   inside : (k : ℕ) → place_at l k ≤ length l.code
   arrives : (k : ℕ) (s : State) → answer_of l.code p n (length l.code - place_at l k) s ≡ answer_of is p n k s
+  near : (k : ℕ) → GoesTo l.code (near_place l (place_at l k)) (place_at l k)
 
-by_way : (b : Bool) (l : PlacedCode) (is : List Insn) (p : List ℕ) (n yes_k no_k : ℕ) (s : State) → GoesOn l is p n → answer_of l.code p n (goes b (length l.code - place_at l yes_k) (length l.code - place_at l no_k)) s ≡ answer_of is p n (goes b yes_k no_k) s
-by_way true l is p n yes_k no_k s h = h.arrives yes_k s
-by_way false l is p n yes_k no_k s h = h.arrives no_k s
+by_way : (b : Bool) (l : PlacedCode) (is : List Insn) (p : List ℕ) (n yes_k no_k : ℕ) (s : State) → GoesOn l is p n → answer_of l.code p n (goes b (length l.code - near_place l (place_at l yes_k)) (length l.code - near_place l (place_at l no_k))) s ≡ answer_of is p n (goes b yes_k no_k) s
+by_way true l is p n yes_k no_k s h = (h.near yes_k).same p n s ∙ h.arrives yes_k s
+by_way false l is p n yes_k no_k s h = (h.near no_k).same p n s ∙ h.arrives no_k s
 
 after_into : (register : Register) (o : Option ℕ) (s : State) (l : PlacedCode) (is : List Insn) (p : List ℕ) (n : ℕ) → GoesOn l is p n → answer_after (answer_of l.code p n) (into register o s) ≡ answer_after (answer_of is p n) (into register o s)
 after_into register None s l is p n h = refl
@@ -108,7 +98,7 @@ emitted_same (Some (Compute operator operand)) i l is p n s e h = plain _ i l.co
 emitted_same (Some Negate) i l is p n s e h = plain _ i l.code p n s e ∙ h.next _
 emitted_same (Some Jump) i l is p n s e h = jumps _ l.code p n s ∙ h.arrives i.k s
 emitted_same (Some (JumpIf t o)) i l is p n s e h =
-    test_goes _ i t o _ _ l.code p n s e (h.inside i.jt) (h.inside i.jf) ∙ by_way _ l is p n i.jt i.jf s h
+    test_goes _ i t o _ _ l.code p n s e (h.near i.jt).within (h.near i.jf).within ∙ by_way _ l is p n i.jt i.jf s h
 emitted_same (Some ReturnConstant) i l is p n s e h = plain _ i l.code p n s e
 emitted_same (Some ReturnAccumulator) i l is p n s e h = plain _ i l.code p n s e
 emitted_same (Some CopyToIndex) i l is p n s e h = plain _ i l.code p n s e ∙ h.next _
@@ -125,6 +115,7 @@ same_from (i ∷ is) p n zero s =
       next = λ s'. same_from is p n 0 s';
       inside = target_inside is;
       arrives = λ k s'. ap (λ to. answer_of (laid_out is) p n (length (laid_out is) - to) s') (target_is is k) ∙ end_answer (rest_end is k) p n s' ∙ same_from is p n k s';
+      near = λ k. near_goes (placed_code is) _ (target_inside is k) (all_lead is);
     })
 
 pub same_answers : (wide : List Insn) (p : List ℕ) (n : ℕ) (s : State) → answer_of (laid_out wide) p n 0 s ≡ answer_of wide p n 0 s

@@ -14,8 +14,9 @@ use Rattle.flt_bpf.specs.Instructions.{operation_of}
 use Rattle.flt_bpf.specs.Check.{unless, fault_of, fault_if_known, is_return, ends_in_return, IsFaultless, IsValidUnlessLong}
 use Rattle.flt_lay.specs.declared.layout.Reach.{Reach}
 use Rattle.flt_lay.specs.declared.layout.Reach.TheVariants.{Near, YesFar, NoFar, BothFar}
-use Rattle.flt_lay.specs.inside.Layout.{PlacedCode, place_at, with_offsets, with_jump, test_reach, with_test, with_test_by, with_insn, placed_code, laid_out}
+use Rattle.flt_lay.specs.inside.Layout.{PlacedCode, place_at, near_place, with_offsets, with_jump, test_reach, with_test, with_test_by, with_insn, placed_code, laid_out}
 use Rattle.flt_lay.proofs.Places.{emitted_end, target_is, target_inside}
+use Rattle.flt_lay.proofs.Leads.{GoesTo, near_goes, all_lead}
 use Rattle.flt_lay.proofs.Counted.{at_least}
 
 -- places inside the code
@@ -55,6 +56,10 @@ plain_sound op i c e none sound = (ap (λ o. fault_if_known o (with_offsets i 0 
 -- the targets of an instruction with that many after it
 record HasTargets (l : PlacedCode) (following : ℕ) : Type 0 where
   inside : (k : ℕ) → k < following → IsInside (place_at l k) l.code
+  near : (k : ℕ) → GoesTo l.code (near_place l (place_at l k)) (place_at l k)
+
+near_inside : (l : PlacedCode) (following k : ℕ) → HasTargets l following → k < following → IsInside (near_place l (place_at l k)) l.code
+near_inside l following k h inside = record { some = (h.near k).some (h.inside k inside).some; within = (h.near k).within }
 
 within_if : (k following : ℕ) → unless (nat_lt k following) JumpOut ≡ None → k < following
 within_if k following e = below (nat_lt k following) refl e
@@ -83,7 +88,7 @@ emitted_sound (Some (JumpIf t o)) i l following e none h sound = tests (nat_lt i
     tests true true ea eb none' =
         let yes_in : i.jt < following = grind (arith, nat_tests) in
         let no_in : i.jf < following = grind (arith, nat_tests) in
-        reached_sound _ i t o _ _ l.code e (h.inside i.jt yes_in) (h.inside i.jf no_in) sound
+        reached_sound _ i t o _ _ l.code e (near_inside l following i.jt h yes_in) (near_inside l following i.jf h no_in) sound
     tests true false ea eb none' = cc
     tests false b ea eb none' = cc
 emitted_sound (Some ReturnConstant) i l following e none h sound = plain_sound _ i l.code e refl sound
@@ -92,7 +97,10 @@ emitted_sound (Some CopyToIndex) i l following e none h sound = plain_sound _ i 
 emitted_sound (Some CopyToAccumulator) i l following e none h sound = plain_sound _ i l.code e refl sound
 
 targets_of : (wide : List Insn) → HasTargets (placed_code wide) (length wide)
-targets_of wide = record { inside = λ k l. record { some = omega (arith, target_is wide k, at_least (drop k wide), length-drop k wide); within = target_inside wide k } }
+targets_of wide = record {
+  inside = λ k l. record { some = omega (arith, target_is wide k, at_least (drop k wide), length-drop k wide); within = target_inside wide k };
+  near = λ k. near_goes (placed_code wide) _ (target_inside wide k) (all_lead wide);
+}
 
 faultless_laid : (wide : List Insn) → IsFaultless wide → IsFaultless (laid_out wide)
 unfolding fault_of
@@ -116,7 +124,10 @@ test_no_end BothFar i t o hit miss e = refl
 
 last_end : (op : Option Operation) (i : Insn) → operation_of i.code ≡ op → ends_in_return (with_insn op i (placed_code [])) ≡ is_return (operation_of i.code)
 unfolding with_test operation_of
-last_end (Some (JumpIf t o)) i e = test_no_end (test_reach (place_at (placed_code []) i.jt) (place_at (placed_code []) i.jf) []) i t o (place_at (placed_code []) i.jt) (place_at (placed_code []) i.jf) e ∙ sym (ap is_return e)
+last_end (Some (JumpIf t o)) i e =
+    let hit = near_place (placed_code []) (place_at (placed_code []) i.jt) in
+    let miss = near_place (placed_code []) (place_at (placed_code []) i.jf) in
+    test_no_end (test_reach hit miss []) i t o hit miss e ∙ sym (ap is_return e)
 last_end (Some Jump) i e = sym (ap is_return e)
 last_end _ i e = refl
 

@@ -11,7 +11,7 @@ ghost use Rattle.flt_bpf.specs.Layout.{is_branch, HasNoJump, JumpsAreNeeded, IsS
 ghost use Rattle.flt_bpf.specs.Machine.{start};
 ghost use Rattle.flt_bpf.specs.Valid.{MOST_INSTRUCTIONS, IsValid};
 ghost use Rattle.flt_lay.specs.inside.Layout.{place_at, with_offsets, with_jump, test_reach};
-ghost use Rattle.flt_lay.specs.inside.Layout.{with_test};
+ghost use Rattle.flt_lay.specs.inside.Layout.{with_test, latest, jumps_by, jump_near, near_place};
 ghost use Rattle.flt_lay.specs.inside.Layout.{with_entry, put, placed_code};
 
 use flt_bpf::insn::Insn;
@@ -45,6 +45,31 @@ struct Targets {
     no: usize,
 }
 
+/// A jump that is laid out: its place, and the place where it leads.
+#[derive(Clone, Copy)]
+struct PlacedJump {
+    place: usize,
+    to: usize,
+}
+
+/// The place of the first of these jumps that leads to `to` and is near a test in front of `top`
+/// instructions, though a jump comes between; `to` if there is none.
+fn jump_near(jumps: &[PlacedJump], to: usize, top: usize) -> usize
+    requires { top < 2 ^ 32 }
+    ensures { result ≡ jump_near jumps.now to top }
+{
+    match jumps {
+        [] => to,
+        [jump, others @ ..] => {
+            if jump.to == to && (top + 1).saturating_sub(jump.place) <= MOST_OFFSET {
+                jump.place
+            } else {
+                jump_near(others, to, top)
+            }
+        }
+    }
+}
+
 /// The code from some wide instruction to the end. A place is named by the number of instructions
 /// from there on, which doesn't change as more are put in front:
 ///
@@ -58,6 +83,9 @@ struct Layout<A: Allocator> {
     backwards: Vec<Insn, A>,
     /// The place of each wide instruction, from the last to the first.
     places: Vec<usize, A>,
+    /// The last four jumps, the one in front first. In place of one that isn't there yet stands one
+    /// from the end to the end.
+    jumps: [PlacedJump; 4],
 }
 
 impl<A: Allocator> Model for Layout<A> {
@@ -69,6 +97,7 @@ impl<A: Allocator> Model for Layout<A> {
     ghost view = { λ l. record {
       code = reverse l.backwards.items;
       places = reverse l.places.items;
+      jumps = l.jumps;
     } };
 }
 
@@ -92,6 +121,7 @@ impl<A: Allocator> Layout<A> {
         Layout {
             backwards: Vec::new(code_alloc),
             places: Vec::new(place_alloc),
+            jumps: [PlacedJump { place: 0, to: 0 }; 4],
         }
     }
 
@@ -140,10 +170,13 @@ impl<A: Allocator> Layout<A> {
         Ok(())
     }
 
-    /// Puts in front a jump (`ja`) to a place.
+    /// Puts in front a jump (`ja`) to a place, and notes it.
     fn emit_jump(&mut self, to: usize) -> Result<(), AllocError>
         requires { length self.old.code < 2 ^ 32 }
-        ensures { OnOk result (self.new ≡ record self.old { code = with_jump to self.old.code }) }
+        ensures { OnOk result (self.new ≡ record self.old {
+          code = with_jump to self.old.code;
+          jumps = latest to (with_jump to self.old.code) self.old.jumps;
+        }) }
     {
         let offset = self.distance(to) as u32;
         self.emit(Insn {
@@ -151,7 +184,26 @@ impl<A: Allocator> Layout<A> {
             jt: 0,
             jf: 0,
             k: offset,
-        })
+        })?;
+        let place = self.top();
+        let [first, second, third, _] = self.jumps;
+        self.jumps = [PlacedJump { place, to }, first, second, third];
+        Ok(())
+    }
+
+    /// The place where a test that is put in front goes on to get to a place: this one if it is
+    /// near, else one of the last jumps that is near and leads there. If there is none it is this
+    /// one too, for which the test needs a jump of its own.
+    #[tactic(auto, unfolding(crate::specs::inside::Layout::near_place))]
+    fn near_place(&self, to: usize) -> usize
+        requires { length self.now.code < 2 ^ 32 }
+        ensures { result ≡ near_place self.now to }
+    {
+        if self.distance(to) <= MOST_OFFSET {
+            to
+        } else {
+            jump_near(&self.jumps, to, self.top())
+        }
     }
 
     /// Which targets a test that is put in front needs a jump for: as few as possible. A jump for
@@ -177,8 +229,11 @@ impl<A: Allocator> Layout<A> {
     #[tactic(auto, unfolding(crate::specs::inside::Layout::with_test))]
     fn emit_test(&mut self, insn: Wide, to: Targets) -> Result<(), AllocError>
         requires { length self.old.code + 3 < 2 ^ 32 }
-        ensures { OnOk result
-            (self.new ≡ record self.old { code = with_test insn to.yes to.no self.old.code }) }
+        ensures { OnOk result (self.new ≡ record self.old {
+          code = with_test insn to.yes to.no self.old.code;
+          jumps = jumps_by (test_reach to.yes to.no self.old.code) to.yes to.no self.old.code
+              self.old.jumps;
+        }) }
     {
         let (jt, jf) = match self.test_reach(to) {
             Reach::Near => (self.distance(to.yes), self.distance(to.no)),
@@ -202,7 +257,7 @@ impl<A: Allocator> Layout<A> {
 
     /// Notes the place of the wide instruction that was laid out last: where the code begins now.
     fn push_place(&mut self) -> Result<(), AllocError>
-        ensures { OnOk result (self.new ≡ with_entry self.old.code self.old) }
+        ensures { OnOk result (self.new ≡ with_entry self.old.code self.old.jumps self.old) }
     {
         let top = self.top();
         self.places.push(top)?;
@@ -218,7 +273,11 @@ impl<A: Allocator> Layout<A> {
         match decode(insn.code) {
             Some(Operation::JumpIf(_, _)) => {
                 let (yes, no) = (self.target_place(insn.yes), self.target_place(insn.no));
-                self.emit_test(insn, Targets { yes, no })?;
+                let to = Targets {
+                    yes: self.near_place(yes),
+                    no: self.near_place(no),
+                };
+                self.emit_test(insn, to)?;
             }
             Some(Operation::Jump) => {
                 let to = self.target_place(insn.k);
@@ -236,6 +295,7 @@ impl<A: Allocator> Layout<A> {
         let Layout {
             mut backwards,
             places: _,
+            jumps: _,
         } = self;
         backwards.reverse();
         backwards

@@ -1,5 +1,7 @@
 //! Targets at the borders of what a conditional jump reaches, by runs of what is laid out.
 
+ghost use Rattle.std.specs.Prelude.{◌<◌};
+
 use crate::laid_out;
 use flt_bpf::program::run_any;
 use flt_bpf::{Insn, Wide};
@@ -12,6 +14,9 @@ const LOAD_LENGTH: u16 = 128;
 const IF_EQUAL: u16 = 21;
 
 const RETURN: u16 = 6;
+
+/// How many tests lead to far returns by turns.
+const TESTS: u32 = 200;
 
 /// How many returns follow the tests.
 const RETURNS: usize = 300;
@@ -96,5 +101,33 @@ fn two_tests(rt: HostRuntime) -> Result<(), Fail> {
     assert!(rt; run_any(&code, &[], 1) == Some((254, 4)));
     assert!(rt; run_any(&code, &[], 2) == Some((256, 5)));
     assert!(rt; run_any(&code, &[], 3) == Some((270, 5)));
+    Ok(())
+}
+
+/// Tests for the lengths 1, 2 and so on that lead, if they hold, to the last returns by turns.
+fn tests_by_turns(alloc: Global, returns: u32) -> Result<Vec<Wide>, Fail>
+    requires { 0 < returns }
+{
+    let last = RETURNS as u32 - 1;
+    let mut tests = Vec::new(alloc);
+    for length in 1..TESTS + 1 {
+        let answer = last.saturating_sub(length % returns);
+        tests.push(has_length(length, TESTS - length + answer, 0))?;
+    }
+    Ok(tests)
+}
+
+/// A jump serves all tests that are near it, as long as it is one of the last four.
+#[test]
+fn shared_jumps(rt: HostRuntime) -> Result<(), Fail> {
+    for (returns, jumps) in [(1, 1), (4, 4), (5, 200)] {
+        let code = with_returns(rt.alloc(), &tests_by_turns(rt.alloc(), returns)?)?;
+        assert!(rt; code.len() == RETURNS.saturating_add(201).saturating_add(jumps));
+        for length in 1..TESTS + 1 {
+            let answer = 299u32.saturating_sub(length % returns);
+            assert!(rt; run_any(&code, &[], length) == Some((answer, length as usize + 3)));
+        }
+        assert!(rt; run_any(&code, &[], TESTS + 1) == Some((0, 202)));
+    }
     Ok(())
 }
